@@ -1,17 +1,33 @@
 # Completion of mapchain for bash; made by scripts/manual.py. A shell reads it from share/bash-completion/completions, or by `source`.
 
-# Layers of the files here that begin with a word: each under its name without the ending.
+# Layers of the files here that begin with a word, or of those in a folder that it names: each under its name without the ending. And folders.
 _mapchain_layers() {
-    local file layer
-    for file in *.json *.geojson; do
-        printf -v layer %q "${file%.*}=$file"
-        if [ -f "$file" ] && [[ $layer == "$1"* ]]; then COMPREPLY+=("$layer"); fi
+    local folder= file layer
+    if [[ $1 == */* ]]; then folder=${1%/*}/; fi
+    for file in "$folder"*.json "$folder"*.geojson; do
+        layer=${file#"$folder"}
+        printf -v layer %q "${layer%.*}=$file"
+        if [ -f "$file" ] && [[ $layer == "$1"* || $folder && $file == "$1"* ]]; then COMPREPLY+=("$layer"); fi
     done
+    for file in "$1"*/; do
+        if [ -d "$file" ]; then COMPREPLY+=("$(printf %q "$file")"); fi
+    done
+    if [ ${#COMPREPLY[@]} = 1 ] && [[ ${COMPREPLY[0]} == */ ]]; then compopt -o nospace; fi
 }
 
 _mapchain_files() {
     compopt -o filenames
     mapfile -t COMPREPLY < <(compgen -f -- "$1")
+}
+
+# The files and folders for what stands after = in a word that is not parted there.
+_mapchain_layer_files() {
+    local name=${1%%=*} file
+    while IFS= read -r file; do
+        if [ -d "$file" ]; then file=$file/; fi
+        COMPREPLY+=("$name=$file")
+    done < <(compgen -f -- "${1#*=}")
+    if [ ${#COMPREPLY[@]} = 1 ] && [[ ${COMPREPLY[0]} == */ ]]; then compopt -o nospace; fi
 }
 
 _mapchain_words() {
@@ -43,10 +59,12 @@ _mapchain() {
         '') _mapchain_words "$word" 'build simplify geo stat help --help --version' ;;
         build)
             case $word in
-                -*) _mapchain_words "$word" '--grid --min-area --keep --min-ring-area --exact -o --output --report --explain --help' ;;
+                -*) _mapchain_words "$word" '--grid --min-area --keep --min-ring-area --exact -o --output --report --explain -q --quiet --help' ;;
                 *)
                     if [ "$before" = = ]; then
                         _mapchain_files "$word"
+                    elif [[ $word == *=* ]]; then
+                        _mapchain_layer_files "$word"
                     else
                         _mapchain_layers "$word"
                     fi
@@ -55,7 +73,7 @@ _mapchain() {
             ;;
         simplify)
             case $word in
-                -*) _mapchain_words "$word" '--min-area --min-ring-area -o --output --report --explain --help' ;;
+                -*) _mapchain_words "$word" '--min-area --min-ring-area --no-crossings -o --output --report --explain -q --quiet --help' ;;
                 *) _mapchain_files "$word" ;;
             esac
             ;;
@@ -71,6 +89,7 @@ _mapchain() {
                 *) _mapchain_files "$word" ;;
             esac
             ;;
+        help) _mapchain_words "$word" 'build simplify geo stat' ;;
     esac
 }
 complete -F _mapchain mapchain

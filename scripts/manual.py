@@ -182,18 +182,34 @@ def manual(program, version):
 
 BASH = r"""# Completion of mapchain for bash; made by scripts/manual.py. A shell reads it from share/bash-completion/completions, or by `source`.
 
-# Layers of the files here that begin with a word: each under its name without the ending.
+# Layers of the files here that begin with a word, or of those in a folder that it names: each under its name without the ending. And folders.
 _mapchain_layers() {
-    local file layer
-    for file in *.json *.geojson; do
-        printf -v layer %q "${file%.*}=$file"
-        if [ -f "$file" ] && [[ $layer == "$1"* ]]; then COMPREPLY+=("$layer"); fi
+    local folder= file layer
+    if [[ $1 == */* ]]; then folder=${1%/*}/; fi
+    for file in "$folder"*.json "$folder"*.geojson; do
+        layer=${file#"$folder"}
+        printf -v layer %q "${layer%.*}=$file"
+        if [ -f "$file" ] && [[ $layer == "$1"* || $folder && $file == "$1"* ]]; then COMPREPLY+=("$layer"); fi
     done
+    for file in "$1"*/; do
+        if [ -d "$file" ]; then COMPREPLY+=("$(printf %q "$file")"); fi
+    done
+    if [ ${#COMPREPLY[@]} = 1 ] && [[ ${COMPREPLY[0]} == */ ]]; then compopt -o nospace; fi
 }
 
 _mapchain_files() {
     compopt -o filenames
     mapfile -t COMPREPLY < <(compgen -f -- "$1")
+}
+
+# The files and folders for what stands after = in a word that is not parted there.
+_mapchain_layer_files() {
+    local name=${1%%=*} file
+    while IFS= read -r file; do
+        if [ -d "$file" ]; then file=$file/; fi
+        COMPREPLY+=("$name=$file")
+    done < <(compgen -f -- "${1#*=}")
+    if [ ${#COMPREPLY[@]} = 1 ] && [[ ${COMPREPLY[0]} == */ ]]; then compopt -o nospace; fi
 }
 
 _mapchain_words() {
@@ -224,6 +240,7 @@ _mapchain() {
     case $command in
         '') _mapchain_words "$word" '@COMMANDS@' ;;
 @CASES@
+        help) _mapchain_words "$word" '@NAMES@' ;;
     esac
 }
 complete -F _mapchain mapchain
@@ -239,6 +256,8 @@ BASH_FILES = """                *) _mapchain_files "$word" ;;"""
 BASH_LAYERS = """                *)
                     if [ "$before" = = ]; then
                         _mapchain_files "$word"
+                    elif [[ $word == *=* ]]; then
+                        _mapchain_layer_files "$word"
                     else
                         _mapchain_layers "$word"
                     fi
@@ -261,9 +280,10 @@ def bash(program):
             "            esac",
             "            ;;",
         ]
-    names = " ".join([*program.commands, "help", "--help", "--version"])
+    commands = " ".join(program.commands)
+    names = f"{commands} help --help --version"
     filled = BASH.replace("@VALUED@", " | ".join(valued)).replace("@FILES@", " | ".join(files))
-    return filled.replace("@COMMANDS@", names).replace("@CASES@", "\n".join(cases))
+    return filled.replace("@COMMANDS@", names).replace("@NAMES@", commands).replace("@CASES@", "\n".join(cases))
 
 
 ZSH = r"""#compdef mapchain
@@ -311,8 +331,10 @@ def zsh(program):
         words = ["'(- *)'{-h,--help}'[print help]'"]
         for letter, name, value, about in program.options(command):
             text, files = zsh_text(about), "_files" if value == "FILE" else " "
-            if letter:
+            if letter and value:
                 words.append(f"'(-{letter} --{name})'{{-{letter}+,--{name}=}}'[{text}]:{value}:{files}'")
+            elif letter:
+                words.append(f"'(-{letter} --{name})'{{-{letter},--{name}}}'[{text}]'")
             else:
                 words.append(f"'--{name}=[{text}]:{value}:{files}'" if value else f"'--{name}[{text}]'")
         takes_layers = any("=" in name for name in program.arguments(command))

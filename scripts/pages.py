@@ -25,6 +25,28 @@ PAGES = ROOT / "crates" / "worked_examples" / "data"
 COUNTS = ROOT / "scripts" / "commands.txt"
 
 
+LOSS = ": nothing of its geometry is left"
+# So many lines of lost features stand beside each other at most.
+MOST_LOSSES = 10
+
+
+def brief(lines):
+    """The lines of an explanation as standard error has them: of those beside each other that tell of lost features ten, and how many more."""
+    told, losses = [], 0
+    for line in [*lines, None]:
+        if line is not None and line.endswith(LOSS):
+            losses += 1
+            if losses > MOST_LOSSES:
+                continue
+        else:
+            if losses > MOST_LOSSES:
+                told.append(f"and {losses - MOST_LOSSES} more")
+            losses = 0
+        if line is not None:
+            told.append(line)
+    return told
+
+
 class Command:
     """A command of a page, and what is wanted of it."""
 

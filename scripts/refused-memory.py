@@ -86,9 +86,11 @@ void *realloc(void *old, size_t size) {
 #   opened;
 # - the names of layers are looked through one by one where the set of them can't be had, whose nodes have these bytes. It is
 #   asked for once all files are open.
+# - where no crossing may be made, the list of all places, here of eight, takes its room at once or, where that is refused, as they come.
 SHRINKING = "less"
 WORDS_LIST = ("new", 96, 0)
 NAME_SET = (248,)
+PLACES_LIST = ("new", 64, 1)
 
 # ---- the files
 
@@ -152,6 +154,10 @@ LAND_TOPOLOGY = topology(
     "[[[0,0],[10,0],[10,10],[0,10],[0,0]],[[20,0],[30,0]]]",
     "[0,0,30,10]",
 )
+ROOFS = ['{"type":"LineString","arcs":[0]}', '{"type":"LineString","arcs":[1]}', '{"type":"LineString","arcs":[2]}']
+ROOF_ARCS = "[[[0,0],[2,2],[4,0]],[[2,1],[2,-5]],[[10,0],[11,1],[12,0]]]"
+ROOF_TOPOLOGY = topology("roofs", ROOFS, ROOF_ARCS, "[0,-5,12,2]")
+HELD_TOPOLOGY = topology("roofs", ROOFS, ROOF_ARCS.replace("[11,1],", ""), "[0,-5,12,2]")
 FILES = {
     "line.json": LINE,
     "cut.json": LINE[:40],
@@ -164,6 +170,7 @@ FILES = {
     "land.json": LAND,
     "full.topojson": FULL_TOPOLOGY,
     "less.topojson": LAND_TOPOLOGY,
+    "roofs.topojson": ROOF_TOPOLOGY,
 }
 
 # ---- the runs
@@ -225,6 +232,7 @@ RUNS = (
     Run("build --explain a=cut.json", 1, "", "".join(["error: layer 0 J2 Malformed\n", *(f"  {it}\n" for it in CUT_SHORT)]), BUILD, 1),
     Run("simplify --min-area 1 full.topojson", 0, LAND_TOPOLOGY, report(2, 7, SMALL), FILE, 25),
     Run("simplify --min-ring-area 1 full.topojson", 0, LAND_TOPOLOGY, report(2, 7, SMALL), FILE, 25),
+    Run("simplify --no-crossings --min-area=5 roofs.topojson", 0, HELD_TOPOLOGY, report(3, 7, removed=1), FILE, 30),
     Run("geo --object a line.topojson", 0, LINE_LAYER, "", FILE, 6),
     Run("stat less.topojson", 0, SUMMARY, "", FILE, 10),
     Run(f"build -o {OUTPUT} a=line.json", 0, LINE_TOPOLOGY, report(1, 2), BUILD, 20),
@@ -309,7 +317,8 @@ def is_dispensable(words, refused):
     kind, size, opened = refused
     files = sum("=" in it and not it.startswith("-") for it in words) + (OUTPUT in words)
     is_of_names = kind == "new" and size in NAME_SET and words[0] == "build" and opened == files
-    return kind == SHRINKING or refused == WORDS_LIST or is_of_names
+    is_of_places = refused == PLACES_LIST and "--no-crossings" in words
+    return kind == SHRINKING or refused == WORDS_LIST or is_of_names or is_of_places
 
 
 def fail(words, number, ended):

@@ -1,7 +1,7 @@
 // All arcs reduced at once without a crossing. That the answer is the definition's is proved: these show that memory isn't always refused, and
 // the answers of small maps that were worked out by hand.
 use geometry::Position;
-use guarded_reduction::reduce_without_crossings;
+use guarded_reduction::{reduce_without_crossings, weights_without_crossings};
 use owned_values::{Items, Memory};
 use std::alloc::Global;
 use std::test::Fail;
@@ -78,5 +78,38 @@ fn no_two_segments_come_to_lie_on_each_other(rt: HostRuntime) -> Result<(), Fail
     ];
     let post = [Position::at(4, 0), Position::at(4, -3)];
     assert!(rt; are(&kept(alloc, &hook, &post, 10)?, &[0, 1, 2, 3], &[0, 1]));
+    Ok(())
+}
+
+/// The weights of two arcs.
+fn weights(
+    alloc: Global,
+    first: &[Position],
+    second: &[Position],
+) -> Result<Vec<Option<u128>>, Memory> {
+    let arcs = [
+        Items::of(first.to_vec(alloc)?),
+        Items::of(second.to_vec(alloc)?),
+    ];
+    weights_without_crossings(alloc, &arcs)
+}
+
+// What goes later weighs as much as what went before it, and what never goes has no weight.
+#[test]
+fn what_is_held_weighs_as_much_as_what_held_it(rt: HostRuntime) -> Result<(), Fail> {
+    let alloc = rt.alloc();
+    let bent = [
+        Position::at(0, 4),
+        Position::at(0, 3),
+        Position::at(4, 0),
+        Position::at(0, 1),
+    ];
+    let inner = [Position::at(2, 3), Position::at(2, 2)];
+    assert!(rt; weights(alloc, &bent, &inner)?.as_slice() == [Some(8), Some(8)].as_slice());
+    let upper = [Position::at(0, 0), Position::at(2, 2), Position::at(4, 0)];
+    let lower = [Position::at(0, -4), Position::at(2, 1), Position::at(4, -4)];
+    assert!(rt; weights(alloc, &upper, &lower)?.as_slice() == [Some(20), Some(20)].as_slice());
+    let post = [Position::at(2, 1), Position::at(2, -5)];
+    assert!(rt; weights(alloc, &upper, &post)?.as_slice() == [None].as_slice());
     Ok(())
 }

@@ -14,12 +14,12 @@ use Rattle.clap.specs.declared.error.kind.ErrorKind.{ErrorKind}
 use Rattle.clap.specs.declared.error.kind.ErrorKind.TheVariants.{OutOfMemory}
 use Rattle.std.specs.List.{list_all}
 use Rattle.std.specs.Prelude.{◌&&◌, codes, is_some}
-use Rattle.command_words.specs.Faults.{IsBuildFault, IsFaultBy, IsFirstWithout, IsLayersFault, is_help, is_memory, is_refused}
+use Rattle.command_words.specs.Faults.{IsBuildFault, IsFaultBy, IsLayersFault, is_help, is_memory, is_refused}
 use Rattle.command_words.specs.declared.words_fault.WordsFault.{WordsFault}
 use Rattle.command_words.specs.declared.words_fault.WordsFault.TheVariants.{GridRange, Help, Memory, NoEquals, Refused}
 use Rattle.clap.proofs.WalkLemmas.{first_value-rows, raw_values-rows}
 use Rattle.clap.proofs.ValueTestLemmas.{accepts-Accepts, Accepts-accepts}
-use Rattle.command_words.specs.Asked.{area_in, build, build_in, build_on, cells_of, exact_in, grid_at, grid_in, has_both, keep_in, layer_words, layers_in, ring_area_in, where_none}
+use Rattle.command_words.specs.Asked.{area_in, build, build_in, build_on, cells_of, exact_in, explains_in, grid_at, grid_in, has_both, keep_in, layer_words, layers_in, ring_area_in, where_none}
 
 now_or : (r : Option (Bor Text)) (x e : Bor Text) → x ≡ unwrap_or r e → x.now ≡ unwrap_or (option_map (λ s. s.now) r) e.now
 now_or None x e is = ap (λ (y : Bor Text). y.now) is
@@ -193,9 +193,10 @@ refusal_for kinds found f (inr r) h = subst (IsFaultBy kinds found) (sym r.1) h
 
 -- the words for layers have this fault where nothing comes before it
 pub layers_fault : (rows : List Row) (grid : Option ℕ) (words : List Text) (f : WordsFault) → has_both rows ≡ false → grid_in rows ≡ Some grid → words ≡ layer_words rows
-    → IsLayersFault words f → IsBuildFault rows f
+    → IsLayersFault (explains_in rows) words f → IsBuildFault rows f
 layers_fault rows grid words (Help e) one g same h = absurd h
 layers_fault rows grid words (Refused e) one g same h = absurd h
-layers_fault rows grid words (NoEquals layer) one g same h = (one, ap is_some g, subst (λ ws. IsFirstWithout ws layer) same h)
+layers_fault rows grid words (NoEquals layer advice) one g same h =
+    (one, ap is_some g, subst (λ ws. IsLayersFault (explains_in rows) ws (NoEquals layer advice)) same h)
 layers_fault rows grid words GridRange one g same h = absurd h
 layers_fault rows grid words Memory one g same h = tt

@@ -19,7 +19,7 @@ use Rattle.command_words.specs.declared.request.Request.TheVariants.{Build, Simp
 -- its grid, if any, may have its number of cells
 abbrev IsInRange : Asked → Type 0
 IsInRange (build layers exact grid area keep ring_area) = IfSome grid IsCells
-IsInRange (simplify area ring_area path) = Unit {0}
+IsInRange (simplify area ring_area no_crossings path) = Unit {0}
 IsInRange (geo name path) = Unit {0}
 IsInRange (stat path) = Unit {0}
 
@@ -79,7 +79,7 @@ unless_refused (k ∷ ks) o h = tt
 
 of_request : (request : Request) → IsInRange (asked request) → IsGridInRange request
 of_request (Build layers exact grid area keep ring_area) h = h
-of_request (Simplify area ring_area path) h = tt
+of_request (Simplify area ring_area no_crossings path) h = tt
 of_request (Geo name path) h = tt
 of_request (Stat path) h = tt
 

@@ -1,18 +1,19 @@
 -- What `simplify` asks for, whichever of its options are given.
-use Rattle.std.proofs.Common.{◌≡◌, ◌∙◌, ◌++◌, List, [], ◌∷◌, false, true, Option, Some, None, codes, refl, ap, ap₂}
+use Rattle.std.proofs.Common.{◌≡◌, ◌∙◌, ◌++◌, List, [], ◌∷◌, Bool, false, true, Option, Some, None, codes, refl, ap, ap₂}
 use Rattle.std.specs.Prelude.{find, fold, unwrap_or}
 use Rattle.std.specs.Option.{option_or}
+use Rattle.std.specs.Str.{bytes_eq}
 use Rattle.clap.specs.Walk.{Row, Text, Walk, finished, first_of, has_row, idle, nothing_held, rows_after, walk_from, walked, with_default}
 use Rattle.clap.specs.Simple.{Shape}
 use Rattle.clap.specs.declared.builder.value_parser.Reading.TheVariants.{AsWritten}
 use Rattle.clap.specs.declared.parser.matches.ValueSource.TheVariants.{CommandLine}
 use Rattle.clap.specs.Faults.{check_fault, level_fault, settle_fault, walk_fault}
 use Rattle.clap.proofs.OnLiterals.{clap_on_literals}
-use Rattle.command_words.specs.Asked.{Ordered, order_of, output_in, simplify, simplify_in, where_none}
-use Rattle.command_words.specs.Written.{value_word}
-use Rattle.command_words.proofs.CommandLevels.{asked_at, first_text, more_words, no_fault, no_level_fault, or_else_nil, shape_of, text_read}
+use Rattle.command_words.specs.Asked.{Ordered, no_crossings_in, order_of, output_in, simplify, simplify_in, where_none}
+use Rattle.command_words.specs.Written.{flag_word, value_word}
+use Rattle.command_words.proofs.CommandLevels.{asked_at, first_text, flag_read, more_words, no_fault, no_level_fault, or_else_nil, shape_of, text_read}
 use Rattle.command_words.proofs.RowLemmas.{found_at_end, has_id, values_replace}
-use Rattle.command_words.proofs.Settings.{Setting, Takes, TakesAll, any_given, between, lacks_row, over_settings, read_at_end, row_at, rows_given, value, value_row, words_of}
+use Rattle.command_words.proofs.Settings.{Setting, Takes, TakesAll, any_given, between, flag, flag_row, lacks_row, over_settings, read_at_end, row_at, rows_given, value, value_row, words_of}
 
 -- the command `simplify`, built
 abbrev simplify_shape : Shape
@@ -47,6 +48,10 @@ ring_area_taken : TakesText (codes "min-ring-area")
 unfolding clap_on_literals
 ring_area_taken text = record { walks = λ rows new. ap between (values_replace (codes "min-ring-area") AsWritten CommandLine (text ∷ []) rows new); faultless = λ rows new. rw new refl }
 
+no_crossings_taken : Takes simplify_shape (flag_word (codes "no-crossings")) (flag_row (codes "no-crossings"))
+unfolding clap_on_literals
+no_crossings_taken = record { walks = λ rows new. ap between (values_replace (codes "no-crossings") AsWritten CommandLine (codes "true" ∷ []) rows new); faultless = λ rows new. rw new refl }
+
 -- ---- the file, and the checks at the end
 
 -- the walk is at the file after `--`
@@ -74,12 +79,13 @@ nothing_missing rows path found = rw found refl
 
 -- ---- the law
 
-module _ (output : Option Text) (area ring_area path : Text) where
+module _ (output : Option Text) (area ring_area path : Text) (no_crossings : Bool) where
   abbrev settings : List Setting
-  settings = value (codes "output") AsWritten output ∷ value (codes "min-area") AsWritten (Some area) ∷ value (codes "min-ring-area") AsWritten (Some ring_area) ∷ []
+  settings = value (codes "output") AsWritten output ∷ value (codes "min-area") AsWritten (Some area) ∷ value (codes "min-ring-area") AsWritten (Some ring_area)
+      ∷ flag (codes "no-crossings") no_crossings ∷ []
 
   all_taken : TakesAll simplify_shape settings
-  all_taken = (any_given output _ output_taken, (area_taken area, (ring_area_taken ring_area, tt)))
+  all_taken = (any_given output _ output_taken, (area_taken area, (ring_area_taken ring_area, (no_crossings_taken, tt))))
 
   abbrev rows : List Row
   rows = rows_given settings
@@ -136,9 +142,12 @@ module _ (output : Option Text) (area ring_area path : Text) where
   ring_area_read : first_of (codes "min-ring-area") rows_at_end ≡ Some ring_area
   ring_area_read = at_end (codes "min-ring-area")
 
+  no_crossings_read : no_crossings_in rows_at_end ≡ no_crossings
+  no_crossings_read = ap (λ (o : Option Text). bytes_eq (unwrap_or o []) (codes "true")) (at_end (codes "no-crossings")) ∙ flag_read (codes "no-crossings") no_crossings
+
   path_read : first_of (codes "file") rows_at_end ≡ Some path
   path_read = at_end (codes "file")
 
-  pub simplify_law : order_of (codes "simplify" ∷ given) ≡ Some (simplify area ring_area path, output)
+  pub simplify_law : order_of (codes "simplify" ∷ given) ≡ Some (simplify area ring_area no_crossings path, output)
   simplify_law =
-      asks ∙ (λ i. Some (simplify (unwrap_or (area_read i) (codes "0")) (unwrap_or (ring_area_read i) (codes "0")) (unwrap_or (path_read i) []), output_read i))
+      asks ∙ (λ i. Some (simplify (unwrap_or (area_read i) (codes "0")) (unwrap_or (ring_area_read i) (codes "0")) (no_crossings_read i) (unwrap_or (path_read i) []), output_read i))

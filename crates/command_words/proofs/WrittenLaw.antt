@@ -123,6 +123,6 @@ asked_as_written (build (layer ∷ layers) exact grid area (Some share) ring_are
     build_law output (option_map decimal grid) None (Some share) ring_area exact (layer_word layer) (map layer_word layers) (fits layers can.2)
     (grid_taken grid can.0) grid (layer ∷ layers) (grid_read grid can.0) (all_split (layer ∷ layers) can.3) refl
     ∙ (λ i. Some (build (layer ∷ layers) exact grid (sym can.4 i) (Some share) ring_area, output))
-asked_as_written (simplify area ring_area path, output) can = simplify_law output area ring_area path
+asked_as_written (simplify area ring_area no_crossings path, output) can = simplify_law output area ring_area path no_crossings
 asked_as_written (geo name path, output) can = geo_law output name path
 asked_as_written (stat path, output) can = stat_law output path

@@ -22,8 +22,8 @@ use Rattle.command_words.specs.declared.words_fault.WordsFault.TheVariants.{Memo
 pub data Asked : Type 0 where
   -- the names and paths of the layers, whether rounding is refused, the cells of the grid, the area, the share, the ring area
   build : List (Text × Text) → Bool → Option ℕ → Text → Option Text → Text → Asked
-  -- the area, the ring area and the file
-  simplify : Text → Text → Text → Asked
+  -- the area, the ring area, whether no crossing may be made, and the file
+  simplify : Text → Text → Bool → Text → Asked
   -- the object and the file
   geo : Text → Text → Asked
   -- the file
@@ -33,7 +33,7 @@ pub data Asked : Type 0 where
 abbrev pub asked : Request → Asked
 asked (Build layers exact grid area keep ring_area) =
     build (map (λ l. (l.0.now, l.1.now)) layers.items) exact grid area.now (option_map (λ k. k.now) keep) ring_area.now
-asked (Simplify area ring_area path) = simplify area.now ring_area.now path.now
+asked (Simplify area ring_area no_crossings path) = simplify area.now ring_area.now no_crossings path.now
 asked (Geo name path) = geo name.now path.now
 asked (Stat path) = stat path.now
 
@@ -86,6 +86,10 @@ has_both rows = is_some (first_of (codes "min-area") rows) && is_some (keep_in r
 abbrev pub ring_area_in : List Row → Text
 ring_area_in rows = unwrap_or (first_of (codes "min-ring-area") rows) (codes "0")
 
+-- no crossing may be made
+abbrev pub no_crossings_in : List Row → Bool
+no_crossings_in rows = bytes_eq (text_of (codes "no-crossings") rows) (codes "true")
+
 abbrev pub exact_in : List Row → Bool
 exact_in rows = bytes_eq (text_of (codes "exact") rows) (codes "true")
 
@@ -112,7 +116,7 @@ abbrev pub build_in : List Row → Option Asked
 build_in rows = if has_both rows then None else option_and_then (λ grid. option_map (build_on rows grid) (layers_in rows)) (grid_in rows)
 
 abbrev pub simplify_in : List Row → Asked
-simplify_in rows = simplify (area_in rows) (ring_area_in rows) (text_of (codes "file") rows)
+simplify_in rows = simplify (area_in rows) (ring_area_in rows) (no_crossings_in rows) (text_of (codes "file") rows)
 
 -- what a command of this name asks for
 abbrev pub asked_in : Text × List Row → Option Asked
@@ -156,10 +160,12 @@ pub record Detail : Type 0 where
   pub explains : Bool
   -- the file that a report of the run goes to, if any
   pub report : Option Text
+  -- the report is left out where all is done
+  pub quiet : Bool
 
 -- what an order asks to be said
 abbrev pub detail : Order → Detail
-detail order = record { explains = order.explains; report = option_map (λ r. r.now) order.report }
+detail order = record { explains = order.explains; report = option_map (λ r. r.now) order.report; quiet = order.quiet }
 
 -- the file for the report of the run, if one is given
 abbrev pub report_in : List Row → Option Text
@@ -169,8 +175,12 @@ report_in rows = first_of (codes "report") rows
 abbrev pub explains_in : List Row → Bool
 explains_in rows = bytes_eq (text_of (codes "explain") rows) (codes "true")
 
+-- whether the report is left out
+abbrev pub quiet_in : List Row → Bool
+quiet_in rows = bytes_eq (text_of (codes "quiet") rows) (codes "true")
+
 abbrev pub detail_in : Text × List Row → Detail
-detail_in found = record { explains = explains_in found.1; report = report_in found.1 }
+detail_in found = record { explains = explains_in found.1; report = report_in found.1; quiet = quiet_in found.1 }
 
 -- what the words ask to be said, if the command line takes them
 abbrev pub detail_of : List Text → Option Detail

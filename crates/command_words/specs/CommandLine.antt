@@ -34,6 +34,10 @@ keep_rule = record (new_rule (codes "keep")) { long = Some (codes "keep"); value
 abbrev pub ring_area_rule : Rule
 ring_area_rule = record (new_rule (codes "min-ring-area")) { long = Some (codes "min-ring-area"); value_names = 1 }
 
+-- the flag --no-crossings
+abbrev pub no_crossings_rule : Rule
+no_crossings_rule = record (new_rule (codes "no-crossings")) { long = Some (codes "no-crossings"); action = Some SetTrue }
+
 -- the option --grid N, for N from 2 to 10^9
 abbrev pub grid_rule : Rule
 grid_rule = record (new_rule (codes "grid")) {
@@ -62,6 +66,14 @@ report_rule = record (new_rule (codes "report")) { long = Some (codes "report");
 abbrev pub explain_rule : Rule
 explain_rule = record (new_rule (codes "explain")) { long = Some (codes "explain"); action = Some SetTrue }
 
+-- the letter `q`
+abbrev pub letter_q : ℕ
+letter_q = 113
+
+-- the flag -q, or --quiet
+abbrev pub quiet_rule : Rule
+quiet_rule = record (new_rule (codes "quiet")) { short = Some letter_q; long = Some (codes "quiet"); action = Some SetTrue }
+
 -- a command with the options that each command has: -o FILE, --report FILE and --explain
 abbrev pub with_common : App → App
 with_common app = with_rule (with_rule (with_rule app output_rule) report_rule) explain_rule
@@ -74,15 +86,17 @@ layers_rule = record (new_rule (codes "layers")) {
   range = Some (record { start_inclusive = 1; end_inclusive = usize_max });
 }
 
--- build [--grid N] [--min-area A] [--keep P/Q] [--min-ring-area B] [--exact] NAME=PATH.., with the common options
+-- build [--grid N] [--min-area A] [--keep P/Q] [--min-ring-area B] [--exact] [-q] NAME=PATH.., with the common options
 abbrev pub build_app : App
-build_app = with_rule
+build_app = with_rule (with_rule
     (with_common (with_rule (with_rule (with_rule (with_rule (with_rule (new_app (codes "build")) grid_rule) area_rule) keep_rule) ring_area_rule) exact_rule))
-    layers_rule
+    quiet_rule) layers_rule
 
--- simplify [--min-area A] [--min-ring-area B] FILE, with the common options
+-- simplify [--min-area A] [--min-ring-area B] [--no-crossings] [-q] FILE, with the common options
 abbrev pub simplify_app : App
-simplify_app = with_rule (with_common (with_rule (with_rule (new_app (codes "simplify")) area_rule) ring_area_rule)) file_rule
+simplify_app = with_rule (with_rule
+    (with_common (with_rule (with_rule (with_rule (new_app (codes "simplify")) area_rule) ring_area_rule) no_crossings_rule))
+    quiet_rule) file_rule
 
 -- geo --object NAME FILE, with the common options
 abbrev pub geo_app : App

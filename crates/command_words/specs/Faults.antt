@@ -2,6 +2,7 @@
 use Rattle.std.specs.Prelude.{◌≡◌, ◌⊎◌, ◌||◌, ℕ, Bool, true, false, not, List, [], ◌++◌, codes, decimal, if◌then◌else◌, is_some, Option, Some, None}
 use Rattle.std.specs.List.{list_all, position}
 use Rattle.std.specs.Str.{bytes_eq}
+use Rattle.std.specs.String.{string_bytes}
 use Rattle.clap.specs.Kinds.{IsAmong, Kinds}
 use Rattle.clap.specs.Lexer.{has_byte}
 use Rattle.clap.specs.Simple.{subcommand_of}
@@ -9,7 +10,7 @@ use Rattle.clap.specs.Values.{kind_of}
 use Rattle.clap.specs.Walk.{Row, Text}
 use Rattle.clap.specs.declared.error.kind.ErrorKind.{ErrorKind}
 use Rattle.clap.specs.declared.error.kind.ErrorKind.TheVariants as kind
-use Rattle.command_words.specs.Asked.{grid_in, has_both, kinds_of, layer_words}
+use Rattle.command_words.specs.Asked.{explains_in, grid_in, has_both, kinds_of, layer_words}
 use Rattle.command_words.specs.CommandLine.{program_app}
 use Rattle.command_words.specs.LayerWords.{equals_sign}
 use Rattle.command_words.specs.declared.words_fault.WordsFault.{WordsFault}
@@ -19,7 +20,7 @@ use Rattle.command_words.specs.declared.words_fault.WordsFault.TheVariants.{Help
 abbrev pub words_fault_text : WordsFault → Option (List ℕ)
 words_fault_text (Help error) = None
 words_fault_text (Refused error) = None
-words_fault_text (NoEquals layer) = Some ((codes "error: layer " ++ decimal layer) ++ codes " has no =\n")
+words_fault_text (NoEquals layer advice) = Some (((codes "error: layer " ++ decimal layer) ++ codes " has no =\n") ++ string_bytes advice)
 words_fault_text GridRange = Some (codes "error: a grid has from 2 to 1000000000 cells\n")
 words_fault_text Memory = Some []
 
@@ -40,18 +41,23 @@ is_memory _ = false
 abbrev pub IsFirstWithout : List Text → ℕ → Type 0
 IsFirstWithout words layer = position (λ word. not (has_byte equals_sign word)) words ≡ Some layer
 
+-- where nothing is to be explained there is no advice
+abbrev pub IsAdvice : Bool → List ℕ → Type 0
+IsAdvice explains advice = explains ≡ false → advice ≡ []
+
 -- what is said of words for layers, but for want of memory
-abbrev pub IsLayersFault : List Text → WordsFault → Type 0
-IsLayersFault words Memory = Unit {0}
-IsLayersFault words (NoEquals layer) = IsFirstWithout words layer
-IsLayersFault words fault = ⊥
+abbrev pub IsLayersFault : Bool → List Text → WordsFault → Type 0
+IsLayersFault explains words Memory = Unit {0}
+IsLayersFault explains words (NoEquals layer advice) = IsFirstWithout words layer × IsAdvice explains (string_bytes advice)
+IsLayersFault explains words fault = ⊥
 
 -- What is said of the arguments of `build`, but for want of memory, where no share stands beside an area: that its grid is out of range, or
--- else which is the first word for a layer that has no `=`.
+-- else which is the first word for a layer that has no `=`, with advice only where the run is to be explained.
 abbrev pub IsBuildFault : List Row → WordsFault → Type 0
 IsBuildFault rows Memory = Unit {0}
 IsBuildFault rows GridRange = (has_both rows ≡ false) × (grid_in rows ≡ None)
-IsBuildFault rows (NoEquals layer) = (has_both rows ≡ false) × (is_some (grid_in rows) ≡ true) × IsFirstWithout (layer_words rows) layer
+IsBuildFault rows (NoEquals layer advice) = (has_both rows ≡ false) × (is_some (grid_in rows) ≡ true)
+    × IsLayersFault (explains_in rows) (layer_words rows) (NoEquals layer advice)
 IsBuildFault rows fault = ⊥
 
 -- of the command that is found and its arguments: only `build` has faults of its own

@@ -10,6 +10,6 @@ IsCells n = (2 ≤ n) × (n ≤ 10 ^ 9)
 -- a grid that is asked for may have its number of cells
 abbrev pub IsGridInRange : Request → Type 0
 IsGridInRange (Build layers exact grid area keep ring_area) = IfSome grid IsCells
-IsGridInRange (Simplify area ring_area path) = Unit {0}
+IsGridInRange (Simplify area ring_area no_crossings path) = Unit {0}
 IsGridInRange (Geo name path) = Unit {0}
 IsGridInRange (Stat path) = Unit {0}

@@ -3,7 +3,7 @@ ghost use Rattle.std.specs.Prelude.{IfOk};
 ghost use Rattle.command_words.specs.CommandLine.{IsApp, IsRule, file_rule, geo_app, object_rule, simplify_app, stat_app};
 
 use crate::commands::{Help, command};
-use crate::usage::{area, ring_area, with_common};
+use crate::usage::{area, no_crossings, quiet, ring_area, with_common};
 use clap::{Arg, Command};
 use std::alloc::{AllocError, Global};
 
@@ -35,8 +35,9 @@ or ring that is left with too few positions is dropped as 'small', and so is a r
 that encloses less than '--min-ring-area'. Any other hole whose outer ring is dropped
 is dropped as 'outer'.
 
-A topology that 'mapchain build' wrote without these options becomes, byte for byte,
-what 'mapchain build' writes of the same files with them.",
+A topology that 'mapchain build' wrote without areas becomes, byte for byte, what
+'mapchain build' writes of the same files with the areas that are given here.
+'--no-crossings' is of this command alone.",
     after: "Example:
   mapchain simplify --min-area 0.0001 map.topojson > small.topojson",
     after_long: "Example:
@@ -98,8 +99,11 @@ pub(crate) fn simplify<'a>(alloc: Global) -> Result<Command<'a>, AllocError>
 {
     let command = command(alloc, SIMPLIFY, SIMPLIFY_HELP)
         .arg(area(alloc))?
-        .arg(ring_area(alloc))?;
-    with_common(alloc, command)?.arg(file(alloc))
+        .arg(ring_area(alloc))?
+        .arg(no_crossings(alloc))?;
+    with_common(alloc, command)?
+        .arg(quiet(alloc))?
+        .arg(file(alloc))
 }
 
 /// The option of `geo` that names the object.

@@ -4,6 +4,7 @@ ghost use Rattle.command_words.specs.Asked.{Answers, layer_of, layers_of};
 ghost use Rattle.command_words.specs.Faults.{IsLayersFault};
 ghost use Rattle.command_words.specs.LayerWords.{IsSplit, equals_sign};
 
+use crate::naming::naming;
 use crate::words_fault::WordsFault;
 use std::alloc::Global;
 
@@ -17,19 +18,23 @@ pub fn name_and_path(word: &str) -> Option<(&str, &str)>
     word.split_once('=')
 }
 
-/// The name and the path of each word, or the number of the first word that has no `=`.
+/// The name and the path of each word, or the number of the first word that has no `=`, with what to write in its place if that is asked.
 pub(crate) fn names_and_paths<'a>(
     alloc: Global,
     words: &[&'a str],
+    explains: bool,
 ) -> Result<Vec<(&'a str, &'a str)>, WordsFault>
     ensures layers { Answers (layers_of (map (λ w. w.now) words.now)) (λ v. map (λ l. (l.0.now, l.1.now)) v.items) result }
-    ensures fault { IfErr result (IsLayersFault (map (λ w. w.now) words.now)) }
+    ensures fault { IfErr result (IsLayersFault explains (map (λ w. w.now) words.now)) }
 {
     let mut layers = Vec::new(alloc);
     'words: for (layer, word) in words.iter().enumerate() {
         match name_and_path(word) {
             Some(split) => layers.push(split)?,
-            None => return Err(WordsFault::NoEquals { layer }),
+            None => {
+                let advice = naming(alloc, word, explains)?;
+                return Err(WordsFault::NoEquals { layer, advice });
+            }
         }
     }
     Ok(layers)

@@ -7,6 +7,7 @@ mod commands;
 mod file_usage;
 mod joining;
 mod layer_words;
+mod naming;
 mod request;
 mod usage;
 mod words_fault;

@@ -11,7 +11,7 @@ ghost use Rattle.command_words.specs.declared.words_fault.WordsFault.TheVariants
 ghost use Rattle.command_words.specs.Asked as spec;
 ghost use Rattle.command_words.specs.Asked.{Answers, area_in, asked, asked_in, build_in, entries_of, exact_in, grid_in};
 ghost use Rattle.command_words.specs.Asked.{Ordered, detail, detail_of, explains_in, keep_in, kinds_of, order_of, ordered};
-ghost use Rattle.command_words.specs.Asked.{output_in, report_in, ring_area_in, text_of};
+ghost use Rattle.command_words.specs.Asked.{no_crossings_in, output_in, quiet_in, report_in, ring_area_in, text_of};
 ghost use Rattle.command_words.specs.CommandLine.{IsApp, program_app};
 ghost use Rattle.command_words.specs.Faults as faults;
 ghost use Rattle.command_words.specs.Faults.{IsBuildFault, IsCommandFault, IsFaultBy, IsFaultOf};
@@ -20,8 +20,8 @@ ghost use Rattle.command_words.specs.Written.{IsWritable, written};
 use crate::file_usage::{FILE, GEO, OBJECT, SIMPLIFY, STAT};
 use crate::layer_words::names_and_paths;
 use crate::usage::{
-    AREA, BUILD, EXACT, EXPLAIN, GRID, KEEP, LAYERS, OUTPUT, REPORT, RING_AREA, program,
-    telling_program,
+    AREA, BUILD, EXACT, EXPLAIN, GRID, KEEP, LAYERS, NO_CROSSINGS, OUTPUT, QUIET, REPORT,
+    RING_AREA, program, telling_program,
 };
 use crate::words_fault::WordsFault;
 use clap::error::ErrorKind;
@@ -51,6 +51,8 @@ pub enum Request<'a> {
         area: &'a str,
         /// Rings are left out that enclose less than the area of this text, in the same units.
         ring_area: &'a str,
+        /// No point is removed where lines would then cross.
+        no_crossings: bool,
         path: &'a str,
     },
     /// The features of the object of this name, of the topology in the file of this path.
@@ -74,6 +76,8 @@ pub struct Order<'a> {
     pub report: Option<&'a str>,
     /// Whether the run is explained in words.
     pub explains: bool,
+    /// Whether the report is left out where all is done.
+    pub quiet: bool,
 }
 
 /// The grid that is asked for, if any. `clap` refuses a number out of range, but none of its contracts says so of a command below the
@@ -151,11 +155,25 @@ fn is_exact(arguments: &ArgMatches<'_>) -> bool
     text_of(arguments, EXACT) == "true"
 }
 
+/// Whether no crossing may be made.
+fn has_no_crossings(arguments: &ArgMatches<'_>) -> bool
+    ensures { result ≡ no_crossings_in (entries_of arguments.now) }
+{
+    text_of(arguments, NO_CROSSINGS) == "true"
+}
+
 /// Whether the run is explained in words.
 fn is_explained(arguments: &ArgMatches<'_>) -> bool
     ensures { result ≡ explains_in (entries_of arguments.now) }
 {
     text_of(arguments, EXPLAIN) == "true"
+}
+
+/// Whether the report is left out where all is done.
+fn is_quiet(arguments: &ArgMatches<'_>) -> bool
+    ensures { result ≡ quiet_in (entries_of arguments.now) }
+{
+    text_of(arguments, QUIET) == "true"
 }
 
 /// What the command that builds a topology asks for, unless it is given an area and a share both.
@@ -172,7 +190,8 @@ fn build_request<'a>(
         return Ok(None);
     }
     let grid = grid_of(arguments)?;
-    let layers = names_and_paths(alloc, arguments.get_strs(LAYERS).unwrap_or(&[]))?;
+    let words = arguments.get_strs(LAYERS).unwrap_or(&[]);
+    let layers = names_and_paths(alloc, words, is_explained(arguments))?;
     let exact = is_exact(arguments);
     let area = area_of(arguments);
     let keep = keep_of(arguments);
@@ -204,10 +223,12 @@ fn request_in<'a>(
     if name == SIMPLIFY {
         let area = area_of(arguments);
         let ring_area = ring_area_of(arguments);
+        let no_crossings = has_no_crossings(arguments);
         let path = text_of(arguments, FILE);
         return Ok(Some(Request::Simplify {
             area,
             ring_area,
+            no_crossings,
             path,
         }));
     }
@@ -300,6 +321,7 @@ fn read_by<'a>(
                 output: output_of(arguments),
                 report: report_of(arguments),
                 explains: is_explained(arguments),
+                quiet: is_quiet(arguments),
             });
         }
     }

@@ -4,7 +4,7 @@ ghost use Rattle.clap.specs.declared.builder.value_parser.ValueParser.TheVariant
 ghost use Rattle.clap.specs.Simple.{App};
 ghost use Rattle.command_words.specs.CommandLine as spec;
 ghost use Rattle.command_words.specs.CommandLine.{IsApp, IsRule, area_rule, bare_app, build_app, exact_rule, grid_rule};
-ghost use Rattle.command_words.specs.CommandLine.{explain_rule, keep_rule, layers_rule, output_rule, program_app, report_rule, ring_area_rule};
+ghost use Rattle.command_words.specs.CommandLine.{explain_rule, keep_rule, layers_rule, no_crossings_rule, output_rule, program_app, quiet_rule, report_rule, ring_area_rule};
 
 use crate::commands::{Help, command};
 use crate::file_usage::{geo, simplify, stat};
@@ -30,6 +30,9 @@ pub(crate) const KEEP: &str = "keep";
 /// The option of `build` and `simplify` that leaves out small rings.
 pub(crate) const RING_AREA: &str = "min-ring-area";
 
+/// The option of `simplify` that keeps lines from crossing.
+pub(crate) const NO_CROSSINGS: &str = "no-crossings";
+
 /// The option of `build` that refuses coordinates that would have to be rounded.
 pub(crate) const EXACT: &str = "exact";
 
@@ -42,8 +45,11 @@ pub(crate) const REPORT: &str = "report";
 /// The option of each command that explains the run in words.
 pub(crate) const EXPLAIN: &str = "explain";
 
+/// The option of `build` and `simplify` that leaves out the report.
+pub(crate) const QUIET: &str = "quiet";
+
 /// The version of the program.
-const VERSION: &str = "1.2.8";
+const VERSION: &str = "1.3.0";
 
 const PROGRAM_HELP: Help = Help {
     about: "Build TopoJSON topologies from GeoJSON files, simplify them, and decode them again",
@@ -114,7 +120,7 @@ const AREA_LONG_HELP: &str =
 neighbours, the least first. A is in square units of the coordinates, from 0 to
 10^18, with at most 18 decimal places. Without this option it is 0, and no point
 is removed. A shared border is reduced once, so it stays shared. Lines may
-cross afterwards: that isn't checked";
+cross afterwards, unless '--no-crossings' of 'mapchain simplify' is given";
 
 const KEEP_HELP: &str = "Remove points, but keep at least the share P/Q of them";
 
@@ -124,7 +130,8 @@ least the share P/Q of the points between the ends of arcs: 1/10 keeps a tenth, 
 more where points go at the same area. P and Q are whole numbers, Q from 1 to
 1000000000 and P at most Q. The share is counted over all arcs, before small lines
 are dropped. The report gives the area in a line 'chosen T': T is twice the area, in
-square units of 10^-9. This option can't stand beside '--min-area'";
+square units of 10^-9; '--explain' says the area as '--min-area' takes it. This option
+can't stand beside '--min-area'";
 
 const RING_AREA_HELP: &str = "Leave out rings that enclose less than the area B";
 
@@ -134,6 +141,15 @@ and lakes. B is in square units of the coordinates, from 0 to 10^18, with at mos
 18 decimal places. Without this option it is 0, and no ring is left out for its
 area. Each ring counts by itself: the area of a hole isn't taken off that of the
 ring around it. Lines that are no rings stay, also those that close";
+
+const NO_CROSSINGS_HELP: &str = "Remove no point where lines would then cross";
+
+const NO_CROSSINGS_LONG_HELP: &str =
+    "Of the points that '--min-area' removes leave those where lines would then cross, lie on
+one another, or touch but at an end of both. A point that is left so goes later, once
+what holds it is gone. Where no lines crossed before, a ring that encloses something
+stays, as a triangle at least: small islands go by '--min-ring-area'. Lines that cross in
+the topology go on crossing: nothing is repaired";
 
 const OUTPUT_HELP: &str = "Write the output to a file in place of standard output";
 
@@ -146,16 +162,23 @@ const REPORT_HELP: &str = "Write a report of the run to a file, as a JSON object
 
 const REPORT_LONG_HELP: &str =
     "Write a report of the run to FILE when the run ends, whether it is done or not, as a
-JSON object: the exit status, the fault, the counts, and the lines of '--explain'.
-docs/FORMATS.md describes it. A file of this name is replaced";
+JSON object: the exit status, the fault, the counts, and all lines of '--explain', for
+which files are read once more. docs/FORMATS.md describes it. A file of this name is
+replaced";
 
 const EXPLAIN_HELP: &str = "Explain in words what is wrong, or what was left out";
 
 const EXPLAIN_LONG_HELP: &str =
     "Say in words, on standard error below the line of a fault, what is wrong and where, as
 far as that can be found out. Where all is done, say below the report how much was kept,
-which features lost all of their geometry, and what was left out of the layers. Files
-are read once more for it";
+which area '--keep' chose, which features lost all of their geometry (ten lines of them,
+and how many more), and what was left out of the layers. Files are read once more for it";
+
+const QUIET_HELP: &str = "Leave out the report, where all is done";
+
+const QUIET_LONG_HELP: &str =
+    "Leave out the report on standard error, where all is done. What is wrong is said as
+ever, and so is what '--explain' and '--report' ask for";
 
 const EXACT_HELP: &str = "Refuse coordinates that would have to be rounded";
 
@@ -251,6 +274,17 @@ pub(crate) fn ring_area<'a>(alloc: Global) -> Arg<'a>
         .long_help(RING_AREA_LONG_HELP)
 }
 
+/// The option that keeps lines from crossing.
+pub(crate) fn no_crossings<'a>(alloc: Global) -> Arg<'a>
+    ensures { IsRule result no_crossings_rule }
+{
+    Arg::new(alloc, NO_CROSSINGS)
+        .long("no-crossings")
+        .action(ArgAction::SetTrue)
+        .help(NO_CROSSINGS_HELP)
+        .long_help(NO_CROSSINGS_LONG_HELP)
+}
+
 /// The option that names the file for the output.
 fn output<'a>(alloc: Global) -> Arg<'a>
     ensures { IsRule result output_rule }
@@ -298,6 +332,18 @@ pub(crate) fn with_common<'a>(
         .arg(explain(alloc))
 }
 
+/// The option of `build` and `simplify` that leaves out the report.
+pub(crate) fn quiet<'a>(alloc: Global) -> Arg<'a>
+    ensures { IsRule result quiet_rule }
+{
+    Arg::new(alloc, QUIET)
+        .short('q')
+        .long("quiet")
+        .action(ArgAction::SetTrue)
+        .help(QUIET_HELP)
+        .long_help(QUIET_LONG_HELP)
+}
+
 /// The option of `build` that refuses coordinates that would have to be rounded.
 fn exact<'a>(alloc: Global) -> Arg<'a>
     ensures { IsRule result exact_rule }
@@ -331,5 +377,7 @@ fn build<'a>(alloc: Global, keep: Arg<'a>) -> Result<Command<'a>, AllocError>
         .arg(keep)?
         .arg(ring_area(alloc))?
         .arg(exact(alloc))?;
-    with_common(alloc, command)?.arg(layers(alloc))
+    with_common(alloc, command)?
+        .arg(quiet(alloc))?
+        .arg(layers(alloc))
 }

@@ -11,8 +11,8 @@ pub enum WordsFault {
     Help(Error),
     /// The words are refused.
     Refused(Error),
-    /// The layer word of this number has no `=`.
-    NoEquals { layer: usize },
+    /// The layer word of this number has no `=`. What to write in its place is said in lines, if that is asked.
+    NoEquals { layer: usize, advice: String },
     /// The number of cells of the grid is out of range.
     GridRange,
     /// An allocation was refused.
@@ -43,7 +43,9 @@ impl fmt::Display for WordsFault {
     fn fmt<W: fmt::Write>(&self, f: &mut fmt::Formatter<W>) -> fmt::Result {
         match self {
             WordsFault::Help(error) | WordsFault::Refused(error) => write!(f, "{error}"),
-            WordsFault::NoEquals { layer } => writeln!(f, "error: layer {layer} has no ="),
+            WordsFault::NoEquals { layer, advice } => {
+                write!(f, "error: layer {layer} has no =\n{advice}")
+            }
             WordsFault::GridRange => writeln!(f, "error: a grid has from 2 to 1000000000 cells"),
             WordsFault::Memory => Ok(()),
         }

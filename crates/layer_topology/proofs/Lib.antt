@@ -1,6 +1,7 @@
 pub mod Agreeing
 pub mod Chosen
 pub mod Covered
+pub mod Guarded
 pub mod Kept
 pub mod Laid
 pub mod Made

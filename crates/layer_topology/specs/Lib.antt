@@ -1,3 +1,6 @@
+pub mod Guarded
+pub mod GuardedLaws
+pub mod GuardedWritten
 pub mod Laws
 pub mod Levels
 pub mod Replacing

@@ -7,6 +7,8 @@
 
 mod cells;
 mod choosing;
+mod guarded_laws;
+mod guards;
 mod laws;
 mod layers;
 mod level;
@@ -16,6 +18,8 @@ mod topology;
 mod transforms;
 
 pub use choosing::reduced_line;
+pub use guarded_laws::{guarded_is_assembled_of, simplified_under_law, written_under_law};
+pub use guards::Guards;
 pub use laws::{simplifies_to_written, written_laws};
 pub use layers::snap_layers;
 pub use level::Level;

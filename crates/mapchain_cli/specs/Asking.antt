@@ -10,6 +10,7 @@ use Rattle.command_words.specs.declared.request.Request.{Request}
 use Rattle.command_words.specs.declared.request.Request.TheVariants.{Build, Simplify, Geo, Stat}
 use Rattle.inputs.specs.declared.fault.BuildFault.{BuildFault}
 use Rattle.inputs.specs.declared.file_fault.FileFault.{FileFault}
+use Rattle.layer_topology.specs.declared.guards.Guards.{Guards}
 use Rattle.layer_topology.specs.declared.level.Level.{Level}
 use Rattle.layer_topology.specs.declared.level.Level.TheVariants as level
 use Rattle.reports.specs.declared.report.Report.{Report}
@@ -32,6 +33,10 @@ abbrev pub level_of : ℕ → Option (Bor (List ℕ)) → Option Level
 level_of t None = Some (level.Fixed t)
 level_of t (Some keep) = option_map (λ s. level.Share s.0 s.1) (share_of keep.now)
 
+-- the guards under which no crossing may be made (true) or may
+abbrev pub guards_of : Bool → Guards
+guards_of no_crossings = record { no_crossings = no_crossings }
+
 -- whether coordinates may be rounded, the grid, and the texts of the area or the share whose level the options have, and of the least
 -- ring area
 abbrev pub IsAskedFor : Bool → Option ℕ → List ℕ → Option (Bor (List ℕ)) → List ℕ → Options → Type 0
@@ -44,8 +49,8 @@ IsAskedFor exact grid area keep ring_area options =
 abbrev pub IsAnswered : FileUse → Request → Drained → Drained → Option Report → Type 0
 IsAnswered files (Build layers exact grid area keep ring_area) old new (Some report) =
     (options : Options) × IsAskedFor exact grid area.now keep ring_area.now options × BuildsOf files options (texts_of layers.items) old new report
-IsAnswered files (Simplify area ring_area path) old new (Some report) =
-    (t : ℕ) × (limit : ℕ) × (threshold_of area.now ≡ Some t) × (threshold_of ring_area.now ≡ Some limit) × SimplifiesOf files t limit path.now old new report
+IsAnswered files (Simplify area ring_area no_crossings path) old new (Some report) =
+    (t : ℕ) × (limit : ℕ) × (threshold_of area.now ≡ Some t) × (threshold_of ring_area.now ≡ Some limit) × SimplifiesOf files (guards_of no_crossings) t limit path.now old new report
 IsAnswered files (Geo name path) old new None = DecodesOf files name.now path.now old new
 IsAnswered files (Stat path) old new None = Summarises files path.now old new
 IsAnswered files request old new report = ⊥
@@ -70,7 +75,7 @@ BuildIsRefused area keep ring_area e = AreRefused area ring_area e
 -- the areas or the share that are asked for are refused in this way
 abbrev pub HasBadArea : Request → Ending → Type 0
 HasBadArea (Build layers exact grid area keep ring_area) e = BuildIsRefused area.now keep ring_area.now e
-HasBadArea (Simplify area ring_area path) e = AreRefused area.now ring_area.now e
+HasBadArea (Simplify area ring_area no_crossings path) e = AreRefused area.now ring_area.now e
 HasBadArea request e = ⊥
 
 -- why the build that is asked for isn't done
@@ -81,9 +86,9 @@ RefusesBuild files request old new e = ⊥
 
 -- why the topology of a file isn't simplified, decoded or summarised as is asked for
 abbrev pub RefusesTopology : FileUse → Request → Drained → Drained → FileFault → Type 0
-RefusesTopology files (Simplify area ring_area path) old new e =
+RefusesTopology files (Simplify area ring_area no_crossings path) old new e =
     (t : ℕ) × (limit : ℕ) × (threshold_of area.now ≡ Some t) × (threshold_of ring_area.now ≡ Some limit)
-    × RefusesFile files path.now old new (λ s u. IsSimplifyFault t limit s u old new) e
+    × RefusesFile files path.now old new (λ s u. IsSimplifyFault (guards_of no_crossings) t limit s u old new) e
 RefusesTopology files (Geo name path) old new e = RefusesFile files path.now old new (λ s u. IsGeoFault name.now s u old new) e
 RefusesTopology files (Stat path) old new e = RefusesFile files path.now old new (IsSummaryFault old new) e
 RefusesTopology files request old new e = ⊥
@@ -99,9 +104,9 @@ abbrev pub CallsFor : FileUse → Request → List Call → List Call → Type 0
 CallsFor files (Build layers exact grid area keep ring_area) before after =
     (options : Options) × (olds : Sources) × (news : Sources) × IsAskedFor exact grid area.now keep ring_area.now options
     × AreOpened files.before.contents (texts_of layers.items) olds × (files.after.noted.sources ≡ Some news) × CallsForLayers options olds news before after
-CallsFor files (Simplify area ring_area path) before after =
+CallsFor files (Simplify area ring_area no_crossings path) before after =
     (t : ℕ) × (old : Fed) × (new : Fed) × (threshold_of area.now ≡ Some t) × IsOpened files.before.contents path.now old
-    × (files.after.noted.source ≡ Some new) × CallsForTopology t old new before after
+    × (files.after.noted.source ≡ Some new) × CallsForTopology (guards_of no_crossings) t old new before after
 CallsFor files request before after = after ≡ before
 
 -- why what was asked for isn't done

@@ -9,6 +9,7 @@ use Rattle.inputs.specs.declared.file_fault.FileFault.{FileFault}
 use Rattle.inputs.specs.declared.file_fault.FileFault.TheVariants as file
 use Rattle.inputs.specs.Names.{name_fault}
 use Rattle.inputs.specs.Sources.{Sources}
+use Rattle.layer_topology.specs.declared.guards.Guards.{Guards}
 use Rattle.reports.specs.declared.report.Report.{Report}
 use Rattle.reports.specs.declared.summary.Summary.{Summary}
 use Rattle.reports.specs.Summaries.{summary_text}
@@ -29,14 +30,14 @@ pub record BuildsOf (files : FileUse) (options : Options) (layers : Layers) (old
   pub each_once : ReadsAll (length layers) sources_new files
   pub built : IsBuilt options sources_old sources_new old new report
 
--- what is left of the topology of the file of this path was written, where it is reduced at this threshold, without rings under this
--- limit
-pub record SimplifiesOf (files : FileUse) (threshold ring_limit : ℕ) (path : List ℕ) (old new : Drained) (report : Report) : Type 0 where
+-- what is left of the topology of the file of this path was written, where it is reduced at this threshold under these guards, without
+-- rings under this limit
+pub record SimplifiesOf (files : FileUse) (guards : Guards) (threshold ring_limit : ℕ) (path : List ℕ) (old new : Drained) (report : Report) : Type 0 where
   pub source_old : Fed
   pub source_new : Fed
   pub opened : IsOpened files.before.contents path source_old
   pub once : ReadsOne source_new files
-  pub simplified : IsSimplified threshold ring_limit source_old source_new old new report
+  pub simplified : IsSimplified guards threshold ring_limit source_old source_new old new report
 
 -- the text of the features of an object of this name was written, of the topology of the file of this path
 pub record DecodesOf (files : FileUse) (name path : List ℕ) (old new : Drained) : Type 0 where

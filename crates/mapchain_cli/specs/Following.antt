@@ -5,6 +5,7 @@ use Rattle.byte_ends.specs.Ends.{Drained}
 use Rattle.byte_ends.specs.Writes.{WritesAll, WritesPrefix}
 use Rattle.command_words.specs.Asked.{Detail}
 use Rattle.command_words.specs.declared.request.Request.{Request}
+use Rattle.explanations.specs.Brief.{brief}
 use Rattle.reports.specs.Statuses.{failed}
 use Rattle.reports.specs.Printing.{Prints}
 use Rattle.reports.specs.declared.report.Report.{Report}
@@ -15,7 +16,7 @@ use Rattle.reports.specs.declared.run_report.RunReport.{RunReport}
 use Rattle.mapchain_cli.specs.Files.{FileState, FileUse, IsFresh, Keeps, OnlyReads, begun, discarded, not_kept, used}
 use Rattle.mapchain_cli.specs.Notes.{ended_of}
 use Rattle.mapchain_cli.specs.Outputs.{IsPerformed}
-use Rattle.mapchain_cli.specs.Performing.{Outcome, Streams, status_after, printed_text}
+use Rattle.mapchain_cli.specs.Performing.{Outcome, Streams, status_after, printed_unless_quiet}
 use Rattle.mapchain_cli.specs.declared.ending.Ending.{Ending}
 use Rattle.mapchain_cli.specs.declared.ending.Ending.TheVariants.{BadArea, BadRingArea, BadShare, Refused, FileRefused, Memory}
 
@@ -104,11 +105,12 @@ ReportsTo (Some path) files outcome explanation old new status = IsReported file
 
 -- ---- an explanation, and then the report
 
+-- where that is asked an explanation is printed in brief
 abbrev pub PrintsIf : Bool → Drained → Drained → List ℕ → Type 0
-PrintsIf true old new text = Prints old new text
+PrintsIf true old new text = Prints old new (brief text)
 PrintsIf false old new text = new ≡ old
 
--- files are only read for an explanation, which is reported where that is asked, and the report of the run has it
+-- files are only read for an explanation, which is reported in brief where that is asked, and the report of the run has all of it
 pub record IsExplained (files : FileUse) (detail : Detail) (outcome : Outcome) (old new : Drained) (status : ℕ) : Type 0 where
   pub explanation : List ℕ
   pub reread : FileState
@@ -130,5 +132,5 @@ pub record IsCarriedOut (files : FileUse) (output : Option (List ℕ)) (detail :
   pub then : FileState
   pub performed : IsPerformed (used files.before then) output request old.out new.out outcome
   pub reported : Drained
-  pub prints : Prints old.err reported (printed_text outcome)
+  pub prints : Prints old.err reported (printed_unless_quiet detail.quiet outcome)
   pub follows : Follows detail.explains detail.report (used then files.after) detail outcome reported new.err status

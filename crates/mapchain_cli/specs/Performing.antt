@@ -1,5 +1,5 @@
 -- How a request comes out over a sink, and what is said of that.
-use Rattle.std.specs.Prelude.{ℕ, List, [], codes, Option, None, Some, Result, Ok, Err}
+use Rattle.std.specs.Prelude.{ℕ, Bool, if◌then◌else◌, List, [], codes, Option, None, Some, Result, Ok, Err}
 use Rattle.byte_ends.specs.Ends.{Drained}
 use Rattle.command_words.specs.declared.request.Request.{Request}
 use Rattle.reports.specs.FaultLines.{fault_text, file_fault_text}
@@ -52,6 +52,11 @@ abbrev pub printed_text : Outcome → List ℕ
 printed_text (Ok None) = []
 printed_text (Ok (Some report)) = report_text report
 printed_text (Err ending) = line_of ending
+
+-- the same, but where a request is done nothing, if its report is left out
+abbrev pub printed_unless_quiet : Bool → Outcome → List ℕ
+printed_unless_quiet quiet (Ok report) = if quiet then [] else printed_text (Ok report)
+printed_unless_quiet quiet (Err ending) = line_of ending
 
 abbrev pub status_after : Outcome → ℕ
 status_after (Ok report) = 0

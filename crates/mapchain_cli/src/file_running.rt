@@ -14,7 +14,7 @@ use crate::files::Files;
 use byte_ends::{Drain, ReadFault, Sink, Source, flush_after};
 use effective_area::HeapLinks;
 use inputs::FileFault;
-use mapchain_engine::{simplify, stat, to_geo};
+use mapchain_engine::{Guards, simplify, stat, to_geo};
 use reports::{Report, Summary, summary_text};
 use std::alloc::Global;
 
@@ -50,10 +50,11 @@ pub(crate) fn decode_object<F: Files, V: Drain>(
     Ok(())
 }
 
-/// Simplifies a topology at this threshold, without rings under this limit, and gives the report.
+/// Simplifies a topology at this threshold under these guards, without rings under this limit, and gives the report.
 pub(crate) fn simplify_file<F: Files, V: Drain>(
     alloc: Global,
     reducer: &mut HeapLinks,
+    guards: Guards,
     threshold: u128,
     ring_limit: u128,
     path: &str,
@@ -61,14 +62,22 @@ pub(crate) fn simplify_file<F: Files, V: Drain>(
     out: &mut Sink<V>,
 ) -> Result<Report, FileFault>
     requires { ring_limit ≤ threshold_limit }
-    ensures simplified { IfOk result (λ report. SimplifiesOf (used (F.state files.old) (F.state files.new)) threshold ring_limit path.now out.old out.new report) }
+    ensures simplified { IfOk result (λ report. SimplifiesOf (used (F.state files.old) (F.state files.new)) guards threshold ring_limit path.now out.old out.new report) }
     ensures reduced { IfOk result (λ _. (old : Fed) × (new : Fed) × IsOpened ((F.state files.old).contents) path.now old
-        × ((F.state files.new).noted.source ≡ Some new) × CallsForTopology threshold old new reducer.old.calls reducer.new.calls) }
+        × ((F.state files.new).noted.source ≡ Some new) × CallsForTopology guards threshold old new reducer.old.calls reducer.new.calls) }
     ensures refused { IfErr result (λ e. RefusesFile (used (F.state files.old) (F.state files.new)) path.now out.old out.new
-        (λ s u. IsSimplifyFault threshold ring_limit s u out.old out.new) e) }
+        (λ s u. IsSimplifyFault guards threshold ring_limit s u out.old out.new) e) }
 {
     let mut source = open_file(path, files)?;
-    let simplified = simplify(alloc, reducer, &mut source, threshold, ring_limit, out);
+    let simplified = simplify(
+        alloc,
+        reducer,
+        &mut source,
+        guards,
+        threshold,
+        ring_limit,
+        out,
+    );
     files.done_with(&source);
     let report = simplified?;
     Ok(report)

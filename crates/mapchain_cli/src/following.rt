@@ -13,6 +13,7 @@ use crate::files::Files;
 use crate::printing::status_after;
 use byte_ends::{Drain, Sink, flush_after};
 use command_words::Order;
+use explanations::put_brief;
 use reports::{FAILED, Report, RunFault, RunReport, print_text, write_run_report};
 use std::alloc::Global;
 
@@ -106,12 +107,13 @@ fn report_run<F: Files, W: Drain>(
     print_unreported(status, err)
 }
 
-/// Prints an explanation where that is asked.
+/// Prints an explanation in brief where that is asked.
 fn print_if<W: Drain>(is_asked: bool, text: &str, err: &mut Sink<W>)
     ensures { PrintsIf is_asked err.old err.new text.now }
 {
     if is_asked {
-        print_text(text.as_bytes(), err);
+        let written = put_brief(text, err);
+        let _ = flush_after(written, err);
     }
 }
 

@@ -2,7 +2,7 @@
 ghost use Rattle.std.specs.Prelude.{◌≡◌, Ok};
 ghost use Rattle.reports.specs.Printing.{Prints};
 ghost use Rattle.mapchain_cli.specs.Performing as spec;
-ghost use Rattle.mapchain_cli.specs.Performing.{line_of, printed_text};
+ghost use Rattle.mapchain_cli.specs.Performing.{line_of, printed_text, printed_unless_quiet};
 ghost use Rattle.mapchain_cli.specs.Runs.{EndsAtWords, IsHelped};
 
 use crate::ending::Ending;
@@ -46,12 +46,22 @@ fn print_done<W: Drain>(report: &Option<Report>, err: &mut Sink<W>)
     }
 }
 
-/// Prints how a request came out: the report of a build or of simplifying, or why it isn't done.
-pub(crate) fn print_outcome<W: Drain>(outcome: &Result<Option<Report>, Ending>, err: &mut Sink<W>)
-    ensures { Prints err.old err.new (printed_text outcome.now) }
+/// Prints how a request came out: the report of a build or of simplifying, unless that is to be left out, or why it isn't done.
+pub(crate) fn print_outcome<W: Drain>(
+    quiet: bool,
+    outcome: &Result<Option<Report>, Ending>,
+    err: &mut Sink<W>,
+)
+    ensures { Prints err.old err.new (printed_unless_quiet quiet outcome.now) }
 {
     match outcome {
-        Ok(report) => print_done(report, err),
+        Ok(report) => {
+            if quiet {
+                print_text(b"", err);
+            } else {
+                print_done(report, err);
+            }
+        }
         Err(ending) => print_ending(ending, err),
     }
 }

@@ -27,7 +27,7 @@ use command_words::{Order, Request, WordsFault, joined_words, read_words};
 use effective_area::HeapLinks;
 use inputs::BuildFault;
 use json_value::OwnText;
-use mapchain_engine::{Options, build};
+use mapchain_engine::{Guards, Options, build};
 use reports::Report;
 use std::alloc::Global;
 
@@ -109,10 +109,16 @@ pub(crate) fn answer<F: Files, V: Drain>(
         Request::Simplify {
             area,
             ring_area,
+            no_crossings,
             path,
         } => {
             let (threshold, ring_limit) = thresholds_asked(alloc, area, ring_area)?;
-            let report = simplify_file(alloc, reducer, threshold, ring_limit, path, files, out)?;
+            let guards = Guards {
+                no_crossings: *no_crossings,
+            };
+            let report = simplify_file(
+                alloc, reducer, guards, threshold, ring_limit, path, files, out,
+            )?;
             Ok(Some(report))
         }
         Request::Geo { name, path } => {
@@ -162,7 +168,7 @@ fn carry_out<F: Files, V: Drain, W: Drain>(
     let mut reducer = HeapLinks::new();
     let request = &order.request;
     let outcome = perform(alloc, &mut reducer, request, order.output, files, out);
-    print_outcome(&outcome, err);
+    print_outcome(order.quiet, &outcome, err);
     follow(alloc, order, &outcome, files, err)
 }
 

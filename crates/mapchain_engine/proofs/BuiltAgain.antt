@@ -17,6 +17,7 @@ use Rattle.topojson_meaning.specs.declared.fault.TopoFault.{TopoFault}
 use Rattle.topojson_meaning.specs.Topologies.{topology}
 use Rattle.reports.specs.declared.report.Report.{Report}
 use Rattle.reports.specs.declared.summary.Summary.{Summary}
+use Rattle.layer_topology.specs.Guarded.{no_guards}
 use Rattle.mapchain_engine.specs.Building.{expected_for, threshold_for, written_for, IsBuilt}
 use Rattle.mapchain_engine.specs.BuildLaws.{ReadAreTaken}
 use Rattle.mapchain_engine.specs.declared.options.Options.{Options}
@@ -105,11 +106,11 @@ module _ (one_value : OneValue) (o : Options) (olds news : Sources) (sink_old si
       ap (simplified_contents t limit) (is.builds.topology.shared ∙ ap (λ z. written_on o.grid z o.ring_limit is.layers) zero ∙ ap (λ z. written_on o.grid 0 z is.layers) none) ∙ less o.grid t limit is.layers (taken valid may o olds news sink_old sink_new report is)
 
   simplified_text : SimplifiesToWritten → ReadsValid → ReadAreTaken → (t limit : ℕ) → threshold_for o is.layers ≡ 0 → o.ring_limit ≡ 0 → (after : Fed) (out_old out_new : Drained) (simplified : Report)
-      → IsSimplified t limit source after out_old out_new simplified
+      → IsSimplified no_guards t limit source after out_old out_new simplified
       → Takes out_old out_new (json_text (topology_value (written_on o.grid t limit is.layers))) (length (json_text (topology_value (written_on o.grid t limit is.layers))))
   simplified_text less valid may t limit zero none after out_old out_new simplified s =
-      let e : simplified_contents_text t limit s.contents ≡ json_text (topology_value (written_on o.grid t limit is.layers)) =
-      ap (simplified_contents_text t limit) (same_contents after s.contents s.counts s.read) ∙ ap (λ y. json_text (topology_value y)) (simplified_is less valid may t limit zero none) in
+      let e : simplified_contents_text no_guards t limit s.contents ≡ json_text (topology_value (written_on o.grid t limit is.layers)) =
+      ap (simplified_contents_text no_guards t limit) (same_contents after s.contents s.counts s.read) ∙ ap (λ y. json_text (topology_value y)) (simplified_is less valid may t limit zero none) in
       subst (λ text. Takes out_old out_new text (length text)) e s.written
 
 pub simplifies_to_built : OneValue → SimplifiesToWritten → ReadsValid → ReadAreTaken → SimplifiesToBuilt

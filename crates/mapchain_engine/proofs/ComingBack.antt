@@ -51,5 +51,5 @@ pub comes_back : ComesBack
 comes_back o olds news sink_old sink_new report is source from short = (
   all_come o olds news sink_old sink_new report is source from short,
   of_written o olds news sink_old sink_new report is source from short summarised,
-  λ t limit. of_written o olds news sink_old sink_new report is source from short (simplified t limit),
+  λ guards t limit. of_written o olds news sink_old sink_new report is source from short (simplified guards t limit),
 )

@@ -8,13 +8,13 @@ mod Dropping
 pub mod FilesDecided
 pub mod FilesReached
 pub mod FilesRead
-pub mod SimplifiedTexts
 mod NamesDistinct
 mod NeverRefused
 pub mod ObjectsFound
 mod SameBytes
 pub mod Sent
 pub mod SimplifiedAgain
+pub mod SimplifiedTexts
 pub mod SimplifyDecided
 mod SoundLayers
 pub mod Whole

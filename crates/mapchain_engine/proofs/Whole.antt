@@ -13,6 +13,8 @@ use Rattle.topojson_types.specs.declared.transform.Transform.{Transform}
 use Rattle.topojson_types.specs.Topologies.{Contents}
 use Rattle.topojson_types.specs.Transforms.{place}
 use Rattle.topojson_types.specs.Values.{topology_value}
+use Rattle.layer_topology.specs.GuardedLaws.{SimplifiedUnderLaw}
+use Rattle.layer_topology.specs.declared.guards.Guards.{Guards}
 use Rattle.mapchain_engine.specs.Files.{FailsToGive}
 use Rattle.mapchain_engine.specs.Geo.{SendsText}
 use Rattle.mapchain_engine.specs.SimplifyLaws.{SimplifiedIsUtf8}
@@ -26,24 +28,24 @@ placed (Some t) cells = refl
 
 -- ---- nothing is written
 
-pub not_given : (t limit : ℕ) (old new : Fed) (sink : Drained) (e : FileFault) → FailsToGive old new e → IsSimplifyFault t limit old new sink sink e
-not_given t limit old new sink (Read r) f = (refl, f)
-not_given t limit old new sink (Json r) f = (refl, f)
-not_given t limit old new sink (Topo r) f = (refl, f)
-not_given t limit old new sink NoObject f = (refl, f)
-not_given t limit old new sink Memory f = (refl, f)
-not_given t limit old new sink (Write sent) f = absurd f.2
+pub not_given : (guards : Guards) (t limit : ℕ) (old new : Fed) (sink : Drained) (e : FileFault) → FailsToGive old new e → IsSimplifyFault guards t limit old new sink sink e
+not_given guards t limit old new sink (Read r) f = (refl, f)
+not_given guards t limit old new sink (Json r) f = (refl, f)
+not_given guards t limit old new sink (Topo r) f = (refl, f)
+not_given guards t limit old new sink NoObject f = (refl, f)
+not_given guards t limit old new sink Memory f = (refl, f)
+not_given guards t limit old new sink (Write sent) f = absurd f.2
 
 -- ---- the text of what is left is sent
 
-module _ (t limit : ℕ) (old new : Fed) (sink_old sink_new : Drained) (less : Contents) (report : Report) (is : IsReadAndSimplified t limit old new less report) where
-  pub sent_whole : SimplifiedIsUtf8 → (sent : ℕ) → SendsText sink_old sink_new (json_text (topology_value less)) (Ok sent) → IsSimplified t limit old new sink_old sink_new report
-  sent_whole utf8 sent w =
+module _ (guards : Guards) (t limit : ℕ) (old new : Fed) (sink_old sink_new : Drained) (less : Contents) (report : Report) (is : IsReadAndSimplified guards t limit old new less report) where
+  pub sent_whole : SimplifiedIsUtf8 → SimplifiedUnderLaw → (sent : ℕ) → SendsText sink_old sink_new (json_text (topology_value less)) (Ok sent) → IsSimplified guards t limit old new sink_old sink_new report
+  sent_whole utf8 law sent w =
       let all = subst (λ z. WritesAll sink_old sink_new 0 (json_text (topology_value z)) sent) is.left w.0 in
       let read = is.read in
-      record { contents = is.contents; counts = is.counts; read = is.read; utf8 = utf8 t limit read.bytes is.contents is.counts read.spells; written = all.took; sound = all.sound; flushed = w.1; reported = is.reported }
+      record { contents = is.contents; counts = is.counts; read = is.read; utf8 = utf8 guards t limit read.bytes is.contents is.counts read.spells; written = all.took; sound = all.sound; flushed = w.1; reported = is.reported; crosses = (law guards t limit is.contents).crosses }
 
-  pub cut_short : (e : FileFault) → SendsText sink_old sink_new (json_text (topology_value less)) (Err e) → IsSimplifyFault t limit old new sink_old sink_new e
+  pub cut_short : (e : FileFault) → SendsText sink_old sink_new (json_text (topology_value less)) (Err e) → IsSimplifyFault guards t limit old new sink_old sink_new e
   cut_short (Write sent) w =
       record { contents = is.contents; counts = is.counts; read = is.read; written = rw is.left at w }
   cut_short (Read r) w = absurd w

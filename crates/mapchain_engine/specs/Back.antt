@@ -9,6 +9,7 @@ use Rattle.inputs.specs.declared.file_fault.FileFault.{FileFault}
 use Rattle.inputs.specs.declared.file_fault.FileFault.TheVariants.{Memory}
 use Rattle.inputs.specs.Texts.{max_input}
 use Rattle.inputs.specs.Sources.{Sources}
+use Rattle.layer_topology.specs.declared.guards.Guards.{Guards}
 use Rattle.mapchain_engine.specs.Laws.{IsWrittenTo}
 use Rattle.reports.specs.declared.report.Report.{Report}
 use Rattle.reports.specs.declared.summary.Summary.{Summary}
@@ -29,7 +30,7 @@ ComesBack = (o : Options) (olds news : Sources) (sink_old sink_new : Drained) (r
     (source : Fed) (from : IsWrittenTo sink_old sink_new source) → length from.bytes ≤ max_input
     → AllByRecursion (λ l. FileHasOutcome (object_text l.0) from.bytes (Ok (features_text (Many l.1.features)))) (expected_for o is.layers)
     × FileHasOutcome summarised from.bytes (Ok (summary_of (written_for o is.layers)))
-    × ((t limit : ℕ) → FileHasOutcome (simplified t limit) from.bytes (simplified t limit (written_for o is.layers) no_counts))
+    × ((guards : Guards) (t limit : ℕ) → FileHasOutcome (simplified guards t limit) from.bytes (simplified guards t limit (written_for o is.layers) no_counts))
 
 -- ---- what is answered of them
 
@@ -43,9 +44,9 @@ pub record AnswersStat (old new : Fed) (result : Result Summary FileFault) : Typ
   pub refused : IfErr result (λ e. FailsToGive old new e)
   pub decided : (bytes : List ℕ) (outcome : Result Summary FileFault) → old.left ≡ Some bytes → FileHasOutcome summarised bytes outcome → FollowsSummary outcome result
 
-pub record AnswersSimplify (t limit : ℕ) (old new : Fed) (out_old out_new : Drained) (result : Result Report FileFault) : Type 0 where
-  pub refused : IfErr result (λ e. IsSimplifyFault t limit old new out_old out_new e)
-  pub decided : (bytes : List ℕ) (outcome : Result (List ℕ × Report) FileFault) → old.left ≡ Some bytes → FileHasOutcome (simplified t limit) bytes outcome
+pub record AnswersSimplify (guards : Guards) (t limit : ℕ) (old new : Fed) (out_old out_new : Drained) (result : Result Report FileFault) : Type 0 where
+  pub refused : IfErr result (λ e. IsSimplifyFault guards t limit old new out_old out_new e)
+  pub decided : (bytes : List ℕ) (outcome : Result (List ℕ × Report) FileFault) → old.left ≡ Some bytes → FileHasOutcome (simplified guards t limit) bytes outcome
       → FollowsSimplified out_old out_new outcome result
 
 -- an answer of which this holds, or want of memory
@@ -71,7 +72,7 @@ StatIsNeverRefused = (o : Options) (olds news : Sources) (sink_old sink_new : Dr
 -- `simplify` writes at each threshold and ring limit the text of what is left of the topology that was built, with its report; or there is no memory.
 abbrev pub SimplifyIsNeverRefused : Type 0
 SimplifyIsNeverRefused = (o : Options) (olds news : Sources) (sink_old sink_new : Drained) (report : Report) (is : IsBuilt o olds news sink_old sink_new report)
-    (t limit : ℕ) (source after : Fed) (out_old out_new : Drained) (result : Result Report FileFault) (from : IsWrittenTo sink_old sink_new source) → length from.bytes ≤ max_input
-    → after.failures ≡ 0 → out_new.failures ≡ 0 → AnswersSimplify t limit source after out_old out_new result
-    → OrMemory (λ reported. Takes out_old out_new (simplified_contents_text t limit (written_for o is.layers)) (length (simplified_contents_text t limit (written_for o is.layers)))
-    × (reported ≡ report_of t limit (written_for o is.layers) no_counts)) result
+    (guards : Guards) (t limit : ℕ) (source after : Fed) (out_old out_new : Drained) (result : Result Report FileFault) (from : IsWrittenTo sink_old sink_new source) → length from.bytes ≤ max_input
+    → after.failures ≡ 0 → out_new.failures ≡ 0 → AnswersSimplify guards t limit source after out_old out_new result
+    → OrMemory (λ reported. Takes out_old out_new (simplified_contents_text guards t limit (written_for o is.layers)) (length (simplified_contents_text guards t limit (written_for o is.layers)))
+    × (reported ≡ report_of guards t limit (written_for o is.layers) no_counts)) result

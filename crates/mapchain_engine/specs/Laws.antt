@@ -7,6 +7,7 @@ use Rattle.geojson_types.specs.declared.layer.FeatureSet.TheVariants.{Many}
 use Rattle.build_meaning.specs.Expected.{kept_line}
 use Rattle.build_meaning.specs.Laws.{whole_line}
 use Rattle.build_meaning.specs.Layers.{layers_of, named_lines_and_rings}
+use Rattle.layer_topology.specs.Guarded.{no_guards}
 use Rattle.linework.specs.Linework.{linework}
 use Rattle.reports.specs.declared.report.Report.{Report}
 use Rattle.reports.specs.declared.summary.Summary.{Summary}
@@ -58,7 +59,7 @@ SimplifiesToBuilt = (o p : Options) (olds news : Sources) (sink_old sink_new : D
     (more_olds more_news : Sources) (more_old more_new : Drained) (more_report : Report) (small : IsBuilt p more_olds more_news more_old more_new more_report)
     → threshold_for o full.layers ≡ 0 → o.ring_limit ≡ 0 → p.grid ≡ o.grid → small.layers ≡ full.layers
     → (source after : Fed) (out_old out_new : Drained) (simplified : Report) → IsWrittenTo sink_old sink_new source
-    → IsSimplified (threshold_for p small.layers) p.ring_limit source after out_old out_new simplified
+    → IsSimplified no_guards (threshold_for p small.layers) p.ring_limit source after out_old out_new simplified
     → Takes out_old out_new small.text (length small.text)
 
 -- ---- the same bytes
@@ -82,5 +83,5 @@ SimplifiesToBuiltOfSame = (o p : Options) (olds news : Sources) (sink_old sink_n
     (more_olds more_news : Sources) (more_old more_new : Drained) (more_report : Report) (small : IsBuilt p more_olds more_news more_old more_new more_report)
     → threshold_for o full.layers ≡ 0 → o.ring_limit ≡ 0 → p.grid ≡ o.grid → p.exact ≡ o.exact → HaveSameBytes olds more_olds
     → (source after : Fed) (out_old out_new : Drained) (simplified : Report) → IsWrittenTo sink_old sink_new source
-    → IsSimplified (threshold_for p small.layers) p.ring_limit source after out_old out_new simplified
+    → IsSimplified no_guards (threshold_for p small.layers) p.ring_limit source after out_old out_new simplified
     → Takes out_old out_new small.text (length small.text)

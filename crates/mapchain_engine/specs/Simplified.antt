@@ -1,5 +1,5 @@
 -- What `simplify` answers, reads and writes.
-use Rattle.std.specs.Prelude.{◌≡◌, ℕ, ◌++◌, true, List, length, map, None, IsUtf8}
+use Rattle.std.specs.Prelude.{◌≡◌, ℕ, ◌++◌, true, List, [], length, map, None, if◌then◌else◌, IsUtf8}
 use Rattle.byte_ends.specs.Ends.{Fed, Drained, Takes, saturated}
 use Rattle.byte_ends.specs.Writes.{WritesPrefix}
 use Rattle.effective_area.specs.Calls.{Call, calls_for}
@@ -7,7 +7,9 @@ use Rattle.geojson_types.specs.declared.counts.Counts.{Counts}
 use Rattle.inputs.specs.declared.file_fault.FileFault.{FileFault}
 use Rattle.inputs.specs.declared.file_fault.FileFault.TheVariants.{Write}
 use Rattle.json_value.specs.Text.{json_text}
-use Rattle.simplified_topology.specs.Thresholds.{placed_cells, simplified_contents, simplified_dropped, simplified_removed_count}
+use Rattle.layer_topology.specs.Guarded.{simplified_under, dropped_under, removed_count_under, CrossesNoMore}
+use Rattle.layer_topology.specs.declared.guards.Guards.{Guards}
+use Rattle.simplified_topology.specs.Thresholds.{placed_cells}
 use Rattle.reports.specs.declared.report.Report.{Report}
 use Rattle.reports.specs.Summaries.{report_with}
 use Rattle.topojson_types.specs.Topologies.{Contents}
@@ -16,57 +18,59 @@ use Rattle.mapchain_engine.specs.Files.{IsTopologyRead, FailsToGive}
 
 -- ---- what is left of a topology
 
--- the text (TopoJSON 1.0) of what is left of a topology where each arc is reduced at the threshold
-abbrev pub simplified_contents_text : ℕ → ℕ → Contents → List ℕ
-simplified_contents_text t limit y = json_text (topology_value (simplified_contents t limit y))
+-- the text (TopoJSON 1.0) of what is left of a topology where its arcs are reduced at the threshold, under the guards that are asked for
+abbrev pub simplified_contents_text : Guards → ℕ → ℕ → Contents → List ℕ
+simplified_contents_text guards t limit y = json_text (topology_value (simplified_under guards t limit y))
 
 -- what was counted in reading the topology, the lines and rings that are dropped, the arcs that are left, their positions, and
 -- those that were removed from these arcs
-abbrev pub report_of : ℕ → ℕ → Contents → Counts → Report
-report_of t limit y counts = report_with counts (simplified_dropped t limit y) (simplified_contents t limit y).arcs (saturated (simplified_removed_count t limit y)) None
+abbrev pub report_of : Guards → ℕ → ℕ → Contents → Counts → Report
+report_of guards t limit y counts = report_with counts (dropped_under guards t limit y) (simplified_under guards t limit y).arcs (saturated (removed_count_under guards t limit y)) None
 
 -- ---- reading and writing
 
 -- the source was read to its end, its bytes spell a topology, and this is left of it, with this report
-pub record IsReadAndSimplified (t limit : ℕ) (old new : Fed) (less : Contents) (report : Report) : Type 0 where
+pub record IsReadAndSimplified (guards : Guards) (t limit : ℕ) (old new : Fed) (less : Contents) (report : Report) : Type 0 where
   pub contents : Contents
   pub counts : Counts
   pub read : IsTopologyRead old new contents counts
-  pub left : less ≡ simplified_contents t limit contents
-  pub reported : report ≡ report_of t limit contents counts
+  pub left : less ≡ simplified_under guards t limit contents
+  pub reported : report ≡ report_of guards t limit contents counts
 
--- what a reducer is asked for: to reduce each arc at a threshold, by the positions that it stands for, in order
-abbrev pub calls_of : ℕ → Contents → List Call
-calls_of t y = calls_for t (map (placed_cells y.transform) y.arcs)
+-- what a reducer is asked for: to reduce each arc at a threshold, by the positions that it stands for, in order, but nothing where all are
+-- reduced at once
+abbrev pub calls_of : Guards → ℕ → Contents → List Call
+calls_of guards t y = if guards.no_crossings then [] else calls_for t (map (placed_cells y.transform) y.arcs)
 
 -- the source was read to its end, its bytes spell a topology, and a reducer that was asked for so much before was asked to reduce each of its
--- arcs at this threshold since, and for nothing else
-pub record CallsForTopology (t : ℕ) (old new : Fed) (before after : List Call) : Type 0 where
+-- arcs at this threshold since, unless all are reduced at once, and for nothing else
+pub record CallsForTopology (guards : Guards) (t : ℕ) (old new : Fed) (before after : List Call) : Type 0 where
   pub contents : Contents
   pub counts : Counts
   pub read : IsTopologyRead old new contents counts
-  pub called : after ≡ before ++ calls_of t contents
+  pub called : after ≡ before ++ calls_of guards t contents
 
 -- the source was read to its end, its bytes spell a topology, the text of what is left of it is UTF-8, the sink took the whole of
--- it and passed it on, and this is its report
-pub record IsSimplified (t limit : ℕ) (old new : Fed) (sink_old sink_new : Drained) (report : Report) : Type 0 where
+-- it and passed it on, and this is its report; where crossings may not be made, what is left crosses no more than the topology
+pub record IsSimplified (guards : Guards) (t limit : ℕ) (old new : Fed) (sink_old sink_new : Drained) (report : Report) : Type 0 where
   pub contents : Contents
   pub counts : Counts
   pub read : IsTopologyRead old new contents counts
-  pub utf8 : IsUtf8 (simplified_contents_text t limit contents)
-  pub written : Takes sink_old sink_new (simplified_contents_text t limit contents) (length (simplified_contents_text t limit contents))
+  pub utf8 : IsUtf8 (simplified_contents_text guards t limit contents)
+  pub written : Takes sink_old sink_new (simplified_contents_text guards t limit contents) (length (simplified_contents_text guards t limit contents))
   pub sound : sink_new.failures ≡ 0
   pub flushed : sink_new.flushed ≡ true
-  pub reported : report ≡ report_of t limit contents counts
+  pub reported : report ≡ report_of guards t limit contents counts
+  pub crosses : guards.no_crossings ≡ true → CrossesNoMore contents (simplified_under guards t limit contents)
 
 -- the device failed when it had taken a prefix of that text
-pub record IsSimplifiedInPart (t limit : ℕ) (old new : Fed) (sink_old sink_new : Drained) (sent : ℕ) : Type 0 where
+pub record IsSimplifiedInPart (guards : Guards) (t limit : ℕ) (old new : Fed) (sink_old sink_new : Drained) (sent : ℕ) : Type 0 where
   pub contents : Contents
   pub counts : Counts
   pub read : IsTopologyRead old new contents counts
-  pub written : WritesPrefix sink_old sink_new 0 (simplified_contents_text t limit contents) sent
+  pub written : WritesPrefix sink_old sink_new 0 (simplified_contents_text guards t limit contents) sent
 
 -- why nothing is written whole: nothing is written unless the device failed
-abbrev pub IsSimplifyFault : ℕ → ℕ → Fed → Fed → Drained → Drained → FileFault → Type 0
-IsSimplifyFault t limit old new sink_old sink_new (Write sent) = IsSimplifiedInPart t limit old new sink_old sink_new sent
-IsSimplifyFault t limit old new sink_old sink_new e = (sink_new ≡ sink_old) × FailsToGive old new e
+abbrev pub IsSimplifyFault : Guards → ℕ → ℕ → Fed → Fed → Drained → Drained → FileFault → Type 0
+IsSimplifyFault guards t limit old new sink_old sink_new (Write sent) = IsSimplifiedInPart guards t limit old new sink_old sink_new sent
+IsSimplifyFault guards t limit old new sink_old sink_new e = (sink_new ≡ sink_old) × FailsToGive old new e

@@ -12,6 +12,7 @@ mod building;
 mod decoding;
 mod file_laws;
 mod file_reading;
+mod guarding;
 mod laws;
 mod options;
 mod reducing;
@@ -32,7 +33,7 @@ pub use laws::{
     built_text_is_never_refused, built_text_is_summarised, dropped_lines_are_reported,
     same_bytes_build_one_text, simplified_text_is_built, simplified_text_is_built_of_same_bytes,
 };
-pub use layer_topology::Level;
+pub use layer_topology::{Guards, Level};
 pub use options::Options;
 pub use reports::{Report, Summary, report_text, summary_text};
 pub use simplify_laws::{simplified_is_one_outcome, simplified_text_is_utf8, text_is_simplified};

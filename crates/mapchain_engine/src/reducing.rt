@@ -10,12 +10,14 @@ ghost use Rattle.simplified_topology.specs.Simplified.{retained, retained_arcs};
 ghost use Rattle.simplified_topology.specs.Thresholds.{simplified_contents, simplified_dropped, simplified_removed_count, placed_cells};
 ghost use Rattle.topojson_types.specs.Validity.{IsArc};
 ghost use Rattle.mapchain_engine.specs.Simplified as spec;
+ghost use Rattle.layer_topology.specs.Guarded.{dropped_under, no_guards, removed_count_under, simplified_under};
 
+use crate::guarding::guarded_topology;
 use byte_ends::Memory;
 use effective_area::Reducer;
 use geojson_types::{Counts, Dropped, Position};
 use json_value::Items;
-use layer_topology::reduced_line;
+use layer_topology::{Guards, reduced_line};
 use reports::{Report, report_of};
 use simplified_topology::indexes_reach;
 use std::alloc::Global;
@@ -122,7 +124,7 @@ fn reduced_topology<Q: Reducer>(
     ensures topology { IfOk result (λ r. r.0 ≡ simplified_contents t ring_limit topology) }
     ensures dropped { IfOk result (λ r. r.1.items ≡ simplified_dropped t ring_limit topology) }
     ensures removed_count { IfOk result (λ r. r.2 ≡ saturated (simplified_removed_count t ring_limit topology)) }
-    ensures called { IfOk result (λ _. Q.calls reducer.new ≡ Q.calls reducer.old ++ spec.calls_of t topology) }
+    ensures called { IfOk result (λ _. Q.calls reducer.new ≡ Q.calls reducer.old ++ spec.calls_of no_guards t topology) }
 {
     indexes_reach();
     let (objects, lines, transform) = topology.into_parts();
@@ -136,21 +138,45 @@ fn reduced_topology<Q: Reducer>(
     }
 }
 
-/// What is left of a topology, with these counts, where each arc is reduced at a threshold and rings under a
+/// What is left of a topology where its arcs are reduced at a threshold, under these guards, and rings under a limit are left out, the
+/// lines and rings that are dropped, and how many positions are removed from the arcs that stay.
+fn topology_under<Q: Reducer>(
+    alloc: Global,
+    reducer: &mut Q,
+    topology: Topology,
+    guards: Guards,
+    t: u128,
+    ring_limit: u128,
+) -> Result<(Topology, Vec<Dropped>, u64), Memory>
+    requires { ring_limit ≤ threshold_limit }
+    ensures topology { IfOk result (λ r. r.0 ≡ simplified_under guards t ring_limit topology) }
+    ensures dropped { IfOk result (λ r. r.1.items ≡ dropped_under guards t ring_limit topology) }
+    ensures removed_count { IfOk result (λ r. r.2 ≡ saturated (removed_count_under guards t ring_limit topology)) }
+    ensures called { IfOk result (λ _. Q.calls reducer.new ≡ Q.calls reducer.old ++ spec.calls_of guards t topology) }
+{
+    if guards.no_crossings {
+        guarded_topology(alloc, topology, t, ring_limit)
+    } else {
+        reduced_topology(alloc, reducer, topology, t, ring_limit)
+    }
+}
+
+/// What is left of a topology, with these counts, where its arcs are reduced at a threshold, under these guards, and rings under a
 /// limit are left out, and the report of it.
 pub fn simplify_topology<Q: Reducer>(
     alloc: Global,
     reducer: &mut Q,
     topology: Topology,
     counts: Counts,
+    guards: Guards,
     t: u128,
     ring_limit: u128,
 ) -> Result<(Topology, Report), Memory>
     requires { ring_limit ≤ threshold_limit }
-    ensures left { IfOk result (λ r. (r.0 ≡ simplified_contents t ring_limit topology) × (r.1 ≡ spec.report_of t ring_limit topology counts)) }
-    ensures called { IfOk result (λ _. Q.calls reducer.new ≡ Q.calls reducer.old ++ spec.calls_of t topology) }
+    ensures left { IfOk result (λ r. (r.0 ≡ simplified_under guards t ring_limit topology) × (r.1 ≡ spec.report_of guards t ring_limit topology counts)) }
+    ensures called { IfOk result (λ _. Q.calls reducer.new ≡ Q.calls reducer.old ++ spec.calls_of guards t topology) }
 {
-    let (less, dropped, removed) = reduced_topology(alloc, reducer, topology, t, ring_limit)?;
+    let (less, dropped, removed) = topology_under(alloc, reducer, topology, guards, t, ring_limit)?;
     let report = report_of(counts, dropped, less.arcs(), removed, None);
     Ok((less, report))
 }

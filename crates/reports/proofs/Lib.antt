@@ -1,5 +1,5 @@
 mod Examples
-mod Lines
+pub mod Lines
 pub mod Lists
 mod Objects
 pub mod Reported

@@ -8,9 +8,11 @@ returns-in-None-clause-layers c =
     (sym c.name_and_path.ensures.layer ∙ ap (option_map as_texts) c.in-None.is))
 
 pub returns-in-None-clause-fault : goal.returns-in-None-clause-fault
-returns-in-None-clause-fault c =
-    first_without c.args.words.now c.words.layer _ c.words-test.true c.words.invariant.cut
-    (sym c.name_and_path.ensures.layer ∙ ap (option_map as_texts) c.in-None.is)
+returns-in-None-clause-fault c = (
+  first_without c.args.words.now c.words.layer _ c.words-test.true c.words.invariant.cut
+      (sym c.name_and_path.ensures.layer ∙ ap (option_map as_texts) c.in-None.is),
+  c.in_ok-advice-in-None.ensures,
+)
 
 pub words-preserved : goal.words-preserved
 words-preserved c = record {

@@ -23,7 +23,7 @@ pub returns-in_err-layers-clause-asked : goal.returns-in_err-layers-clause-asked
 returns-in_err-layers-clause-asked c =
     let rows = entries_of c.args.arguments.now in
     let one = sym c.has_both.ensures ∙ c.if-has_both.false in
-    let texts = read_all_or (found_of c.args.arguments.now) (codes "layers") c.get_strs.result c.unwrap_or.result _ c.get_strs.ensures c.unwrap_or.ensures refl in
+    let texts = read_all_or (found_of c.args.arguments.now) (codes "layers") c.get_strs.result c.unwrap_or-words.result _ c.get_strs.ensures c.unwrap_or-words.ensures refl in
     let fact : (c.in_err-layers.field-0.0 ≡ Memory) ⊎ (build_in rows ≡ None) = elim c.in_err-layers.ensures.layers [
       | inl h ↦ inl h
       | inr h ↦ inr (build_unasked rows c.in_ok-grid.grid one c.in_ok-grid.ensures.grid (ap layers_of (sym texts) ∙ h))
@@ -34,7 +34,7 @@ pub returns-clause-asked : goal.returns-clause-asked
 returns-clause-asked c =
     let rows = entries_of c.args.arguments.now in
     let one = sym c.has_both.ensures ∙ c.if-has_both.false in
-    let texts = read_all_or (found_of c.args.arguments.now) (codes "layers") c.get_strs.result c.unwrap_or.result _ c.get_strs.ensures c.unwrap_or.ensures refl in
+    let texts = read_all_or (found_of c.args.arguments.now) (codes "layers") c.get_strs.result c.unwrap_or-words.result _ c.get_strs.ensures c.unwrap_or-words.ensures refl in
     build_asked rows c.in_ok-grid.grid _ c.is_exact-exact.result _ _ _ one c.in_ok-grid.ensures.grid (ap layers_of (sym texts) ∙ c.in_ok-layers.ensures.layers)
     c.is_exact-exact.ensures c.area_of-area.ensures c.keep_of-keep.ensures c.ring_area_of-ring_area.ensures
 
@@ -42,6 +42,6 @@ pub returns-in_err-layers-clause-fault : goal.returns-in_err-layers-clause-fault
 returns-in_err-layers-clause-fault c =
     let rows = entries_of c.args.arguments.now in
     let one = sym c.has_both.ensures ∙ c.if-has_both.false in
-    let texts = read_all_or (found_of c.args.arguments.now) (codes "layers") c.get_strs.result c.unwrap_or.result _ c.get_strs.ensures c.unwrap_or.ensures refl in
-    let fact : IsBuildFault rows c.in_err-layers.field-0.0 = layers_fault rows c.in_ok-grid.grid _ c.in_err-layers.field-0.0 one c.in_ok-grid.ensures.grid texts c.in_err-layers.ensures.fault in
+    let texts = read_all_or (found_of c.args.arguments.now) (codes "layers") c.get_strs.result c.unwrap_or-words.result _ c.get_strs.ensures c.unwrap_or-words.ensures refl in
+    let fact : IsBuildFault rows c.in_err-layers.field-0.0 = layers_fault rows c.in_ok-grid.grid _ c.in_err-layers.field-0.0 one c.in_ok-grid.ensures.grid texts (rw c.is_explained.ensures at c.in_err-layers.ensures.fault) in
     search (rules, fact)

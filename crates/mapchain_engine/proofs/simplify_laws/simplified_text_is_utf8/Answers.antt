@@ -1,18 +1,17 @@
 use Rattle.std.proofs.Common.{subst, sym}
-use Rattle.simplified_topology.specs.Thresholds.{simplified_contents, reduced_indexes}
-use Rattle.topojson_types.specs.Validity.{IsTransformed}
 use Rattle.json_value.specs.Limits.{topology_depth}
+use Rattle.layer_topology.specs.Guarded.{simplified_under}
+use Rattle.topojson_types.specs.Validity.{IsTransformed}
 use Rattle.mapchain_engine.proofs.SimplifiedTexts.{numbers_kept, texts_kept}
 use Rattle.mapchain_engine.proofs.simplify_laws.simplified_text_is_utf8.Goals as goal
 
 pub returns : goal.returns
-unfolding simplified_contents
-returns c = λ t limit bytes contents counts spells.
+returns c = λ guards t limit bytes contents counts spells.
     let v = spells.value in
     let formed = c.read_values_are_well_formed.ensures topology_depth bytes v spells.utf8 spells.spelled in
     let valid = c.topology_is_valid.ensures v contents counts spells.stands in
-    let keeps = c.simplified_keeps.ensures (reduced_indexes t contents) limit contents in
+    let left = c.simplified_under_law.ensures guards t limit contents in
     let numbers = c.numbers_stay.ensures v contents counts formed.numbers spells.stands in
     let texts = c.texts_stay.ensures v contents counts formed.texts spells.stands in
-    c.topology_text_is_utf8.ensures (simplified_contents t limit contents) (subst IsTransformed (sym keeps.1) valid.transform) (numbers_kept contents (simplified_contents t limit contents) keeps.0 numbers)
-    (texts_kept contents (simplified_contents t limit contents) keeps.0 texts)
+    c.topology_text_is_utf8.ensures (simplified_under guards t limit contents) (subst IsTransformed (sym left.transform) valid.transform)
+    (numbers_kept contents (simplified_under guards t limit contents) left.labels_stay numbers) (texts_kept contents (simplified_under guards t limit contents) left.labels_stay texts)

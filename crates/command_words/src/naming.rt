@@ -1,0 +1,44 @@
+// What a layer may be called whose word is a path alone.
+ghost use Rattle.std.specs.Prelude.{IfOk};
+ghost use Rattle.std.specs.String.{string_bytes};
+ghost use Rattle.command_words.specs.Faults.{IsAdvice};
+
+use std::alloc::{AllocError, Global};
+
+/// Whether a terminal shows the letter as it is.
+fn is_shown(letter: char) -> bool {
+    let code = u32::from(letter);
+    code >= 0x20 && !(0x7f..0xa0).contains(&code)
+}
+
+/// What stands after the last `/`.
+fn last_part(path: &str) -> &str {
+    let mut last = path;
+    for part in path.split('/') {
+        last = part;
+    }
+    last
+}
+
+/// The name that a path suggests: its last part, up to the first point in it.
+fn suggested_name(path: &str) -> &str {
+    let last = last_part(path);
+    match last.split_once('.') {
+        Some((name, _)) => name,
+        None => last,
+    }
+}
+
+/// How the layer of a word is named that has no `=`, as a line, where that is asked and its path suggests a name.
+pub(crate) fn naming(alloc: Global, word: &str, is_asked: bool) -> Result<String, AllocError>
+    ensures { IfOk result (λ t. IsAdvice is_asked (string_bytes t)) }
+{
+    if !is_asked {
+        return Ok(String::new(alloc));
+    }
+    let name = suggested_name(word);
+    if name.is_empty() || !word.chars().all(is_shown) {
+        return Ok(String::new(alloc));
+    }
+    format!(in alloc; "  name it: {name}={word}\n")
+}

@@ -1,0 +1,40 @@
+// Laws of the definitions. A function here changes nothing: its contract is the law.
+ghost use Rattle.layer_topology.specs.GuardedLaws.{GuardedIsAssembledOf, SimplifiedUnderLaw, WrittenUnderLaw};
+
+use crate::laws::{simplifies_to_written, written_laws};
+use simplified_topology::{
+    guarded_crossings_never_rise, guarded_is_assembled, guarded_is_valid, guarded_keeps,
+    guarded_none_stays_none, reduced_is_valid, simplified_keeps, snapped_are_on,
+};
+
+/// What is left of a valid topology is valid, with the same names, identifiers, properties and transform, whatever guards are asked for.
+/// Where no crossing may be made, no more pairs of its segments meet badly than of the topology, and none where none of that did.
+pub fn simplified_under_law()
+    ensures { SimplifiedUnderLaw }
+{
+    reduced_is_valid();
+    simplified_keeps();
+    guarded_is_valid();
+    guarded_keeps();
+    guarded_crossings_never_rise();
+    guarded_none_stays_none();
+}
+
+/// What is written of layers under the guards that are asked for is valid, has the layers' names and the same identifiers and properties as
+/// without one, is what is left of the topology that is written at zero, and crosses no more than that where no crossing may be made.
+pub fn written_under_law()
+    ensures { WrittenUnderLaw }
+{
+    simplified_under_law();
+    simplifies_to_written();
+    written_laws();
+}
+
+/// Where no crossing may be made, it is assembled of the snapped layers: of the arcs that they have at zero, reduced at once, and of the others
+/// whole.
+pub fn guarded_is_assembled_of()
+    ensures { GuardedIsAssembledOf }
+{
+    snapped_are_on();
+    guarded_is_assembled();
+}

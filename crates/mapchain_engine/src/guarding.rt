@@ -1,0 +1,66 @@
+// Reducing all arcs of a topology that was read at once.
+ghost use Rattle.std.specs.Prelude.{◌≡◌, ◌≤◌, IfOk, length, map, true};
+ghost use Rattle.std.specs.List.{AllByRecursion};
+ghost use Rattle.std.specs.Option.{option_copied};
+ghost use Rattle.byte_ends.specs.Ends.{saturated};
+ghost use Rattle.geometry.specs.Units.{threshold_limit};
+ghost use Rattle.simplified_topology.specs.Guarded.{guarded_contents, guarded_dropped, guarded_indexes, guarded_removed_count};
+ghost use Rattle.topojson_types.specs.Decoding.{placed_arcs};
+ghost use Rattle.topojson_types.specs.Validity.{IsArc};
+
+use byte_ends::Memory;
+use geojson_types::{Dropped, Position};
+use guarded_reduction::reduce_without_crossings;
+use json_value::Items;
+use simplified_topology::guarded_indexes_reach;
+use std::alloc::Global;
+use topo_model::Reduces;
+use topojson_features::positions;
+use topojson_types::{Cell, Topology, Transform};
+
+/// The positions that each of these arcs stands for.
+fn arc_positions(
+    alloc: Global,
+    transform: Option<&Transform>,
+    arcs: &[Items<Cell>],
+) -> Result<Vec<Items<Position>>, Memory>
+    requires { AllByRecursion (IsArc (option_copied transform)) arcs.now }
+    ensures { IfOk result (λ lines. lines.items ≡ placed_arcs (option_copied transform.entry) arcs.now) }
+{
+    let mut lines = Vec::with_capacity(alloc, arcs.len())?;
+    'arcs: for arc in arcs {
+        lines.push(positions(alloc, transform, arc.as_slice())?)?;
+    }
+    Ok(lines)
+}
+
+/// Of each arc of a topology the numbers of the cells that stay where all arcs are reduced at once and no crossing may be made.
+fn kept_cells(alloc: Global, topology: &Topology, t: u128) -> Result<Vec<Vec<usize>>, Memory>
+    ensures { IfOk result (λ kept. map (λ k. k.items) kept.items ≡ guarded_indexes true t topology.now) }
+{
+    let lines = arc_positions(alloc, topology.transform(), topology.arcs())?;
+    reduce_without_crossings(alloc, &lines, t)
+}
+
+/// What is left of a topology where all arcs are reduced at once at a threshold, no crossing may be made, and rings under a limit are left
+/// out, the lines and rings that are dropped, and how many positions are removed from the arcs that stay.
+pub fn guarded_topology(
+    alloc: Global,
+    topology: Topology,
+    t: u128,
+    ring_limit: u128,
+) -> Result<(Topology, Vec<Dropped>, u64), Memory>
+    requires { ring_limit ≤ threshold_limit }
+    ensures topology { IfOk result (λ r. r.0 ≡ guarded_contents true t ring_limit topology) }
+    ensures dropped { IfOk result (λ r. r.1.items ≡ guarded_dropped true t ring_limit topology) }
+    ensures removed_count { IfOk result (λ r. r.2 ≡ saturated (guarded_removed_count true t ring_limit topology)) }
+{
+    guarded_indexes_reach();
+    match kept_cells(alloc, &topology, t) {
+        Ok(kept) => topology.reduce(alloc, &kept, ring_limit),
+        Err(fault) => {
+            drop(topology);
+            Err(fault)
+        }
+    }
+}

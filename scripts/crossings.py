@@ -1,0 +1,155 @@
+#!/usr/bin/env python3
+"""Holds `simplify --no-crossings` to its definition, on random small topologies:
+
+    scripts/crossings.py N [--program path/to/mapchain] [--seed N]
+
+N topologies are made, of few arcs between few places, so that lines cross, touch, lie on one another and go back, and so that corners wait for
+others. Each is simplified by the program, and here by the definition itself: of all corners under the threshold that may go the least goes, again
+and again, and each is looked at anew each time. It ends with status 1 where the arcs differ, or where more pairs of segments
+meet badly than before. The last line says how many were tried, and how often the option made a difference.
+"""
+import argparse
+import json
+import os
+import random
+import subprocess
+import sys
+import tempfile
+
+HERE = os.path.dirname(os.path.realpath(__file__))
+
+
+def cross(a, b, q):
+    """The cross product of the ways from a to b and from a to q."""
+    return (b[0] - a[0]) * (q[1] - a[1]) - (b[1] - a[1]) * (q[0] - a[0])
+
+
+def is_on(a, b, q):
+    """Whether q lies on the segment from a to b."""
+    if cross(a, b, q) != 0:
+        return False
+    return min(a[0], b[0]) <= q[0] <= max(a[0], b[0]) and min(a[1], b[1]) <= q[1] <= max(a[1], b[1])
+
+
+def holds(a, p, c, q):
+    """Whether the closed triangle of a, p and c holds q."""
+    if is_on(a, c, q) or is_on(a, p, q) or is_on(p, c, q):
+        return True
+    turns = [cross(a, p, q), cross(p, c, q), cross(c, a, q)]
+    return cross(a, p, c) != 0 and (all(turn >= 0 for turn in turns) or all(turn <= 0 for turn in turns))
+
+
+def meets_badly(one, other):
+    """Whether two segments have more in common than an end of both."""
+    (a, b), (c, d) = one, other
+    if {a, b} == {c, d}:
+        return True
+    sides = lambda x, y, u, v: cross(x, y, u) * cross(x, y, v) < 0
+    if sides(a, b, c, d) and sides(c, d, a, b):
+        return True
+    touches = lambda x, y, q: is_on(x, y, q) and q not in (x, y)
+    return touches(a, b, c) or touches(a, b, d) or touches(c, d, a) or touches(c, d, b)
+
+
+def crossings(arcs):
+    """How many pairs of segments of arcs meet badly."""
+    segments = [pair for arc in arcs for pair in zip(arc, arc[1:]) if pair[0] != pair[1]]
+    return sum(meets_badly(one, other) for i, one in enumerate(segments) for other in segments[:i])
+
+
+def may_go(arcs, k, i):
+    """Whether the corner of arc k at its place i may go: no place is in its triangle, and nothing joins its neighbours."""
+    (_, a), (_, p), (_, c) = arcs[k][i - 1 : i + 2]
+    for j, arc in enumerate(arcs):
+        for m, (_, q) in enumerate(arc):
+            if (j, m) != (k, i) and q not in (a, c) and holds(a, p, c, q):
+                return False
+        for m in range(len(arc) - 1):
+            own = j == k and m in (i - 1, i)
+            if a != c and not own and {arc[m][1], arc[m + 1][1]} == {a, c}:
+                return False
+    return True
+
+
+def reduced(arcs, threshold):
+    """The arcs by the definition. A corner is under the threshold where twice its area is."""
+    arcs = [list(enumerate(arc)) for arc in arcs]
+    while True:
+        corners = []
+        for k, arc in enumerate(arcs):
+            for i in range(1, len(arc) - 1):
+                area = abs(cross(arc[i - 1][1], arc[i][1], arc[i + 1][1]))
+                if area < threshold:
+                    corners.append((area, arc[i][1], k, arc[i][0], i))
+        chosen = next((corner for corner in sorted(corners) if may_go(arcs, corner[2], corner[4])), None)
+        if chosen is None:
+            return [[p for _, p in arc] for arc in arcs]
+        del arcs[chosen[2]][chosen[4]]
+
+
+def made(source):
+    """The arcs of a topology: each goes from one of a few places to another, by others."""
+    size = source.choice((2, 3, 3, 4, 5, 8))
+    place = lambda: (source.randrange(size), source.randrange(size))
+    ends = [place() for _ in range(3)]
+    arcs = []
+    for _ in range(source.randrange(1, 6)):
+        arcs.append([source.choice(ends)] + [place() for _ in range(source.randrange(0, 8))] + [source.choice(ends)])
+        if source.random() < 0.15:
+            arcs.append(arcs[-1][:: source.choice((1, -1))])
+    return arcs
+
+
+def text_of(arcs):
+    lines = [{"type": "LineString", "arcs": [k]} for k in range(len(arcs))]
+    objects = {"a": {"type": "GeometryCollection", "geometries": lines}}
+    return json.dumps({"type": "Topology", "objects": objects, "arcs": arcs})
+
+
+def simplified(program, room, arcs, area, options):
+    """The arcs that the program leaves. A line that is left with one position is dropped with its arc, so there is an arc for each line that stays."""
+    path = os.path.join(room, "map.topojson")
+    with open(path, "w", encoding="utf-8") as file:
+        file.write(text_of(arcs))
+    ran = subprocess.run([program, "simplify", *options, "--min-area", str(area), path], capture_output=True, check=True)
+    topology = json.loads(ran.stdout)
+    lines = [line["arcs"][0] if line["type"] else None for line in topology["objects"]["a"]["geometries"]]
+    return [None if k is None else [tuple(p) for p in topology["arcs"][k]] for k in lines]
+
+
+def is_small(arc):
+    """Whether a line is left with one position, with equal neighbours as one."""
+    return all(p == arc[0] for p in arc)
+
+
+def main():
+    words = argparse.ArgumentParser()
+    words.add_argument("many", type=int)
+    words.add_argument("--program")
+    words.add_argument("--seed", type=int, default=1)
+    given = words.parse_args()
+    program = given.program or subprocess.run([f"{HERE}/program-path.sh"], capture_output=True, check=True, text=True).stdout.strip()
+    source = random.Random(given.seed)
+    wrong = differing = held = 0
+    with tempfile.TemporaryDirectory() as room:
+        for number in range(given.many):
+            arcs = made(source)
+            area = source.choice((0.5, 1, 1.5, 2.5, 4.5, 10, 50))
+            wanted = reduced(arcs, 2 * area)
+            got = simplified(program, room, arcs, area, ["--no-crossings"])
+            if [None if is_small(arc) else arc for arc in wanted] != got:
+                wrong += 1
+                print(f"topology {number} at {area}: {text_of(arcs)}\n  wanted {wanted}\n  got    {got}")
+            left = [arc for arc in got if arc]
+            if crossings(left) > crossings(arcs):
+                wrong += 1
+                print(f"topology {number} at {area} has more crossings: {text_of(arcs)}")
+            plain = simplified(program, room, arcs, area, [])
+            differing += plain != got
+            held += crossings([arc for arc in plain if arc]) > crossings(arcs)
+    print(f"crossings: {given.many} topologies tried, {wrong} wrong; the option made a difference to {differing}, and {held} had more crossings without it")
+    return 1 if wrong else 0
+
+
+if __name__ == "__main__":
+    sys.exit(main())

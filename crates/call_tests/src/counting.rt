@@ -4,7 +4,7 @@ use byte_ends::devices::{CutReader, Fault};
 use byte_ends::{FromRead, MemoryDrain, Sink, Source};
 use decimal_json::OwnText;
 use effective_area::{HeapLinks, Steps};
-use mapchain_engine::{Level, Options, build, simplify};
+use mapchain_engine::{Guards, Level, Options, build, simplify};
 use std::alloc::Global;
 
 const LAYER: &[u8] =
@@ -49,6 +49,9 @@ fn steps_of_simplifying(alloc: Global) -> Option<Steps> {
         alloc,
         &mut heap,
         &mut source(TOPOLOGY),
+        Guards {
+            no_crossings: false,
+        },
         THRESHOLD,
         0,
         &mut sink,

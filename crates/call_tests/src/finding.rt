@@ -1,6 +1,6 @@
 // What is found of a roof, a line whose end is under it, and a line from one of its ends to the other.
 use geometry::Position;
-use position_index::{Blocked, Corner, Joined, Links, PositionIndex};
+use guarded_reduction::{Blocked, Corner, Joined, Links, PositionIndex};
 use std::test::Fail;
 
 #[test]

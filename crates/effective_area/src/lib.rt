@@ -15,6 +15,7 @@
 mod caching;
 mod call_log;
 mod candidate;
+mod crossing;
 mod entry;
 mod heap_links;
 mod indexes;
@@ -32,6 +33,7 @@ mod thresholds;
 mod weighing;
 mod weight;
 
+pub use crossing::cross;
 pub use geometry::ring_under;
 pub use heap_links::HeapLinks;
 pub use laws::{capped_is_enough, kept_at_is_reduced, share_is_greatest};

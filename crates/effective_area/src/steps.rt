@@ -1,8 +1,9 @@
-ghost use Rattle.std.specs.Prelude.{◌≡◌, ◌≤◌, ◌<◌, ◌*◌, ◌-ℤ◌, ◌*ℤ◌, unsigned_abs};
+ghost use Rattle.std.specs.Prelude.{◌≡◌, ◌<◌};
 ghost use Rattle.effective_area.specs.Counts.{RoseAtMost, RoseBy, no_steps, one_area, one_push};
 ghost use Rattle.geometry.specs.Areas as spec;
-ghost use Rattle.geometry.specs.Units.{area_limit, position_limit};
+ghost use Rattle.geometry.specs.Units.{area_limit};
 
+use crate::crossing::cross;
 use geometry::Position;
 
 /// What a reducer did so far. A count that is at the greatest `u64` stays there, and then means that many or more.
@@ -42,35 +43,14 @@ impl Steps {
     }
 }
 
-/// A difference of coordinates.
-fn difference(a: i64, b: i64) -> i64
-    requires a { unsigned_abs a ≤ position_limit }
-    requires b { unsigned_abs b ≤ position_limit }
-    ensures value { result ≡ a -ℤ b }
-    ensures bound { unsigned_abs result ≤ 2 * position_limit }
-{
-    a - b
-}
-
-/// A product of differences.
-fn product(a: i64, b: i64) -> i128
-    requires a { unsigned_abs a ≤ 2 * position_limit }
-    requires b { unsigned_abs b ≤ 2 * position_limit }
-    ensures value { result ≡ a *ℤ b }
-    ensures bound { unsigned_abs result ≤ 4 * position_limit * position_limit }
-{
-    a as i128 * b as i128
-}
-
 /// Twice the area of the triangle between three positions, in square units: for a position and its two neighbours, twice its
 /// effective area (Visvalingam and Whyatt 1993). It is counted.
+#[tactic(auto, unfolding(geometry::specs::Areas::twice_area))]
 pub fn twice_area(steps: &mut Steps, a: Position, b: Position, c: Position) -> u128
     ensures value { result ≡ spec.twice_area a b c }
     ensures bound { result < area_limit }
     ensures counted { steps.new ≡ one_area steps.old }
 {
     steps.count_area();
-    let left = product(difference(b.x(), a.x()), difference(c.y(), a.y()));
-    let right = product(difference(c.x(), a.x()), difference(b.y(), a.y()));
-    (left - right).unsigned_abs()
+    cross(a, b, c).unsigned_abs()
 }

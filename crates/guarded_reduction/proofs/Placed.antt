@@ -4,12 +4,13 @@ use Rattle.std.specs.List.{AllByRecursion, filter}
 use Rattle.std.proofs.lemmas.List.{get_or_append_left, get_or-append-add}
 use Rattle.owned_values.proofs.Elements.{all_append}
 use Rattle.owned_values.proofs.Members.{in_left, in_right, in_append}
+use Rattle.junctions.proofs.Members.{in_map, from_map}
 use Rattle.geometry.specs.Lists.{In, joined}
 use Rattle.geometry.specs.Points.{Point}
 use Rattle.elimination_meaning.specs.Elimination.{Vertex, numbered}
 use Rattle.guarded_meaning.specs.Arcs.{Place, place_at, places, Neighbours, neighbours_at, neighbours_from, neighbours, all_neighbours}
 use Rattle.guarded_meaning.specs.Weights.{passing}
-use Rattle.position_index.specs.Indexes.{origin, point_at}
+use Rattle.guarded_reduction.specs.Indexes.{origin, point_at}
 use Rattle.guarded_reduction.specs.Numbers.{number, HasPlace}
 
 -- the vertex of this index in the arc of this number
@@ -25,18 +26,6 @@ point_here ps arcs i h = get_or_append_left ps (joined arcs) origin i h
 point_later : (ps : List Point) (arcs : List (List Point)) (n : ℕ) → point_at (ps ++ joined arcs) (length ps + n) ≡ point_at (joined arcs) n
 unfolding point_at
 point_later ps arcs n = get_or-append-add ps (joined arcs) n origin
-
--- ---- what is mapped
-
-pub in_map : {X Y : Type 0} (f : X → Y) (x : X) (xs : List X) → In x xs → In (f x) (map f xs)
-in_map f x [] m = elim m [ ]
-in_map f x (y ∷ ys) (inl e) = inl (ap f e)
-in_map f x (y ∷ ys) (inr m) = inr (in_map f x ys m)
-
-pub of_map : {X Y : Type 0} (f : X → Y) (y : Y) (xs : List X) → In y (map f xs) → (x : X) × In x xs × (y ≡ f x)
-of_map f y [] m = elim m [ ]
-of_map f y (x ∷ xs) (inl e) = (x, inl refl, e)
-of_map f y (x ∷ xs) (inr m) = let r = of_map f y xs m in (r.0, inr r.1, r.2)
 
 -- ---- places of an arc
 
@@ -84,7 +73,7 @@ placed k [] x m = elim m [ ]
 placed k (ps ∷ arcs) x m = on (in_append x (map (place_at k) (numbered 0 ps)) (places (suc k) (map (numbered 0) arcs)) m) (λ n. placed (suc k) arcs x n)
   where
     on : In x (map (place_at k) (numbered 0 ps)) ⊎ In x (places (suc k) (map (numbered 0) arcs)) → (In x (places (suc k) (map (numbered 0) arcs)) → IsPlaced (suc k) arcs x) → IsPlaced k (ps ∷ arcs) x
-    on (inl n) f = placed_here k ps arcs x (of_map (place_at k) x (numbered 0 ps) n)
+    on (inl n) f = placed_here k ps arcs x (from_map (place_at k) x (numbered 0 ps) n)
     on (inr n) f = let r = f n in record { m = suc r.m; arc = omega (arith, r.arc); there = r.there; point = r.point ∙ sym (point_later ps arcs (number arcs r.m x.vertex.index)) }
 
 pub in_places : (k : ℕ) (arcs : List (List Point)) (m i n : ℕ) → n ≡ k + m → HasPlace arcs m i → In (place_at n (vertex_of arcs m i)) (places k (map (numbered 0) arcs))

@@ -12,11 +12,11 @@ use Rattle.geometry.specs.Points.{Point}
 use Rattle.geometry.specs.Rings.{same}
 use Rattle.geometry.specs.Units.{area_limit}
 use Rattle.effective_area.proofs.HeapLaws.{contains_cases, contains_here, contains_later}
-use Rattle.position_index.specs.declared.query.Corner.{Corner}
-use Rattle.position_index.specs.Blocking.{is_blocked_by, is_joined_at, joins_ends, leads_on}
-use Rattle.position_index.specs.Indexes.{Meets, NoneMeets, is_left_at, point_at}
-use Rattle.position_index.specs.Tests.{is_held_by}
-use Rattle.position_index.proofs.Indexes.{left_before}
+use Rattle.guarded_reduction.specs.declared.query.Corner.{Corner}
+use Rattle.guarded_reduction.specs.Blocking.{is_blocked_by, is_joined_at, joins_ends, leads_on}
+use Rattle.guarded_reduction.specs.Indexes.{Meets, NoneMeets, is_left_at, point_at}
+use Rattle.guarded_reduction.specs.Tests.{is_held_by}
+use Rattle.guarded_reduction.proofs.Indexes.{left_before}
 use Rattle.guarded_reduction.specs.declared.entry.Entry.{Entry}
 use Rattle.guarded_reduction.specs.Entries.{AreBelow, IsCurrent, IsDue, IsSound, entry_at, entry_in, turned, turned_cmp}
 use Rattle.guarded_reduction.specs.Linking.{Linked, IsChained, IsCorner, IsWhole, corner_in, unlinked}

@@ -17,8 +17,8 @@ use Rattle.guarded_meaning.proofs.Lists.{passed_says}
 use Rattle.guarded_meaning.proofs.Neighbours.{AreParted, all_parted, AreAmong, all_among, Rises, all_ascend}
 use Rattle.guarded_meaning.proofs.Removal.{all_numbered_own}
 use Rattle.guarded_meaning.proofs.Thinned.{numbered_rising, sub_rising}
-use Rattle.position_index.specs.Indexes.{is_left_at, point_at}
-use Rattle.position_index.specs.Laws.{IsLinked, Leads}
+use Rattle.guarded_reduction.specs.Indexes.{is_left_at, point_at}
+use Rattle.guarded_reduction.specs.Laws.{IsLinked, Leads}
 use Rattle.guarded_reduction.specs.Entries.{entry_in}
 use Rattle.guarded_reduction.specs.Linking.{Linked, IsChained, IsCorner, IsShowing}
 use Rattle.guarded_reduction.specs.Numbers.{number, HasPlace, left_arcs}

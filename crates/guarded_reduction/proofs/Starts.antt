@@ -10,8 +10,8 @@ use Rattle.elimination_meaning.specs.Elimination.{Vertex, numbered}
 use Rattle.guarded_meaning.specs.Arcs.{Place, place_at, places, Neighbours, neighbours_at, all_neighbours}
 use Rattle.guarded_meaning.specs.Elimination.{Guard, eliminate_arcs, remaining_arcs}
 use Rattle.guarded_meaning.proofs.Neighbours.{AreAmong, all_among}
-use Rattle.position_index.specs.Indexes.{is_left_at, point_at}
-use Rattle.position_index.specs.Laws.{IsLinked, IsPlace, IsShown, Leads, Shows, ShowsOnly}
+use Rattle.guarded_reduction.specs.Indexes.{is_left_at, point_at}
+use Rattle.guarded_reduction.specs.Laws.{IsLinked, IsPlace, IsShown, Leads, Shows, ShowsOnly}
 use Rattle.guarded_reduction.specs.First.{Neighbour, after_index, arc_links, before_index, first_linked, links_of}
 use Rattle.guarded_reduction.specs.Linking.{Linked, IsShowing, IsWhole}
 use Rattle.guarded_reduction.specs.Numbers.{number, HasPlace, left_arcs}

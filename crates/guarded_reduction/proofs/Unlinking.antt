@@ -12,9 +12,9 @@ use Rattle.guarded_meaning.proofs.Agendas.{holder_stays, places_passing}
 use Rattle.guarded_meaning.proofs.Lists.{passed_says}
 use Rattle.guarded_meaning.proofs.Neighbours.{AreParted, all_parted}
 use Rattle.guarded_meaning.proofs.Weights.{left_passing}
-use Rattle.position_index.specs.Indexes.{is_left_at, point_at}
-use Rattle.position_index.specs.Laws.{IsLinked, IsPlace, IsShown, Leads, Shows, ShowsOnly}
-use Rattle.position_index.proofs.Indexes.{left_before}
+use Rattle.guarded_reduction.specs.Indexes.{is_left_at, point_at}
+use Rattle.guarded_reduction.specs.Laws.{IsLinked, IsPlace, IsShown, Leads, Shows, ShowsOnly}
+use Rattle.guarded_reduction.proofs.Indexes.{left_before}
 use Rattle.guarded_reduction.specs.Linking.{Linked, IsShowing, IsWhole, unlinked}
 use Rattle.guarded_reduction.specs.Numbers.{number, HasPlace, left_arcs}
 use Rattle.guarded_reduction.proofs.Numbers.{same_number}

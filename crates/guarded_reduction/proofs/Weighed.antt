@@ -13,7 +13,7 @@ use Rattle.guarded_meaning.specs.Arcs.{ArcCorner, Place, place_at, places, is_pl
 use Rattle.guarded_meaning.specs.Elimination.{Guard, next_corner}
 use Rattle.guarded_meaning.specs.Guards.{guarded_by}
 use Rattle.guarded_meaning.specs.Weights.{interior_places, interior_weights, weight, weight_from}
-use Rattle.position_index.specs.Indexes.{is_left_at}
+use Rattle.guarded_reduction.specs.Indexes.{is_left_at}
 use Rattle.guarded_reduction.specs.First.{first_linked}
 use Rattle.guarded_reduction.specs.declared.entry.Entry.{Entry}
 use Rattle.guarded_reduction.specs.Linking.{Linked, unlinked}
@@ -21,7 +21,8 @@ use Rattle.guarded_reduction.specs.Numbers.{left_arcs, number, HasPlace}
 use Rattle.guarded_reduction.specs.Weighing.{AreWeights, IsWeighing, all_inner_levels, inner_levels, level_at}
 use Rattle.guarded_reduction.proofs.Next.{IsGone}
 use Rattle.guarded_reduction.proofs.Numbers.{number_within, same_number}
-use Rattle.guarded_reduction.proofs.Placed.{in_map, placed}
+use Rattle.junctions.proofs.Members.{in_map}
+use Rattle.guarded_reduction.proofs.Placed.{placed}
 use Rattle.guarded_reduction.proofs.Showing.{other_place, place_of}
 use Rattle.guarded_reduction.proofs.Starts.{all_left, left_first}
 use Rattle.guarded_reduction.proofs.Unlinking.{gone_at, same_at}

@@ -1,7 +1,15 @@
+pub mod Blocking
 pub mod Entries
+pub mod Extents
 pub mod First
+pub mod Indexes
+pub mod Laws
 pub mod Linking
 pub mod Numbers
+pub mod Orders
+pub mod Shown
 pub mod States
+pub mod Tests
+pub mod Trees
 pub mod Waiting
 pub mod Weighing

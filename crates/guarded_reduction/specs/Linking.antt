@@ -2,9 +2,9 @@
 use Rattle.std.specs.Prelude.{◌≡◌, ◌≢◌, ℕ, ◌<◌, ◌^◌, Bool, true, false, List, length, slice_index, slice_set}
 use Rattle.geometry.specs.Lists.{joined}
 use Rattle.geometry.specs.Points.{Point}
-use Rattle.position_index.specs.declared.query.Corner.{Corner}
-use Rattle.position_index.specs.Indexes.{is_left_at, point_at}
-use Rattle.position_index.specs.Laws.{Shows, ShowsOnly}
+use Rattle.guarded_reduction.specs.declared.query.Corner.{Corner}
+use Rattle.guarded_reduction.specs.Indexes.{is_left_at, point_at}
+use Rattle.guarded_reduction.specs.Laws.{Shows, ShowsOnly}
 use Rattle.guarded_reduction.specs.Numbers.{number, left_arcs}
 
 -- the positions of all places, which places are left, and the neighbours of these: the place itself where there is none

@@ -4,7 +4,7 @@ use Rattle.std.specs.List.{filter, range_with_len}
 use Rattle.geometry.specs.Points.{Point}
 use Rattle.elimination_meaning.specs.Elimination.{Vertex, numbered}
 use Rattle.guarded_meaning.specs.Weights.{passing}
-use Rattle.position_index.specs.Indexes.{is_left_at}
+use Rattle.guarded_reduction.specs.Indexes.{is_left_at}
 
 -- the number of the place of this index in the arc of this number
 abbrev pub number : List (List Point) → ℕ → ℕ → ℕ

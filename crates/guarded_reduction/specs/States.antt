@@ -4,9 +4,9 @@ use Rattle.std.specs.List.{Contains}
 use Rattle.std.specs.Ordering.{is_lt}
 use Rattle.std.specs.declared.cmp.Reverse.{Reverse}
 use Rattle.geometry.specs.Units.{area_limit}
-use Rattle.position_index.specs.Blocking.{is_blocked_by}
-use Rattle.position_index.specs.Indexes.{NoneMeets, is_left_at, point_at}
-use Rattle.position_index.specs.Tests.{Test, is_held_by}
+use Rattle.guarded_reduction.specs.Blocking.{is_blocked_by}
+use Rattle.guarded_reduction.specs.Indexes.{NoneMeets, is_left_at, point_at}
+use Rattle.guarded_reduction.specs.Tests.{Test, is_held_by}
 use Rattle.guarded_reduction.specs.declared.entry.Entry.{Entry}
 use Rattle.guarded_reduction.specs.Entries.{entry_cmp, turned, entry_in, IsDue, IsSound}
 use Rattle.guarded_reduction.specs.Linking.{Linked, IsCorner, corner_in}

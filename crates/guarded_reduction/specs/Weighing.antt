@@ -7,7 +7,7 @@ use Rattle.elimination_meaning.specs.Elimination.{numbered}
 use Rattle.guarded_meaning.specs.Arcs.{Place, places}
 use Rattle.guarded_meaning.specs.Guards.{guarded_by}
 use Rattle.guarded_meaning.specs.Weights.{weight, weight_from}
-use Rattle.position_index.specs.Indexes.{is_left_at}
+use Rattle.guarded_reduction.specs.Indexes.{is_left_at}
 use Rattle.guarded_reduction.specs.Numbers.{left_arcs, number}
 
 -- the level at which a place went, if it is gone

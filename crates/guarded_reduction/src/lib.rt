@@ -1,18 +1,42 @@
 //! Guarded reduction of all arcs at once, in code: of all corners under a threshold the least goes again and again, where no crossing is made of it.
-//! It stands on `guarded_meaning`, whose definition it answers, and on `position_index`, which finds what keeps a corner from going. The layer above
-//! uses `reduce_without_crossings`; `weights_without_crossings` is for a share of the positions, which no command asks for. Corners are queued on a
-//! heap; one that is kept from going waits on the place that keeps it, and is looked at again when that place goes. Each look is a search of the
-//! index and a step of the heap; how many there are is not promised.
+//! It stands on `guarded_meaning`, whose definition it answers, and on `effective_area`, whose cross product its predicates ask for the side on which
+//! a position lies. The layer above uses `reduce_without_crossings`; `weights_without_crossings` is for a share of the positions, which no command
+//! asks for. Corners are queued on a heap; one that is kept from going waits on the place that keeps it, and is looked at again when that place
+//! goes. What keeps it is found by `PositionIndex`, over positions of which more and more go: it finds one that is left and meets a query, above
+//! all a `Blocked`, that is in a corner's triangle or begins a segment between the ends of its base. It sorts once, and goes up one path of a tree of
+//! boxes for each place that goes. `free_law` and `blocked_law` tie it to the guard. Each look is a search of the index and a step of the
+//! heap; how many there are, and how many boxes each goes through, is not promised. No code calls `meets_badly`.
 #![tactic(auto)]
 
+mod blocking;
+mod box_tree;
 mod entry;
+mod extent;
 mod flattening;
+mod index;
+mod laws;
 mod linked_places;
 mod looking;
+mod meeting;
+mod ordering;
 mod pushing;
+mod query;
 mod reducing;
+mod refitting;
+mod searching;
+mod sides;
+mod triangle;
+mod turns;
 mod waiting_lists;
 mod weighing;
 
+pub use blocking::{Blocked, Joined, Links};
+pub use extent::Extent;
+pub use index::PositionIndex;
+pub use laws::{blocked_law, free_law};
+pub use meeting::{is_end, is_on, meets_badly, same_ends, touches};
+pub use query::{Corner, Query};
 pub use reducing::reduce_without_crossings;
+pub use triangle::{in_triangle, is_clear};
+pub use turns::{is_flat, is_left, is_right};
 pub use weighing::weights_without_crossings;

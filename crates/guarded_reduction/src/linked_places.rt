@@ -2,17 +2,20 @@
 ghost use Rattle.std.specs.Prelude.{◌≡◌, ◌<◌, IfOk, true, false, length, slice_index};
 ghost use Rattle.std.specs.Option.{IfNone, IfSome};
 ghost use Rattle.geometry.specs.Units.{area_limit};
-ghost use Rattle.position_index.specs.Indexes.{Meets, NoneMeets, is_left_at, point_at};
-ghost use Rattle.position_index.specs.Blocking.{is_blocked_by};
+ghost use Rattle.guarded_reduction.specs.Indexes.{Meets, NoneMeets, is_left_at, point_at};
+ghost use Rattle.guarded_reduction.specs.Blocking.{is_blocked_by};
 ghost use Rattle.guarded_reduction.specs.Entries.{IsCurrent, IsDue, entry_at, entry_in};
 ghost use Rattle.guarded_reduction.specs.First.{first_linked};
 ghost use Rattle.guarded_reduction.specs.Linking.{IsCorner, IsWhole as IsWholeLinked, corner_in, unlinked};
 
+use crate::blocking::{Blocked, Links};
 use crate::entry::Entry;
 use crate::flattening::{afters_of, all_positions, befores_of};
+use crate::index::PositionIndex;
+use crate::query::Corner;
+use effective_area::cross;
 use geometry::Position;
 use owned_values::{Items, Memory};
-use position_index::{Blocked, Corner, Links, PositionIndex, cross};
 use std::alloc::Global;
 use std::marker::Model;
 

@@ -2,16 +2,16 @@
 ghost use Rattle.std.specs.Prelude.{◌≡◌, ◌<◌, IfOk, OnOk, length};
 ghost use Rattle.std.specs.Option.{IfNone, IfSome};
 ghost use Rattle.std.specs.BinaryHeap.{heap_items, IsHeap};
-ghost use Rattle.position_index.specs.Indexes.{Meets};
+ghost use Rattle.guarded_reduction.specs.Indexes.{Meets};
 ghost use Rattle.guarded_reduction.specs.Entries.{turned_cmp};
 ghost use Rattle.guarded_reduction.specs.States.{IsHeld, IsNext, IsQueued, NoneNext, blocks};
 ghost use Rattle.guarded_reduction.specs.Waiting.{KeepsWaits};
 
 use crate::entry::Entry;
 use crate::linked_places::LinkedPlaces;
+use crate::query::Query;
 use crate::waiting_lists::WaitingLists;
 use owned_values::Memory;
-use position_index::Query;
 use std::cmp::Reverse;
 use std::collections::BinaryHeap;
 

@@ -1,8 +1,8 @@
 use Rattle.std.proofs.Common.{inr, subst}
 use Rattle.std.specs.BinaryHeap.{heap_items}
-use Rattle.position_index.specs.declared.query.Corner.{Corner}
-use Rattle.position_index.specs.Blocking.{is_blocked_by}
-use Rattle.position_index.specs.Indexes.{NoneMeets}
+use Rattle.guarded_reduction.specs.declared.query.Corner.{Corner}
+use Rattle.guarded_reduction.specs.Blocking.{is_blocked_by}
+use Rattle.guarded_reduction.specs.Indexes.{NoneMeets}
 use Rattle.guarded_reduction.proofs.Queued.{come_to_wait, comes_next, drop_held, drop_stale}
 use Rattle.guarded_reduction.proofs.looking.next_corner.Goals as goal
 

@@ -1,6 +1,6 @@
 use Rattle.std.proofs.Common.{◌+◌, ap, cond, sym, ◌∙◌, [], ◌∷◌, ◌++◌, arith}
 use Rattle.std.proofs.lemmas.List.{append-nil}
-use Rattle.position_index.specs.Indexes.{is_left_at}
+use Rattle.guarded_reduction.specs.Indexes.{is_left_at}
 use Rattle.guarded_reduction.proofs.Flattened.{kept_more}
 use Rattle.guarded_reduction.proofs.reducing.kept_from.Goals as goal
 use Rattle.guarded_reduction.proofs.reducing.kept_from.Goals.{then-is_left+in_ok-push, else-is_left}

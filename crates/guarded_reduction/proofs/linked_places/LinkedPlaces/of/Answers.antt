@@ -1,6 +1,6 @@
 use Rattle.std.proofs.Common.{◌<◌, ◌^◌, List, ap, length, subst, sym, ◌∙◌}
 use Rattle.geometry.specs.Points.{Point}
-use Rattle.position_index.specs.Shown.{Shown, all_left}
+use Rattle.guarded_reduction.specs.Shown.{Shown, all_left}
 use Rattle.guarded_reduction.specs.Linking.{IsWhole}
 use Rattle.guarded_reduction.proofs.Starts.{first_is, first_whole}
 use Rattle.guarded_reduction.proofs.linked_places.LinkedPlaces.of.Goals as goal

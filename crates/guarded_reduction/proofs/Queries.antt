@@ -1,0 +1,32 @@
+-- What holds a corner is in its box.
+use Rattle.std.proofs.Common.{◌≡◌, ℕ, true, not, arith}
+use Rattle.std.proofs.lemmas.Bool.{and_parts}
+use Rattle.geometry.specs.Points.{Point}
+use Rattle.guarded_meaning.specs.Laws.{IsInBox, BoxLaw}
+use Rattle.guarded_meaning.specs.Triangles.{is_clear, in_triangle}
+use Rattle.guarded_reduction.specs.declared.extent.Extent.{Extent}
+use Rattle.guarded_reduction.specs.declared.query.Corner.{Corner}
+use Rattle.guarded_reduction.specs.Extents.{HoldsPoint}
+use Rattle.guarded_reduction.specs.Tests.{Reaches, IsOutside, is_held_by}
+
+not_clear : (a p c q : Point) → not (is_clear a p c q) ≡ true → in_triangle a p c q ≡ true
+not_clear a p c q h = grind arith
+
+held_in : (c : Corner) (z : ℕ) (p : Point) → is_held_by c z p ≡ true → in_triangle c.before c.at c.after p ≡ true
+unfolding is_held_by
+held_in c z p h = not_clear c.before c.at c.after p (and_parts _ _ h).1
+
+pub reaches : (law : BoxLaw) (e : Extent) (c : Corner) → HoldsPoint e c.before → HoldsPoint e c.at → HoldsPoint e c.after → Reaches e (is_held_by c)
+reaches law e c a p b = record { holds = λ z q h. in_box q (law c.before c.at c.after q (held_in c z q h)) }
+  where
+    in_box : (q : Point) → IsInBox c.before c.at c.after q → HoldsPoint e q
+    in_box q i = record {
+      low_x = i.left e.low_x a.low_x p.low_x b.low_x;
+      low_y = i.below e.low_y a.low_y p.low_y b.low_y;
+      high_x = i.right e.high_x a.high_x p.high_x b.high_x;
+      high_y = i.above e.high_y a.high_y p.high_y b.high_y;
+    }
+
+-- a box that holds nothing of the corner's triangle holds none that holds the corner
+pub outside : (e : Extent) (c : Corner) → ((q : Point) → HoldsPoint e q → in_triangle c.before c.at c.after q ≡ true → ⊥) → IsOutside e (is_held_by c)
+outside e c n = record { fails = λ z q h t. n q h (held_in c z q t) }

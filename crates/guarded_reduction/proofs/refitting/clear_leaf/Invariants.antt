@@ -1,0 +1,13 @@
+use Rattle.std.proofs.Common.{◌≡◌, ◌≢◌, ℕ, ◌<◌, ◌≤◌}
+use Rattle.guarded_reduction.specs.Trees.{extent_at, IsNested}
+use Rattle.guarded_reduction.proofs.refitting.clear_leaf.Given as goal
+
+abbrev pub invariant-loop-node : goal.invariant-loop-node
+invariant-loop-node l = record {
+  within : l.node < l.leaves;
+  nested : IsNested l.extents 1 l.leaves;
+  others : (i : ℕ) → l.leaves ≤ i → i ≢ l.leaf → extent_at l.extents i ≡ extent_at l.fn.extents i;
+}
+
+abbrev pub decreases-loop-node : goal.decreases-loop-node
+decreases-loop-node l = l.node

@@ -1,0 +1,18 @@
+-- Boxes round positions.
+use Rattle.std.specs.Prelude.{◌≤ℤ◌}
+use Rattle.geometry.specs.Points.{Point}
+use Rattle.guarded_reduction.specs.declared.extent.Extent.{Extent}
+
+-- the position is in the box
+pub record HoldsPoint (e : Extent) (p : Point) : Type 0 where
+  pub low_x : e.low_x ≤ℤ p.x
+  pub low_y : e.low_y ≤ℤ p.y
+  pub high_x : p.x ≤ℤ e.high_x
+  pub high_y : p.y ≤ℤ e.high_y
+
+-- the first is in the second
+pub record LiesIn (e f : Extent) : Type 0 where
+  pub low_x : f.low_x ≤ℤ e.low_x
+  pub low_y : f.low_y ≤ℤ e.low_y
+  pub high_x : e.high_x ≤ℤ f.high_x
+  pub high_y : e.high_y ≤ℤ f.high_y

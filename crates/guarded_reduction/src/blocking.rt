@@ -1,0 +1,111 @@
+// What joins two positions, and what keeps a corner from going.
+ghost use Rattle.std.specs.Prelude.{◌≡◌, slice_index_or};
+ghost use Rattle.guarded_reduction.specs.Blocking.{is_blocked_by, is_joined_at, joins_ends, leads_on};
+
+use crate::extent::{Extent, around};
+use crate::query::{Corner, Query, is_held_by, reach_of};
+use crate::searching::position_of;
+use crate::sides::is_aside;
+use geometry::{Position, is_same};
+
+/// The neighbours of places: the place before each, and the one after it; where there is none, the place itself.
+#[derive(Drop)]
+pub struct Links<'a> {
+    pub positions: &'a [Position],
+    pub befores: &'a [usize],
+    pub afters: &'a [usize],
+}
+
+/// Two positions, and a place. A segment between the positions, of which the place is no end, joins them.
+#[derive(Drop)]
+pub struct Joined<'a> {
+    pub from: Position,
+    pub to: Position,
+    pub place: usize,
+    pub links: &'a Links<'a>,
+}
+
+/// The number at a place, or another where there is none.
+fn number_or(numbers: &[usize], place: usize, otherwise: usize) -> usize
+    ensures { result ≡ slice_index_or numbers.now place otherwise }
+{
+    if place < numbers.len() {
+        numbers[place]
+    } else {
+        otherwise
+    }
+}
+
+/// The place is another than the one that is given, and at the second position.
+#[tactic(auto, unfolding(crate::specs::Blocking::leads_on))]
+fn leads(j: &Joined, place: usize) -> bool
+    ensures { result ≡ leads_on j.now.links.now.positions.now j.now.to j.now.place place }
+{
+    let positions = j.links.positions;
+    place < positions.len() && (place != j.place && is_same(j.to, position_of(positions, place)))
+}
+
+impl Query for Joined<'_> {
+    ghost test = { λ j. is_joined_at j.links.now.positions.now j.links.now.befores.now j.links.now.afters.now j.from j.to j.place };
+
+    #[tactic(auto, unfolding(crate::specs::Blocking::is_joined_at))]
+    fn is_met_by(&self, place: usize, at: Position) -> bool {
+        is_same(self.from, at)
+            && (place != self.place
+                && (leads(self, number_or(self.links.befores, place, self.place))
+                    || leads(self, number_or(self.links.afters, place, self.place))))
+    }
+
+    fn reach(&self) -> Extent {
+        around(self.from)
+    }
+
+    fn may_meet(&self, _e: &Extent) -> bool {
+        true
+    }
+}
+
+/// A corner, and the neighbours of places. A place that holds the corner blocks it, and so does one that joins the positions before
+/// and after it, where these are two.
+#[derive(Drop)]
+pub struct Blocked<'a> {
+    pub corner: Corner,
+    pub links: &'a Links<'a>,
+}
+
+/// The place is at the position before the corner, and joins it with the one after it.
+#[tactic(auto, unfolding(crate::specs::Blocking::joins_ends))]
+fn joins(b: &Blocked, place: usize, at: Position) -> bool
+    ensures { result ≡ joins_ends b.now.links.now.positions.now b.now.links.now.befores.now b.now.links.now.afters.now b.now.corner place at }
+{
+    let Corner {
+        before,
+        at: _,
+        after,
+        place: own,
+    } = &b.corner;
+    let joined = Joined {
+        from: *before,
+        to: *after,
+        place: *own,
+        links: b.links,
+    };
+    !is_same(*before, *after) && joined.is_met_by(place, at)
+}
+
+impl Query for Blocked<'_> {
+    ghost test = { λ b. is_blocked_by b.links.now.positions.now b.links.now.befores.now b.links.now.afters.now b.corner };
+
+    #[tactic(auto, unfolding(crate::specs::Blocking::is_blocked_by))]
+    fn is_met_by(&self, place: usize, at: Position) -> bool {
+        is_held_by(&self.corner, place, at) || joins(self, place, at)
+    }
+
+    fn reach(&self) -> Extent {
+        reach_of(&self.corner)
+    }
+
+    fn may_meet(&self, e: &Extent) -> bool {
+        !is_aside(e, self.corner.before, self.corner.at, self.corner.after)
+    }
+}

@@ -1,0 +1,91 @@
+// The index with all that it keeps.
+ghost use Rattle.std.specs.Prelude.{◌≡◌, ◌+◌, ◌*◌, ◌<◌, ◌^◌, slice_index, true, false, length, replicate, slice_set, IfOk};
+ghost use Rattle.std.specs.Option.{IfNone, IfSome};
+ghost use Rattle.guarded_reduction.specs.Indexes.{IsIndex, Meets, NoneMeets};
+
+use crate::extent::Extent;
+use crate::ordering::{places_in_order, ranks_of};
+use crate::query::Query;
+use crate::refitting::{empty_leaf, tree_over};
+use crate::searching::find_under;
+use geometry::Position;
+use owned_values::Memory;
+use std::alloc::Global;
+
+/// The positions of places, which of them are left, the places in the order of the leaves, the rank of each among these, and a tree of boxes
+/// over them: the children of the box at i are those at 2 i and 2 i + 1, and the leaves are the second half of the list. The leaf of a place
+/// that is gone holds nothing.
+#[derive(Drop)]
+pub struct BoxTree {
+    pub positions: Vec<Position>,
+    pub present: Vec<bool>,
+    pub places: Vec<usize>,
+    pub ranks: Vec<usize>,
+    pub extents: Vec<Extent>,
+}
+
+/// The index of these positions, which are all left.
+pub fn tree_of(alloc: Global, positions: Vec<Position>) -> Result<BoxTree, Memory>
+    requires { length positions.items < 2 ^ 60 }
+    ensures index { IfOk result (λ x. IsIndex x) }
+    ensures positions { IfOk result (λ x. x.positions.items ≡ positions.items) }
+    ensures present { IfOk result (λ x. x.present.items ≡ replicate (length positions.items) true) }
+{
+    let n = positions.len();
+    let places = places_in_order(alloc, &positions)?;
+    let ranks = ranks_of(alloc, &places)?;
+    let present = vec![in alloc; true; n]?;
+    let extents = tree_over(alloc, &positions, &places)?;
+    Ok(BoxTree {
+        positions,
+        present,
+        places,
+        ranks,
+        extents,
+    })
+}
+
+impl BoxTree {
+    /// Takes the place away.
+    pub fn remove(&mut self, place: usize)
+        requires index { IsIndex self.old }
+        requires within { place < length self.old.positions.items }
+        ensures index { IsIndex self.new }
+        ensures positions { self.new.positions.items ≡ self.old.positions.items }
+        ensures present { self.new.present.items ≡ slice_set self.old.present.items place false }
+    {
+        let leaf = self.leaf_of(place);
+        self.present[place] = false;
+        let leaves = self.count();
+        empty_leaf(&mut self.extents, leaves, leaf);
+    }
+
+    /// How many places there are, with those that were taken away.
+    fn count(&self) -> usize
+        ensures { result ≡ length self.now.positions.items }
+    {
+        self.positions.len()
+    }
+
+    /// The leaf of a place.
+    fn leaf_of(&self, place: usize) -> usize
+        requires index { IsIndex self.now }
+        requires within { place < length self.now.positions.items }
+        ensures value { result ≡ length self.now.positions.items + slice_index self.now.ranks.items place }
+        ensures within { result < 2 * length self.now.positions.items }
+    {
+        self.positions.len() + self.ranks[place]
+    }
+
+    /// A place that is left and meets the test.
+    pub fn find<Q: Query>(&self, query: &Q) -> Option<usize>
+        requires { IsIndex self.now }
+        ensures some { IfSome result (λ z. Meets self.now.positions.items self.now.present.items (Q.test query.now) z) }
+        ensures none { IfNone result (NoneMeets self.now.positions.items self.now.present.items (Q.test query.now)) }
+    {
+        if self.positions.len() == 0 {
+            return None;
+        }
+        find_under(self, 1, &query.reach(), query)
+    }
+}

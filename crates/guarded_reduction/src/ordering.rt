@@ -1,0 +1,111 @@
+// The order of places along a Morton curve, which says which boxes lie near one another.
+ghost use Rattle.std.specs.Prelude.{◌≡◌, ◌<◌, ℕ, length, map, slice_index, IfOk};
+ghost use Rattle.std.specs.List.{range_with_len};
+ghost use Rattle.std.specs.List.Sorted.{IsPermutation};
+ghost use Rattle.guarded_reduction.specs.Orders.{AreRanks, place_of};
+
+use geometry::Position;
+use owned_values::Memory;
+use std::alloc::Global;
+
+/// A place, and where its position lies along a curve that fills the plane.
+#[derive(Clone, Copy, Debug, PartialEq, Eq, PartialOrd, Ord, Drop)]
+pub struct Key {
+    pub along: u64,
+    pub place: usize,
+}
+
+/// The bits of a number below 2^32, with room for one after each.
+fn spread(x: u64) -> u64 {
+    let a = (x ^ (x << 16)) & 0x0000_ffff_0000_ffff;
+    let b = (a ^ (a << 8)) & 0x00ff_00ff_00ff_00ff;
+    let c = (b ^ (b << 4)) & 0x0f0f_0f0f_0f0f_0f0f;
+    let d = (c ^ (c << 2)) & 0x3333_3333_3333_3333;
+    (d ^ (d << 1)) & 0x5555_5555_5555_5555
+}
+
+/// How far a number is over the least one, in steps.
+fn steps_over(x: i64, least: i64, step: u64) -> u64 {
+    x.abs_diff(least) / step.max(1)
+}
+
+/// The least of the numbers and the length of 2^32 steps over their range.
+#[derive(Drop)]
+struct Scale {
+    least_x: i64,
+    least_y: i64,
+    step: u64,
+}
+
+fn scale_of(positions: &[Position]) -> Scale {
+    let mut least_x = i64::MAX;
+    let mut least_y = i64::MAX;
+    let mut most_x = i64::MIN;
+    let mut most_y = i64::MIN;
+    for p in positions {
+        least_x = least_x.min(p.x());
+        least_y = least_y.min(p.y());
+        most_x = most_x.max(p.x());
+        most_y = most_y.max(p.y());
+    }
+    let across = most_x.abs_diff(least_x);
+    let up = most_y.abs_diff(least_y);
+    let step = across.max(up) / 0xffff_ffff + 1;
+    Scale {
+        least_x,
+        least_y,
+        step,
+    }
+}
+
+fn along(scale: &Scale, p: Position) -> u64 {
+    let x = steps_over(p.x(), scale.least_x, scale.step);
+    let y = steps_over(p.y(), scale.least_y, scale.step);
+    spread(x) ^ (spread(y) << 1)
+}
+
+/// The places, each with where it lies.
+fn keys_of(alloc: Global, positions: &[Position]) -> Result<Vec<Key>, Memory>
+    ensures { IfOk result (λ v. map place_of v.items ≡ range_with_len 0 (length positions.now)) }
+{
+    let scale = scale_of(positions);
+    let mut keys = Vec::with_capacity(alloc, positions.len())?;
+    for (place, p) in positions.iter().enumerate() {
+        keys.push(Key {
+            along: along(&scale, *p),
+            place,
+        })?;
+    }
+    Ok(keys)
+}
+
+/// The places of the keys.
+fn places_of(alloc: Global, keys: &[Key]) -> Result<Vec<usize>, Memory>
+    ensures { IfOk result (λ v. v.items ≡ map place_of keys.now) }
+{
+    let places = keys.iter().map(|k| k.place).collect(alloc)?;
+    Ok(places)
+}
+
+/// The places, along the curve.
+pub fn places_in_order(alloc: Global, positions: &[Position]) -> Result<Vec<usize>, Memory>
+    ensures { IfOk result (λ v. IsPermutation (range_with_len 0 (length positions.now)) v.items) }
+{
+    let mut keys = keys_of(alloc, positions)?;
+    keys.sort_unstable();
+    let places = places_of(alloc, &keys)?;
+    Ok(places)
+}
+
+/// Where each place stands among them.
+pub fn ranks_of(alloc: Global, places: &[usize]) -> Result<Vec<usize>, Memory>
+    requires { (r : ℕ) → r < length places.now → slice_index places.now r < length places.now }
+    ensures length { IfOk result (λ v. length v.items ≡ length places.now) }
+    ensures ranks { IfOk result (λ v. AreRanks places.now v.items (length places.now)) }
+{
+    let mut ranks = vec![in alloc; 0; places.len()]?;
+    for (rank, place) in places.iter().enumerate() {
+        ranks[*place] = rank;
+    }
+    Ok(ranks)
+}

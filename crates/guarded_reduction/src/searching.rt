@@ -1,0 +1,102 @@
+// The search through the boxes.
+ghost use Rattle.std.specs.Prelude.{◌≡◌, ◌-◌, ◌*◌, ◌<◌, ◌≤◌, ◌&&◌, false, length, slice_index};
+ghost use Rattle.std.specs.Option.{IfNone, IfSome};
+ghost use Rattle.guarded_reduction.specs.Indexes.{IsIndex, Meets, NoneMeetsUnder, is_left_at, point_at};
+ghost use Rattle.guarded_reduction.specs.Tests.{Reaches};
+
+use crate::box_tree::BoxTree;
+use crate::extent::{Extent, meets};
+use crate::query::Query;
+use crate::refitting::read_extent;
+use geometry::Position;
+
+/// Whether the place is left.
+#[tactic(auto, unfolding(crate::specs::Indexes::is_left_at))]
+fn is_left(present: &[bool], place: usize) -> bool
+    requires { place < length present.now }
+    ensures { result ≡ is_left_at present.now place }
+{
+    present[place]
+}
+
+/// The position of a place.
+pub fn position_of(positions: &[Position], place: usize) -> Position
+    requires { place < length positions.now }
+    ensures { result ≡ point_at positions.now place }
+{
+    positions[place]
+}
+
+/// The place is left and meets the test.
+fn is_met_at<Q: Query>(index: &BoxTree, place: usize, query: &Q) -> bool
+    requires index { IsIndex index.now }
+    requires within { place < length index.now.positions.items }
+    ensures { result ≡ (is_left_at index.now.present.items place && Q.test query.now place (point_at index.now.positions.items place)) }
+{
+    is_left(&index.present, place) && query.is_met_by(place, position_of(&index.positions, place))
+}
+
+/// The place of a leaf.
+fn place_at(index: &BoxTree, leaf: usize) -> usize
+    requires index { IsIndex index.now }
+    requires leaf { length index.now.positions.items ≤ leaf }
+    requires within { leaf < 2 * length index.now.positions.items }
+    ensures value { result ≡ slice_index index.now.places.items (leaf - length index.now.positions.items) }
+    ensures within { result < length index.now.positions.items }
+{
+    index.places[leaf - index.positions.len()]
+}
+
+/// The place of a leaf, where it is left and meets the test.
+fn found_at<Q: Query>(index: &BoxTree, leaf: usize, query: &Q) -> Option<usize>
+    requires index { IsIndex index.now }
+    requires leaf { length index.now.positions.items ≤ leaf }
+    requires within { leaf < 2 * length index.now.positions.items }
+    ensures some { IfSome result (λ z. Meets index.now.positions.items index.now.present.items (Q.test query.now) z) }
+    ensures none { IfNone result (NoneMeetsUnder index.now leaf (Q.test query.now)) }
+{
+    let place = place_at(index, leaf);
+    if is_met_at(index, place, query) {
+        Some(place)
+    } else {
+        None
+    }
+}
+
+/// Something under a node may meet the test, unless the answer is no.
+fn may_hold<Q: Query>(index: &BoxTree, node: usize, within: &Extent, query: &Q) -> bool
+    requires index { IsIndex index.now }
+    requires inner { 0 < node }
+    requires inside { node < 2 * length index.now.positions.items }
+    requires reach { Reaches within.now (Q.test query.now) }
+    ensures { result ≡ false → NoneMeetsUnder index.now node (Q.test query.now) }
+{
+    let e = read_extent(&index.extents, node);
+    meets(e, *within) && query.may_meet(&e)
+}
+
+/// A place under a node that is left and meets the test.
+pub fn find_under<Q: Query>(
+    index: &BoxTree,
+    node: usize,
+    within: &Extent,
+    query: &Q,
+) -> Option<usize>
+    requires index { IsIndex index.now }
+    requires inner { 0 < node }
+    requires inside { node < 2 * length index.now.positions.items }
+    requires reach { Reaches within.now (Q.test query.now) }
+    ensures some { IfSome result (λ z. Meets index.now.positions.items index.now.present.items (Q.test query.now) z) }
+    ensures none { IfNone result (NoneMeetsUnder index.now node (Q.test query.now)) }
+{
+    if !may_hold(index, node, within, query) {
+        return None;
+    }
+    if node >= index.positions.len() {
+        return found_at(index, node, query);
+    }
+    match find_under(index, 2 * node, within, query) {
+        Some(place) => Some(place),
+        None => find_under(index, 2 * node + 1, within, query),
+    }
+}

@@ -1,9 +1,0 @@
-use Rattle.std.proofs.lemmas.Bool.{not-false}
-use Rattle.position_index.proofs.Joining.{blocked_outside}
-use Rattle.position_index.proofs.Queries.{outside}
-use Rattle.position_index.proofs.blocking.BlockedQuery.may_meet.Goals as goal
-
-pub returns : goal.returns
-returns c = λ e.
-    let k = not-false c.is_aside.result e in
-    blocked_outside c.args.e.now _ _ _ c.args.self.now.corner (c.is_aside.ensures.first k) (outside c.args.e.now c.args.self.now.corner (c.is_aside.ensures.triangle k))

@@ -1,7 +1,0 @@
-use Rattle.std.proofs.Common.{refl}
-use Rattle.position_index.proofs.Indexes.{removed}
-use Rattle.position_index.proofs.box_tree.BoxTree.remove.Goals as goal
-
-pub returns-clause-index : goal.returns-clause-index
-returns-clause-index c = removed c.args.self.now _ c.args.place c.requires.index c.requires.within refl refl refl refl c.empty_leaf.ensures.length (rw c.count-leaves.ensures at c.empty_leaf.ensures.nested)
-    (λ i h n. c.empty_leaf.ensures.others i (rw c.count-leaves.ensures h) (rw c.leaf_of-leaf.ensures.value n))

@@ -230,25 +230,57 @@ def try_own_inputs():
 def try_what_is_no_file():
     with new_folder():
         os.mkdir("below")
-        os.mkfifo("pipe")
         with socket.socket(socket.AF_UNIX) as listening:
             listening.bind("socket")
         try_not_begun("a folder that isn't there", "missing/new")
-        for path in (".", "..", "below", "below/", "below/.", "pipe", "socket", "line/", "line/new", "missing/", "", "x" * 255, "x" * 5000):
+        for path in (".", "..", "below", "below/", "below/.", "socket", "line/", "line/new", "missing/", "", "x" * 255, "x" * 5000):
             try_not_begun(f"{path[:20]!r} as output", path)
 
 
+def try_written(name, path, wanted):
+    """What is no file to be replaced takes the output itself of each command, and is what it was; and it is a pipe, which must give this."""
+    for words, _ in COMMANDS:
+        _, output, error = plain(words)
+        before = held()
+        with subprocess.Popen(["cat", path] if wanted else ["true"], stdout=subprocess.PIPE) as reader:
+            ended = subprocess.run([PROGRAM, *words, "--output", path], capture_output=True, timeout=120)
+            expect(f"{name}, {words[0]}", (0, b"", error), (ended.returncode, ended.stdout, ended.stderr))
+            expect(f"what {name} took of {words[0]}", output if wanted else b"", reader.communicate(timeout=120)[0])
+        expect_held(f"{name}, {words[0]}", before)
+
+
 def try_devices():
-    """A device, and a folder that can't be written: who is root can write every folder, and would harm the machine by its devices, where the
-    program didn't refuse them, and so makes one."""
+    """Devices, pipes and links to them are written themselves, and one that is full says so."""
     with new_folder():
-        if IS_ROOT:
-            os.mknod("device", stat.S_IFCHR | 0o666, os.makedev(1, 3))
-            try_not_begun("a device", "device")
-            return
-        try_not_begun("a device", "/dev/null")
-        os.mkdir("below", 0o555)
-        try_not_begun("a folder that can't be written", "below/new")
+        try_written("a device", "/dev/null", False)
+        os.symlink("/dev/null", "nowhere")
+        try_written("a link to a device", "nowhere", False)
+        os.mkfifo("pipe")
+        try_written("a pipe", "pipe", True)
+        os.symlink("pipe", "to-pipe")
+        try_written("a link to a pipe", "to-pipe", True)
+        for words, code in COMMANDS:
+            output = plain(words)[1]
+            try_run(f"a full device, {words[0]}", [*words, "-o", "/dev/full"], (3, write_fault(code, len(output))))
+        said = write_fault("B6", len(LINE_TOPOLOGY)) + b"  /dev/full: the disk is full\n"
+        try_run("a full device in words", ["build", "--explain", "a=line", "-o", "/dev/full"], (3, said))
+        if not IS_ROOT:
+            os.mkdir("below", 0o555)
+            try_not_begun("a folder that can't be written", "below/new")
+
+
+def try_words():
+    """What `--explain` says of an output that isn't written."""
+    with new_folder():
+        os.mkdir("below")
+        for path, words in (
+            ("missing/new", "its folder is not there, or it is a link that leads nowhere"),
+            ("line/new", "its folder is not there, or it is a link that leads nowhere"),
+            ("below", "a folder, not a file"),
+            ("x" * 255, "no file can have this name"),
+        ):
+            said = write_fault("B6", 0) + f"  {path}: {words}\n".encode()
+            try_run(f"{path[:20]} in words", ["build", "--explain", "a=line", "-o", path], (3, said))
 
 
 def try_parts_of_others():
@@ -256,11 +288,21 @@ def try_parts_of_others():
         write("old", OLD, 0o640)
         write("old.0.part", b"a part", 0o600)
         try_done("one part of another run", ["build", "a=line"], "old", 0o640)
+        said = plain(["build", "--explain", "a=line"])[2] + (
+            b"  old.0.part is of another run: where none goes on, one was interrupted, and the file can be deleted\n"
+        )
+        output = plain(["build", "a=line"])[1]
+        try_run("one part of another run in words", ["build", "--explain", "a=line", "-o", "old"], (0, said), [("old", output, 0o640)])
         os.mkdir("old.1.part")
         os.symlink("nothing", "old.2.part")
         os.symlink("line", "old.3.part")
         os.mkfifo("old.4.part")
         try_done("parts of every kind", ["build", "a=line"], "old", 0o640)
+        said = plain(["build", "--explain", "a=line"])[2] + (
+            b"  old.0.part to old.4.part are of other runs: where none goes on, they were interrupted, and the files can be deleted\n"
+        )
+        output = plain(["build", "a=line"])[1]
+        try_run("parts of others in words", ["build", "--explain", "a=line", "-o", "old"], (0, said), [("old", output, 0o640)])
         try_run("parts of others, and a refused file", ["build", "a=no-json", "-o", "old"], plain(["build", "a=no-json"])[::2])
         for number in range(1000):
             if not os.path.lexists(f"old.{number}.part"):
@@ -487,28 +529,16 @@ def try_closed_streams():
                 expect_held(f"a refused file {redirected}", before)
 
 
-def can_try_devices():
-    """Whether there is a device to try: a container may keep root from making one."""
-    if not IS_ROOT:
-        return True
-    with new_folder():
-        try:
-            os.mknod("device", stat.S_IFCHR | 0o666, os.makedev(1, 3))
-        except PermissionError:
-            print("no device can be made here, so none is tried as an output")
-            return False
-    return True
-
-
 # The parts, and how much each tries.
 PARTS = (
     (try_new_files, 898),
     (try_old_files, 680),
     (try_links, 267),
     (try_own_inputs, 48),
-    (try_what_is_no_file, 448),
-    (try_devices, 24 if IS_ROOT else 44),
-    (try_parts_of_others, 1037),
+    (try_what_is_no_file, 364),
+    (try_devices, 160 if IS_ROOT else 180),
+    (try_words, 24),
+    (try_parts_of_others, 1055),
     (try_refused, 1140),
     (try_full_disks, 1084),
     (try_while_it_runs, 21),
@@ -522,8 +552,6 @@ def main():
     os.umask(0o022)
     short = 0
     for part, wanted in PARTS:
-        if part is try_devices and not can_try_devices():
-            continue
         before = counts["tried"]
         part()
         tried = counts["tried"] - before

@@ -203,6 +203,11 @@ CUT_SHORT = ('layer 0 is "a", the file cut.json', "line 1, column 41 (byte 40): 
 LINE_COUNTED = '{"rounded":0,"extra":0,"empty":0,"dropped":[],"arcs":1,"kept":2,"removed":0,"chosen":null}'
 LINE_LAYER = layer(("LineString", "[[0,0],[1.5,0.25]]"))
 SUMMARY = 'objects 1\n"land" 3\narcs 2\npositions 7\ngrid no\n'
+CONTENTS = (
+    'object "land": LineString 1, Polygon 1, null 1',
+    "x goes from 0 to 30, and y from 0 to 10",
+    "arcs of two features or more 0, of one 2, of none 0",
+)
 
 
 class Run(NamedTuple):
@@ -235,6 +240,7 @@ RUNS = (
     Run("simplify --no-crossings --min-area=5 roofs.topojson", 0, HELD_TOPOLOGY, report(3, 7, removed=1), FILE, 30),
     Run("geo --object a line.topojson", 0, LINE_LAYER, "", FILE, 6),
     Run("stat less.topojson", 0, SUMMARY, "", FILE, 10),
+    Run("stat --explain less.topojson", 0, SUMMARY, "".join(f"  {it}\n" for it in CONTENTS), FILE, 10),
     Run(f"build -o {OUTPUT} a=line.json", 0, LINE_TOPOLOGY, report(1, 2), BUILD, 20),
     Run(f"simplify --min-area=1 --output={OUTPUT} full.topojson", 0, LAND_TOPOLOGY, report(2, 7, SMALL), FILE, 25),
     Run(f"geo --object=a --output={OUTPUT} line.topojson", 0, LINE_LAYER, "", FILE, 6),

@@ -156,7 +156,8 @@ const OUTPUT_HELP: &str = "Write the output to a file in place of standard outpu
 const OUTPUT_LONG_HELP: &str =
     "Write the output to FILE in place of standard output. It goes to a new file beside
 FILE, which takes its name when it is whole and on the disk. Until then FILE stays
-as it was, whatever fails, so FILE may be an input, too";
+as it was, whatever fails, so FILE may be an input, too. A device, as /dev/null, or a
+pipe is written itself";
 
 const REPORT_HELP: &str = "Write a report of the run to a file, as a JSON object";
 
@@ -172,7 +173,8 @@ const EXPLAIN_LONG_HELP: &str =
     "Say in words, on standard error below the line of a fault, what is wrong and where, as
 far as that can be found out. Where all is done, say below the report how much was kept,
 which area '--keep' chose, which features lost all of their geometry (ten lines of them,
-and how many more), and what was left out of the layers. Files are read once more for it";
+and how many more), and what was left out of the layers; of 'mapchain stat', what is in
+the topology. Files are read once more for it";
 
 const QUIET_HELP: &str = "Leave out the report, where all is done";
 

@@ -1,1 +1,2 @@
+mod BriefLaws
 mod Briefly

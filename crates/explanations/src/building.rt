@@ -18,10 +18,8 @@ fn thousandths(part: u64, rest: u64) -> u128
     u128::from(part) * 1000 / (u128::from(part) + u128::from(rest))
 }
 
-/// How many positions of how many were kept.
-fn kept(alloc: Global, report: &Report) -> Result<String, AllocError> {
-    let kept = report.kept;
-    let removed = report.removed;
+/// The line for what was kept, where so many were kept and so many removed.
+fn kept_line(alloc: Global, what: &str, kept: u64, removed: u64) -> Result<String, AllocError> {
     if kept == 0 && removed == 0 {
         return Ok(String::new(alloc));
     }
@@ -29,7 +27,7 @@ fn kept(alloc: Global, report: &Report) -> Result<String, AllocError> {
     let share = thousandths(kept, removed);
     let percent = share / 10;
     let tenth = share % 10;
-    format!(in alloc; "  kept {kept} of {all} positions of the arcs, {percent}.{tenth} %\n")
+    format!(in alloc; "  kept {kept} of {all} {what}, {percent}.{tenth} %\n")
 }
 
 /// How many attos, which are `10^-18`, one is.
@@ -70,9 +68,16 @@ fn chosen(alloc: Global, threshold: u128) -> Result<String, AllocError> {
     )
 }
 
-/// How many positions of how many were kept, and which area was chosen, if one was.
+/// How many positions of how many were kept, and, where some were removed, how many between the ends of arcs, which always stay; and which
+/// area was chosen, if one was.
 pub fn built(alloc: Global, report: &Report) -> Result<String, AllocError> {
-    let mut lines = kept(alloc, report)?;
+    let removed = report.removed;
+    let mut lines = kept_line(alloc, "positions of the arcs", report.kept, removed)?;
+    if removed > 0 {
+        let between = report.kept.saturating_sub(report.arcs.saturating_mul(2));
+        let line = kept_line(alloc, "between their ends", between, removed)?;
+        lines.push_str(line.as_str())?;
+    }
     if let Some(threshold) = report.chosen {
         lines.push_str(chosen(alloc, threshold)?.as_str())?;
     }
@@ -89,14 +94,20 @@ fn step_over(cells: u32, least: i64, greatest: i64) -> u128
     ((length + (last - 1)) / last).max(1)
 }
 
-/// A number of units as a decimal, or nothing where it is too great for one.
-fn decimal(alloc: Global, units: u128) -> Result<String, AllocError> {
+/// A number of units as a decimal.
+pub(crate) fn decimal_of_units(alloc: Global, units: i64) -> Result<String, AllocError> {
     let mut text = ShortText::new();
-    if let Ok(units) = i64::try_from(units) {
-        add_units(&mut text, units, PLACES);
-    }
+    add_units(&mut text, units, PLACES);
     match str::from_utf8(text.as_slice()) {
         Ok(digits) => String::from_str(alloc, digits),
+        Err(_) => Ok(String::new(alloc)),
+    }
+}
+
+/// A number of units as a decimal, or nothing where it is too great for one.
+fn decimal(alloc: Global, units: u128) -> Result<String, AllocError> {
+    match i64::try_from(units) {
+        Ok(units) => decimal_of_units(alloc, units),
         Err(_) => Ok(String::new(alloc)),
     }
 }

@@ -7,8 +7,10 @@
 
 mod bounds;
 mod brief;
+mod brief_laws;
 mod building;
 mod census;
+mod contents;
 mod escaping;
 mod file_kinds;
 mod form;
@@ -17,6 +19,7 @@ mod labels;
 mod layer_faults;
 mod losses;
 mod options;
+mod owners;
 mod place;
 mod positions;
 mod read_faults;
@@ -24,11 +27,14 @@ mod slips;
 mod topology_faults;
 mod topology_walk;
 mod trees;
+mod unwritten;
 mod walk;
 
 pub use bounds::Bounds;
 pub use brief::put_brief;
+pub use brief_laws::{losses_in_brief, others_stand};
 pub use building::{built, grid_step};
+pub use contents::topology_contents;
 pub use file_kinds::{FileKind, unopened};
 pub use form::{FileForm, form_of};
 pub use layer_faults::layer_fault;
@@ -36,3 +42,4 @@ pub use losses::{built_layer, simplified_topology};
 pub use options::{bad_area, bad_share};
 pub use place::{Place, place_in};
 pub use topology_faults::topology_fault;
+pub use unwritten::{WriteFailure, other_parts, unwritten_output};

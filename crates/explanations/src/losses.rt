@@ -144,8 +144,37 @@ fn swapped_line(alloc: Global, place: &str, bounds: &Bounds) -> Result<String, A
     }
 }
 
+/// The coordinate reference systems of degrees that GeoJSON of 2008 names mostly: how their names end.
+const DEGREES: [&str; 4] = ["CRS84", "EPSG::4326", "EPSG:4326", "EPSG::4269"];
+
+/// The name that the member `crs` of GeoJSON of 2008 gives.
+fn crs_name(members: &[(OwnText, Json)]) -> Option<&str> {
+    let Ok(Some(Json::Object(crs))) = find(members, "crs") else {
+        return None;
+    };
+    let Ok(Some(Json::Object(properties))) = find(crs.as_slice(), "properties") else {
+        return None;
+    };
+    need_text(properties.as_slice(), "name").ok()
+}
+
+/// The line for a layer with these members that names a coordinate reference system which isn't of degrees. `place` is what stands before it.
+fn crs_line(alloc: Global, place: &str, members: &[(OwnText, Json)]) -> Result<String, AllocError> {
+    let Some(name) = crs_name(members) else {
+        return Ok(String::new(alloc));
+    };
+    if DEGREES.iter().any(|ending| name.ends_with(*ending)) {
+        return Ok(String::new(alloc));
+    }
+    let name = quoted(alloc, name)?;
+    format!(in alloc;
+        "  {place}its \"crs\" is {name}: coordinates are taken as they are, so areas are in square units of it, not in square degrees\n"
+    )
+}
+
 /// What became of the features of a layer that was built: a line for each that had lines or rings and no point, and of which all are
-/// dropped; one for the members that aren't read; and one where latitude and longitude seem to be swapped. `bounds` is widened by the
+/// dropped; one for the members that aren't read; one where the layer says that its coordinates aren't degrees; and one where latitude and
+/// longitude seem to be swapped. `bounds` is widened by the
 /// layer's positions. `dropped` is in reading order.
 pub fn built_layer(
     alloc: Global,
@@ -167,6 +196,7 @@ pub fn built_layer(
     let place = format!(in alloc; "layer {layer}: ")?;
     let line = left_out_line(alloc, place.as_str(), &census.left_out)?;
     lines.push_str(line.as_str())?;
+    lines.push_str(crs_line(alloc, place.as_str(), members)?.as_str())?;
     lines.push_str(swapped_line(alloc, place.as_str(), &census.bounds)?.as_str())?;
     if let Some(corners) = census.bounds.corners() {
         bounds.add(corners);

@@ -1,10 +1,10 @@
-// A new file that takes the place of another once it is whole.
+// A new file that takes the place of another once it is whole, or a device that is written itself.
 ghost use Rattle.std.specs.Prelude.{◌≡◌, IfOk};
 ghost use Rattle.std.specs.String.{string_bytes};
 
-use std::fs::{File, Permissions};
+use std::fs::{File, FileType, Permissions};
 use std::io::{ErrorKind, Write};
-use std::os::unix::fs::{OpenOptionsExt, PermissionsExt};
+use std::os::unix::fs::{FileTypeExt, OpenOptionsExt, PermissionsExt};
 use std::{fs, io};
 
 /// How many names are tried for the new file.
@@ -19,47 +19,73 @@ const NEW_FILE: u32 = 0o666;
 /// The permissions of a new file until it has those of the file that it replaces.
 const OWNER_ONLY: u32 = 0o600;
 
-/// The file that is to be replaced, or the name that a first one is to have.
+/// What a target is.
+#[derive(Clone, Copy)]
+enum TargetKind {
+    /// Nothing has its name yet.
+    New,
+    /// A regular file with these permissions.
+    File { mode: u32 },
+    /// A device that takes bytes one after another, as `/dev/null` or a pipe.
+    Device,
+}
+
+/// The file that is to be replaced, the name that a first one is to have, or a device that is to be written.
 #[derive(Drop)]
 pub(crate) struct Target {
     /// The path by which it was named.
     pub(crate) named: String,
-    /// Where that leads, past symbolic links.
+    /// Where that leads, past symbolic links; of a device, the path itself.
     path: String,
-    /// The permissions of the file, where there is one.
-    mode: Option<u32>,
+    kind: TargetKind,
 }
 
-/// A new file beside a target. Where it is dropped it is removed, unless it has taken the target's place.
+/// What is written for a target: a new file beside it, which is removed where it is dropped, unless it has taken the target's place; or a
+/// device.
 pub(crate) struct PartFile {
     rt: HostRuntime,
     file: File,
-    path: String,
+    /// The path of the new file.
+    path: Option<String>,
+    /// Why a write or a flush failed last, if one did.
+    failure: Option<ErrorKind>,
 }
 
-/// Where a path leads: to a regular file, by itself or by a symbolic link, or to nothing yet. Anything else is an error.
-fn led_to(rt: &HostRuntime, path: &str) -> io::Result<(String, Option<u32>)> {
+/// Whether bytes are written to it as they come. A disk and a socket are none.
+fn takes_bytes(file_type: FileType) -> bool {
+    file_type.is_char_device() || file_type.is_fifo()
+}
+
+/// Where a path leads: to a regular file or to a device, by itself or by a symbolic link, or to nothing yet. Anything else is an error.
+fn led_to(rt: &HostRuntime, path: &str) -> io::Result<(String, TargetKind)> {
     if path.is_empty() {
         return Err(io::Error::from(ErrorKind::InvalidInput));
     }
-    let named = match fs::symlink_metadata(rt, path) {
-        Ok(metadata) => metadata,
+    let own_path = String::from_str(rt.alloc(), path)?;
+    let is_link = match fs::symlink_metadata(rt, path) {
+        Ok(metadata) => metadata.is_symlink(),
         Err(error) if error.kind() == ErrorKind::NotFound => {
-            return Ok((String::from_str(rt.alloc(), path)?, None));
+            return Ok((own_path, TargetKind::New));
         }
         Err(error) => return Err(error),
     };
-    let path = if named.is_symlink() {
-        fs::canonicalize(rt, path)?.into_string()
-    } else {
-        String::from_str(rt.alloc(), path)?
-    };
-    let metadata = fs::symlink_metadata(rt, path.as_str())?;
+    let metadata = fs::metadata(rt, path)?;
+    if takes_bytes(metadata.file_type()) {
+        return Ok((own_path, TargetKind::Device));
+    }
+    if metadata.is_dir() {
+        return Err(io::Error::from(ErrorKind::IsADirectory));
+    }
     if !metadata.is_file() {
         return Err(io::Error::from(ErrorKind::InvalidInput));
     }
     let mode = metadata.permissions().mode() & PERMISSION_BITS;
-    Ok((path, Some(mode)))
+    let path = if is_link {
+        fs::canonicalize(rt, path)?.into_string()
+    } else {
+        own_path
+    };
+    Ok((path, TargetKind::File { mode }))
 }
 
 impl Target {
@@ -74,30 +100,24 @@ impl Target {
         }
     }
 
-    /// The file of this path, or the name of one that isn't there yet.
+    /// The file or the device of this path, or the name of a file that isn't there yet.
     pub(crate) fn of(rt: &HostRuntime, path: &str) -> io::Result<Target>
         ensures { IfOk result (λ target. string_bytes target.named ≡ path.now) }
     {
         let named = String::from_str(rt.alloc(), path)?;
-        let (path, mode) = led_to(rt, path)?;
-        Ok(Target { named, path, mode })
+        let (path, kind) = led_to(rt, path)?;
+        Ok(Target { named, path, kind })
     }
 }
 
-/// Makes a new file beside the target, under the first name that isn't taken.
-fn create_beside(rt: &HostRuntime, target: &Target) -> io::Result<(File, String)> {
+/// Makes a new file beside this path, under the first name that isn't taken. The number is how many were.
+fn create_beside(rt: &HostRuntime, name: &str, mode: u32) -> io::Result<(File, String, u32)> {
     let mut options = File::options();
-    let mode = if target.mode.is_some() {
-        OWNER_ONLY
-    } else {
-        NEW_FILE
-    };
     options.write(true).create_new(true).mode(mode);
-    let name = target.path.as_str();
-    for n in 0..MAX_TRIES {
-        let path = format!(in rt.alloc(); "{name}.{n}.part")?;
+    for taken in 0..MAX_TRIES {
+        let path = format!(in rt.alloc(); "{name}.{taken}.part")?;
         match options.open(rt, path.as_str()) {
-            Ok(file) => return Ok((file, path)),
+            Ok(file) => return Ok((file, path, taken)),
             Err(error) if error.kind() == ErrorKind::AlreadyExists => {}
             Err(error) => return Err(error),
         }
@@ -106,50 +126,96 @@ fn create_beside(rt: &HostRuntime, target: &Target) -> io::Result<(File, String)
 }
 
 impl PartFile {
-    /// A new file that is to replace this one, with its permissions, or is to be the first of that name. Where the target was named by
-    /// a symbolic link, the file that it leads to is replaced, and the link stays. Nothing but a regular file is replaced.
-    pub(crate) fn beside(rt: &HostRuntime, target: &Target) -> io::Result<PartFile> {
+    /// What is to be written for a target, and how many new files of other runs stand beside that. A regular file is replaced by a new
+    /// one with its permissions; where it was named by a symbolic link, the link stays. A device is opened as it is.
+    pub(crate) fn of(rt: &HostRuntime, target: &Target) -> io::Result<(PartFile, u32)> {
+        match target.kind {
+            TargetKind::New => PartFile::beside(rt, target, NEW_FILE),
+            TargetKind::File { mode } => {
+                let (part, others) = PartFile::beside(rt, target, OWNER_ONLY)?;
+                part.file.set_permissions(Permissions::from_mode(mode))?;
+                Ok((part, others))
+            }
+            TargetKind::Device => Ok((PartFile::device(rt, target)?, 0)),
+        }
+    }
+
+    /// A new file beside a target, with these permissions, and how many names were taken.
+    fn beside(rt: &HostRuntime, target: &Target, mode: u32) -> io::Result<(PartFile, u32)> {
         let part_rt = rt.clone()?;
-        let (file, path) = create_beside(rt, target)?;
+        let (file, path, taken) = create_beside(rt, target.path.as_str(), mode)?;
         let part = PartFile {
             rt: part_rt,
             file,
-            path,
+            path: Some(path),
+            failure: None,
         };
-        if let Some(mode) = target.mode {
-            part.file.set_permissions(Permissions::from_mode(mode))?;
-        }
-        Ok(part)
+        Ok((part, taken))
+    }
+
+    /// A device.
+    fn device(rt: &HostRuntime, target: &Target) -> io::Result<PartFile> {
+        let part_rt = rt.clone()?;
+        let file = File::options().write(true).open(rt, target.path.as_str())?;
+        Ok(PartFile {
+            rt: part_rt,
+            file,
+            path: None,
+            failure: None,
+        })
     }
 
     /// Takes the place of the target, once all of the file is on the disk. On an error the target is as it was, and the new file is
-    /// removed.
+    /// removed. A device has taken all of it already.
     pub(crate) fn replace(self, target: &Target) -> io::Result<()> {
-        self.file.sync_all()?;
-        fs::rename(&self.rt, self.path.as_str(), target.path.as_str())?;
+        if let Some(path) = &self.path {
+            self.file.sync_all()?;
+            fs::rename(&self.rt, path.as_str(), target.path.as_str())?;
+        }
         // Nothing is left to remove.
         let PartFile {
             rt: _,
             file: _,
             path: _,
+            failure: _,
         } = self;
         Ok(())
+    }
+
+    /// Why a write or a flush failed last, if one did.
+    pub(crate) fn failure(&self) -> Option<ErrorKind> {
+        self.failure
     }
 }
 
 impl Drop for PartFile {
     fn drop(self) {
-        let PartFile { rt, file: _, path } = self;
-        let _ = fs::remove_file(&rt, path.as_str());
+        let PartFile {
+            rt,
+            file: _,
+            path,
+            failure: _,
+        } = self;
+        if let Some(path) = path {
+            let _ = fs::remove_file(&rt, path.as_str());
+        }
     }
 }
 
 impl Write for PartFile {
     fn write(&mut self, buf: &[u8]) -> io::Result<usize> {
-        self.file.write(buf)
+        let taken = self.file.write(buf);
+        if let Err(error) = &taken {
+            self.failure = Some(error.kind());
+        }
+        taken
     }
 
     fn flush(&mut self) -> io::Result<()> {
-        self.file.flush()
+        let flushed = self.file.flush();
+        if let Err(error) = &flushed {
+            self.failure = Some(error.kind());
+        }
+        flushed
     }
 }

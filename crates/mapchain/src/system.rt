@@ -1,12 +1,12 @@
 // The file system as `mapchain_cli` asks for it.
-ghost use Rattle.std.specs.Prelude.{◌≡◌, IfOk, None, is_some, true};
+ghost use Rattle.std.specs.Prelude.{◌≡◌, IfOk, IsOk, None, is_some, true};
 ghost use Rattle.std.specs.Option.{option_map};
 ghost use Rattle.std.specs.String.{string_bytes};
 
 use crate::OUT_BUFFER;
 use crate::part_file::{PartFile, Target};
 use byte_ends::{FromRead, Sink, Source, ToWrite};
-use mapchain_cli::{Counts, FileKind, Files, Notes, OwnText};
+use mapchain_cli::{Counts, FileKind, Files, Notes, OwnText, WriteFailure};
 use std::fs::File;
 use std::hash::{BuildHasher, RandomState};
 use std::io::{BufWriter, ErrorKind};
@@ -19,8 +19,12 @@ pub(crate) struct System {
     counts: Counts,
     /// The file for which an output was begun last, unless that was kept or taken away.
     pending: Option<Target>,
-    /// The file that an output has replaced last.
+    /// The file that an output has replaced last, or the device that took it.
     replaced: Option<Target>,
+    /// Why the last output couldn't be begun, written or kept, if the system said why.
+    failure: Option<WriteFailure>,
+    /// How many new files of other runs stood beside that of the last output.
+    other_parts: u32,
     notes: Notes<FromRead<File>, ToWrite<BufWriter<PartFile>>>,
 }
 
@@ -32,19 +36,22 @@ impl System {
             counts: Counts::none(),
             pending: None,
             replaced: None,
+            failure: None,
+            other_parts: 0,
             notes: Notes::none(),
         }
     }
 }
 
-// The file of this path, and a new file for it that holds nothing yet, with a buffer before it.
-fn begin(rt: &HostRuntime, path: &str) -> io::Result<(Target, BufWriter<PartFile>)>
+// The file or the device of this path, what is to be written for it, with a buffer before it, and how many new files of other runs stand
+// beside.
+fn begin(rt: &HostRuntime, path: &str) -> io::Result<(Target, BufWriter<PartFile>, u32)>
     ensures { IfOk result (λ r. string_bytes r.0.named ≡ path.now) }
 {
     let target = Target::of(rt, path)?;
-    let part = PartFile::beside(rt, &target)?;
+    let (part, other_parts) = PartFile::of(rt, &target)?;
     let output = BufWriter::with_capacity(rt.alloc(), OUT_BUFFER, part)?;
-    Ok((target, output))
+    Ok((target, output, other_parts))
 }
 
 // Writes what is still held back, and has the new file take the place of the target.
@@ -52,18 +59,35 @@ fn replace(target: &Target, output: BufWriter<PartFile>) -> io::Result<()> {
     output.into_inner()?.replace(target)
 }
 
-// Has the new file take the place of the target, if there is one, and gives the target if it did.
-fn keep(target: Option<Target>, output: BufWriter<PartFile>) -> Option<Target>
-    ensures { is_some result ≡ true → is_some target ≡ true }
+// Has the new file take the place of the target, if there is one, and gives the target if it did, or why it didn't.
+fn keep(target: Option<Target>, output: BufWriter<PartFile>) -> Result<Target, Option<WriteFailure>>
+    ensures { IsOk result → is_some target ≡ true }
 {
     let Some(target) = target else {
         let (_part, _held_back) = output.into_parts();
-        return None;
+        return Err(None);
     };
-    if replace(&target, output).is_err() {
-        return None;
+    match replace(&target, output) {
+        Ok(()) => Ok(target),
+        Err(error) => Err(Some(failure_by(error.kind()))),
     }
-    Some(target)
+}
+
+// What an error of this kind says of an output.
+fn failure_by(kind: ErrorKind) -> WriteFailure {
+    match kind {
+        ErrorKind::NotFound | ErrorKind::NotADirectory => WriteFailure::NoFolder,
+        ErrorKind::IsADirectory => WriteFailure::Folder,
+        ErrorKind::PermissionDenied => WriteFailure::NotAllowed,
+        ErrorKind::ReadOnlyFilesystem => WriteFailure::ReadOnly,
+        ErrorKind::StorageFull => WriteFailure::Full,
+        ErrorKind::QuotaExceeded => WriteFailure::OverQuota,
+        ErrorKind::FileTooLarge => WriteFailure::TooLarge,
+        ErrorKind::InvalidFilename => WriteFailure::BadName,
+        ErrorKind::BrokenPipe => WriteFailure::NoReader,
+        ErrorKind::AlreadyExists => WriteFailure::NamesTaken,
+        _ => WriteFailure::Other,
+    }
 }
 
 // What an error says of a path.
@@ -133,8 +157,10 @@ impl Files for System {
     fn begin(&mut self, path: &str) -> Option<Sink<ToWrite<BufWriter<PartFile>>>> {
         let begun = begin(&self.rt, path);
         self.counts.count_begin(begun.is_ok());
-        let (target, output) = begun.ok()?;
+        self.failure = begun.as_ref().err().map(|error| failure_by(error.kind()));
+        let (target, output, other_parts) = begun.ok()?;
         self.pending = Some(target);
+        self.other_parts = other_parts;
         let output = Sink::new(ToWrite::new(output));
         self.notes.note_begun(&output);
         Some(output)
@@ -143,16 +169,29 @@ impl Files for System {
     fn keep(&mut self, output: ToWrite<BufWriter<PartFile>>) -> bool {
         self.notes.note_ended(&output);
         let target = self.pending.take();
-        self.replaced = keep(target, output.into_inner());
-        let is_kept = self.replaced.is_some();
+        let kept = keep(target, output.into_inner());
+        let is_kept = kept.is_ok();
         self.counts.count_keep(is_kept);
+        match kept {
+            Ok(target) => self.replaced = Some(target),
+            Err(failure) => self.failure = failure,
+        }
         is_kept
     }
 
     fn discard(&mut self, output: ToWrite<BufWriter<PartFile>>) {
         self.notes.note_ended(&output);
-        let (_part, _held_back) = output.into_inner().into_parts();
+        let (part, _held_back) = output.into_inner().into_parts();
+        self.failure = part.failure().map(failure_by);
         self.pending = None;
         self.counts.count_discard();
+    }
+
+    fn write_failure(&self) -> Option<WriteFailure> {
+        self.failure
+    }
+
+    fn other_parts(&self) -> u32 {
+        self.other_parts
     }
 }

@@ -77,6 +77,7 @@ pub record IsHeld (files : FileUse) (path : List ℕ) (run : RunReport) : Type 0
   pub output : Drained
   pub sent : ℕ
   pub whole : WritesAll fresh output 0 (run_text run) sent
+  pub flushed : output.flushed ≡ true
   pub away : files.after ≡ not_kept (ended_of output) (begun (Some fresh) path files.before)
 
 -- it couldn't be written: its output couldn't be begun, or one of these

@@ -4,10 +4,10 @@ ghost use Rattle.mapchain_cli.specs.Files.{OnlyReads, used};
 use crate::ending::Ending;
 use crate::files::Files;
 use byte_ends::{MAX_INPUT, ReadFault, read_all};
-use command_words::Request;
+use command_words::{Order, Request};
 use explanations::{
-    Bounds, FileKind, bad_area, bad_share, built, built_layer, grid_step, layer_fault,
-    simplified_topology, topology_fault, unopened,
+    Bounds, FileKind, bad_area, bad_share, built, built_layer, grid_step, layer_fault, other_parts,
+    simplified_topology, topology_contents, topology_fault, unopened, unwritten_output,
 };
 use inputs::{BuildFault, FileFault};
 use reports::Report;
@@ -155,21 +155,34 @@ fn explain_simplified<F: Files>(
     Ok(text)
 }
 
-/// What became of a request that is done.
+/// What is in a topology that was counted.
+fn explain_summary<F: Files>(alloc: Global, path: &str, files: &mut F) -> Result<String, AllocError>
+    ensures { OnlyReads (used (F.state files.old) (F.state files.new)) }
+{
+    match read_again(alloc, path, files) {
+        Some(bytes) => topology_contents(alloc, bytes.as_slice()),
+        None => Ok(String::new(alloc)),
+    }
+}
+
+/// What became of a request that is done, with this report of a build or of simplifying.
 fn explain_done<F: Files>(
     alloc: Global,
     request: &Request<'_>,
-    report: &Report,
+    report: Option<&Report>,
     files: &mut F,
 ) -> Result<String, AllocError>
     ensures { OnlyReads (used (F.state files.old) (F.state files.new)) }
 {
-    match request {
-        Request::Build { layers, grid, .. } => {
+    match (request, report) {
+        (Request::Build { layers, grid, .. }, Some(report)) => {
             explain_built(alloc, layers.as_slice(), *grid, report, files)
         }
-        Request::Simplify { path, .. } => explain_simplified(alloc, path, report, files),
-        Request::Geo { .. } | Request::Stat { .. } => Ok(String::new(alloc)),
+        (Request::Simplify { path, .. }, Some(report)) => {
+            explain_simplified(alloc, path, report, files)
+        }
+        (Request::Stat { path, .. }, _) => explain_summary(alloc, path, files),
+        _ => Ok(String::new(alloc)),
     }
 }
 
@@ -198,15 +211,27 @@ fn explain_words(
     }
 }
 
-/// Why a request isn't done.
+/// Whether the output couldn't be begun, written or kept.
+fn is_unwritten(ending: &Ending) -> bool {
+    matches!(
+        ending,
+        Ending::Refused(BuildFault::Write { .. }) | Ending::FileRefused(FileFault::Write { .. })
+    )
+}
+
+/// Why an order isn't done.
 fn explain_refused<F: Files>(
     alloc: Global,
-    request: &Request<'_>,
+    order: &Order<'_>,
     ending: &Ending,
     files: &mut F,
 ) -> Result<String, AllocError>
     ensures { OnlyReads (used (F.state files.old) (F.state files.new)) }
 {
+    if is_unwritten(ending) {
+        return unwritten_output(alloc, order.output, files.write_failure());
+    }
+    let request = &order.request;
     match (request, ending) {
         (Request::Build { layers, exact, .. }, Ending::Refused(fault)) => {
             explain_layer(alloc, layers.as_slice(), *exact, fault, files)
@@ -219,19 +244,43 @@ fn explain_refused<F: Files>(
     }
 }
 
-/// What is said in words of how a request came out, in lines, each ended by a line feed: nothing for want of memory.
+/// Which new files of other runs stand beside the one that this order's output went to.
+fn explain_parts<F: Files>(
+    alloc: Global,
+    order: &Order<'_>,
+    files: &F,
+) -> Result<String, AllocError> {
+    match order.output {
+        Some(path) => other_parts(alloc, path, files.other_parts()),
+        None => Ok(String::new(alloc)),
+    }
+}
+
+/// What is said in words of how an order came out.
+fn explain<F: Files>(
+    alloc: Global,
+    order: &Order<'_>,
+    outcome: &Result<Option<Report>, Ending>,
+    files: &mut F,
+) -> Result<String, AllocError>
+    ensures { OnlyReads (used (F.state files.old) (F.state files.new)) }
+{
+    let mut text = match outcome {
+        Ok(report) => explain_done(alloc, &order.request, report.as_ref(), files)?,
+        Err(ending) => explain_refused(alloc, order, ending, files)?,
+    };
+    text.push_str(explain_parts(alloc, order, files)?.as_str())?;
+    Ok(text)
+}
+
+/// What is said in words of how an order came out, in lines, each ended by a line feed: nothing for want of memory.
 pub(crate) fn explanation_of<F: Files>(
     alloc: Global,
-    request: &Request<'_>,
+    order: &Order<'_>,
     outcome: &Result<Option<Report>, Ending>,
     files: &mut F,
 ) -> String
     ensures { OnlyReads (used (F.state files.old) (F.state files.new)) }
 {
-    let text = match outcome {
-        Ok(Some(report)) => explain_done(alloc, request, report, files),
-        Ok(None) => Ok(String::new(alloc)),
-        Err(ending) => explain_refused(alloc, request, ending, files),
-    };
-    text.unwrap_or(String::new(alloc))
+    explain(alloc, order, outcome, files).unwrap_or(String::new(alloc))
 }

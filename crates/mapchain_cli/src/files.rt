@@ -3,7 +3,7 @@ ghost use Rattle.std.specs.Prelude.{◌≡◌, ℕ, List, None, IfNone, IfSome, 
 ghost use Rattle.mapchain_cli.specs.Files.{FileState, IsFresh, IsOpened, Keeps, begun, discarded, done_with, done_with_all, not_kept, one_more};
 
 use byte_ends::{Drain, Feed, Sink, Source};
-use explanations::FileKind;
+use explanations::{FileKind, WriteFailure};
 use json_value::OwnText;
 
 /// Files that are read and replaced by their names, as a file system.
@@ -55,7 +55,8 @@ pub trait Files {
         ensures counted { state self.new ≡ begun result path.now (state self.old) };
 
     /// Puts an output that is whole in the place of the file for which one was begun last, once it is on the disk, and answers whether
-    /// that was done. Where it wasn't, the file stays as it is, and the output is taken away.
+    /// that was done. Where it wasn't, the file stays as it is, and the output is taken away. A device, which has no bytes of its own, took
+    /// the output as it was written.
     fn keep(&mut self, output: Self::W) -> bool
         // That file holds what the output took, no other file changes, the call is counted, and what the device is now is noted.
         ensures kept { result ≡ true → (path : List ℕ) × Keeps path (record { taken = Self.W.taken output; failures = Self.W.failures output; flushed = Self.W.flushed output }) (state self.old) (state self.new) }
@@ -65,4 +66,14 @@ pub trait Files {
     fn discard(&mut self, output: Self::W)
         // The call is counted, and what the device is now is noted.
         ensures counted { state self.new ≡ discarded (record { taken = Self.W.taken output; failures = Self.W.failures output; flushed = Self.W.flushed output }) (state self.old) };
+
+    /// Why the last output couldn't be begun, written or kept, as far as that is known.
+    fn write_failure(&self) -> Option<WriteFailure> {
+        None
+    }
+
+    /// How many new files of other runs stood beside that of the last output when it was begun, as of runs that were interrupted.
+    fn other_parts(&self) -> u32 {
+        0
+    }
 }

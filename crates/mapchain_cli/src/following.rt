@@ -131,7 +131,7 @@ pub(crate) fn follow<F: Files, W: Drain>(
     if !order.explains && order.report.is_none() {
         return status_after(outcome);
     }
-    let explanation = explanation_of(alloc, &order.request, outcome, files);
+    let explanation = explanation_of(alloc, order, outcome, files);
     print_if(order.explains, explanation.as_str(), err);
     match order.report {
         None => status_after(outcome),

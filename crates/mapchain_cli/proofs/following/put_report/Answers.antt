@@ -37,6 +37,7 @@ returns-in-Ok-clause-unwritten g c = λ held.
       output = sink;
       sent = c.in-Ok.field-0;
       whole = whole.0;
+      flushed = whole.1;
       away = c.keep.ensures.lost held ∙ ap (λ (e : Ended). not_kept e opened) same ∙ ap (not_kept (ended_of sink)) c.in-Some.ensures.counted;
     }))
 

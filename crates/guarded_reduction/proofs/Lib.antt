@@ -6,7 +6,9 @@ pub mod Free
 pub mod Heap
 pub mod Indexes
 pub mod Joining
+pub mod Keeping
 pub mod KeptIndexes
+pub mod Moves
 pub mod Next
 pub mod NotFree
 pub mod Numbers
@@ -14,10 +16,12 @@ pub mod Orders
 pub mod Placed
 pub mod Queries
 pub mod Queued
+pub mod RingMoves
 pub mod Searches
 pub mod Showing
 pub mod Starts
 pub mod Trees
 pub mod Unlinking
+pub mod Users
 pub mod Waits
 pub mod Weighed

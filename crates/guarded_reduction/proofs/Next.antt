@@ -1,5 +1,5 @@
 -- The corner that is taken out is the next to go.
-use Rattle.std.proofs.Common.{◌≡◌, ℕ, zero, suc, ◌<◌, ◌≤◌, Bool, true, false, List, [], slice_index, slice_set, Option, Some, None, refl, ap, sym, ◌∙◌, subst, ◌⊎◌, inl, inr, arith}
+use Rattle.std.proofs.Common.{◌≡◌, ℕ, ℤ, zero, suc, ◌<◌, ◌≤◌, Bool, true, false, not, ◌||◌, nat_lt, List, slice_index, slice_set, Option, Some, None, refl, ap, sym, ◌∙◌, subst, ◌⊎◌, inl, inr, arith}
 use Rattle.std.specs.List.{Contains}
 use Rattle.std.specs.Cmp.{IsTotalOrder, IsStrictWeakOrder}
 use Rattle.std.specs.Ordering.{ordering_then, nat_cmp, is_lt}
@@ -28,7 +28,8 @@ use Rattle.guarded_reduction.proofs.Free.{blocked_inside, free_law}
 use Rattle.guarded_reduction.proofs.NotFree.{blocked_law}
 use Rattle.guarded_reduction.specs.declared.entry.Entry.{Entry}
 use Rattle.guarded_reduction.specs.Entries.{AreBelow, IsDue, entry_cmp, entry_in, turned}
-use Rattle.guarded_reduction.specs.Linking.{Linked, IsShowing, IsWhole, corner_in, unlinked}
+use Rattle.guarded_reduction.specs.Linking.{Linked, IsShowing, IsWhole, corner_in, is_fixed, unlinked}
+use Rattle.guarded_reduction.specs.Keeping.{FixedCannotGo, IsKept}
 use Rattle.guarded_reduction.specs.Numbers.{HasPlace, left_arcs, number}
 use Rattle.guarded_reduction.specs.States.{HoldsByLink, IsHeld, IsNext, NoneNext, blocks}
 use Rattle.guarded_reduction.specs.Waiting.{Waiting}
@@ -87,14 +88,30 @@ first_of_two a b i j h = on (cases_lt a b)
 
 -- ---- guards
 
-passes : (t : ℕ) (arcs : List (List Vertex)) (c : ArcCorner) → c.corner.area < t → is_free arcs c ≡ true → goes (guarded_by true []) t arcs c ≡ true
-unfolding keeps_rings
-passes t arcs c l f = and_from _ _ (lt-ltb c.corner.area t l) (and_from _ _ f refl)
+where_asked : (b x : Bool) → (b ≡ true → x ≡ true) → (not b || x) ≡ true
+where_asked true x f = f refl
+where_asked false x f = refl
 
-passed : (t : ℕ) (arcs : List (List Vertex)) (c : ArcCorner) → goes (guarded_by true []) t arcs c ≡ true → (c.corner.area < t) × (is_free arcs c ≡ true)
-passed t arcs c h = let r = and_parts _ _ h in (ltb-true c.corner.area t r.0, (and_parts _ _ r.1).0)
+asked_so : (b x : Bool) → (not b || x) ≡ true → b ≡ true → x ≡ true
+asked_so true x h e = h
+asked_so false x h e = grind (arith, e)
 
-module _ (arcs : List (List Point)) (t : ℕ) (s : Linked) (show : IsShowing arcs s) where
+-- what may go under a guard is under the threshold, and free where that is asked for, and keeps the rings
+pub record MayGo (b : Bool) (rings : List (List ℤ)) (t : ℕ) (arcs : List (List Vertex)) (c : ArcCorner) : Type 0 where
+  pub under : c.corner.area < t
+  pub free : b ≡ true → is_free arcs c ≡ true
+  pub stay : keeps_rings rings arcs c ≡ true
+
+passes : (b : Bool) (rings : List (List ℤ)) (t : ℕ) (arcs : List (List Vertex)) (c : ArcCorner) → MayGo b rings t arcs c → goes (guarded_by b rings) t arcs c ≡ true
+passes b rings t arcs c h = and_from _ _ (lt-ltb c.corner.area t h.under) (and_from _ _ (where_asked b (is_free arcs c) h.free) h.stay)
+
+passed : (b : Bool) (rings : List (List ℤ)) (t : ℕ) (arcs : List (List Vertex)) (c : ArcCorner) → goes (guarded_by b rings) t arcs c ≡ true → MayGo b rings t arcs c
+passed b rings t arcs c h =
+    let r = and_parts (nat_lt c.corner.area t) (guarded_by b rings arcs c) h in
+    let q = and_parts (not b || is_free arcs c) (keeps_rings rings arcs c) r.1 in
+    record { under = ltb-true c.corner.area t r.0; free = asked_so b (is_free arcs c) q.0; stay = q.1 }
+
+module _ (b : Bool) (rings : List (List ℤ)) (arcs : List (List Point)) (t : ℕ) (s : Linked) (show : IsShowing arcs s) (flag : s.no_crossings ≡ b) (fixed : FixedCannotGo arcs rings s) where
   abbrev now : List (List Vertex)
   now = left_arcs arcs s.left
 
@@ -139,34 +156,46 @@ module _ (arcs : List (List Point)) (t : ℕ) (s : Linked) (show : IsShowing arc
       meets (inl k) = blocked_inside s.positions s.befores s.afters (corner_in s (own d)) h.holder (point_at s.positions h.holder) k
       meets (inr k) = k.blocks
 
-  due_of : (d : ArcCorner) → there d → d.corner.area < t → IsDue t s (own d)
-  due_of d m l = let x : IsShownCorner arcs s d = shown_corner arcs s show d m in record { corner = x.corner; under = subst (λ n. n < t) x.area l }
+  due_of : (d : ArcCorner) → there d → MayGo b rings t now d → IsDue t s (own d)
+  due_of d m l =
+      let x : IsShownCorner arcs s d = shown_corner arcs s show d m in
+      record {
+        corner = x.corner;
+        under = subst (λ n. n < t) x.area l.under;
+        loose = false_from_ne_true (is_fixed s (own d)) (λ e. both_ways (keeps_rings rings now d) (fixed (own d) e d x.there refl) l.stay);
+      }
+
+  not_held : (w : Waiting) (d : ArcCorner) → there d → MayGo b rings t now d → IsHeld s w (own d) → ⊥
+  not_held w d m l h = both_ways (is_free now d) (held_is_not_free w d m h) (l.free (sym flag ∙ h.asked))
 
   -- ---- none goes
 
-  pub none_next : (w : Waiting) → NoneNext t s w → next_arcs (guarded_by true []) t now ≡ None
-  none_next w n = no_next_law (guarded_by true []) t now (λ d m. false_from_ne_true (goes (guarded_by true []) t now d)
-      (λ g. let r = passed t now d g in both_ways (is_free now d) (held_is_not_free w d m (n.held (own d) (due_of d m r.0))) r.1))
+  pub none_next : (w : Waiting) → NoneNext t s w → next_arcs (guarded_by b rings) t now ≡ None
+  none_next w n = no_next_law (guarded_by b rings) t now (λ d m. false_from_ne_true (goes (guarded_by b rings) t now d)
+      (λ g. let r = passed b rings t now d g in not_held w d m r (n.held (own d) (due_of d m r))))
 
   -- ---- one goes
 
-  module _ (items : List (Reverse Entry)) (w : Waiting) (e : Entry) (n : IsNext t s items w e) where
+  module _ (items : List (Reverse Entry)) (w : Waiting) (e : Entry) (n : IsNext t s items w e) (stay : IsKept arcs rings s.left e.place true) where
     the_one : IsFound arcs s show e.place
     the_one = found arcs s show e.place n.due.corner
 
     abbrev one : ArcCorner
     one = the_one.corner
 
-    free : is_free now one ≡ true
-    free = free_law (number arcs) s.positions s.left s.befores s.afters now one (own one) show.shows
+    free : b ≡ true → is_free now one ≡ true
+    free f = free_law (number arcs) s.positions s.left s.befores s.afters now one (own one) show.shows
         (let x : IsShownCorner arcs s one = shown_corner arcs s show one the_one.there in record { place = own_place arcs s.left one x.there; from = own_from arcs s.left one x.there; to = own_to arcs s.left one x.there })
-        (subst (λ (q : Corner). NoneMeets s.positions s.left (is_blocked_by s.positions s.befores s.afters q)) (sym (asked_is one the_one.there ∙ ap (corner_in s) the_one.number_is)) n.free)
+        (subst (λ (q : Corner). NoneMeets s.positions s.left (is_blocked_by s.positions s.befores s.afters q)) (sym (asked_is one the_one.there ∙ ap (corner_in s) the_one.number_is)) (n.free (flag ∙ f)))
 
     under : one.corner.area < t
     under = let x : IsShownCorner arcs s one = shown_corner arcs s show one the_one.there in subst (λ a. a < t) (sym (x.area ∙ ap (λ v. (entry_in s v).area) the_one.number_is)) n.due.under
 
-    none_before : (d : ArcCorner) → there d → goes (guarded_by true []) t now d ≡ true → goes_before d one ≡ false
-    none_before d m g = false_from_ne_true (goes_before d one) (λ h. on h (n.covers (own d) (due_of d m (passed t now d g).0)))
+    may_go : MayGo b rings t now one
+    may_go = let x : IsShownCorner arcs s one = shown_corner arcs s show one the_one.there in record { under = under; free = free; stay = stay one x.there the_one.number_is }
+
+    none_before : (d : ArcCorner) → there d → goes (guarded_by b rings) t now d ≡ true → goes_before d one ≡ false
+    none_before d m g = let r = passed b rings t now d g in false_from_ne_true (goes_before d one) (λ h. on h (n.covers (own d) (due_of d m r)))
       where
         entry_is : goes_before d one ≡ true → is_first (entry_in s (own d)) e ≡ true
         entry_is h = subst (λ x. is_first (entry_in s (own d)) x ≡ true) (ap (entry_in s) the_one.number_is ∙ sym n.is) (entries_before d one m the_one.there h)
@@ -174,10 +203,10 @@ module _ (arcs : List (List Point)) (t : ℕ) (s : Linked) (show : IsShowing arc
         on : goes_before d one ≡ true → (own d ≡ e.place) ⊎ (Contains items (turned (entry_in s (own d))) ⊎ IsHeld s w (own d)) → ⊥
         on h (inl q) = not_before_itself e (subst (λ x. is_first x e ≡ true) (ap (entry_in s) q ∙ sym n.is) (entry_is h))
         on h (inr (inl k)) = both_ways (is_first (entry_in s (own d)) e) (n.first (entry_in s (own d)) k) (entry_is h)
-        on h (inr (inr k)) = both_ways (is_free now d) (held_is_not_free w d m k) (passed t now d g).1
+        on h (inr (inr k)) = not_held w d m (passed b rings t now d g) k
 
-    pub goes_next : IsWhole s → next_arcs (guarded_by true []) t now ≡ Some (left_arcs arcs (unlinked e.place s).left)
-    goes_next whole = next_law (guarded_by true []) t now one the_one.there (passes t now one under free) none_before
+    pub goes_next : IsWhole s → next_arcs (guarded_by b rings) t now ≡ Some (left_arcs arcs (unlinked e.place s).left)
+    goes_next whole = next_law (guarded_by b rings) t now one the_one.there (passes b rings t now one may_go) none_before
         ∙ ap Some (sym (left_is arcs s whole show one the_one.there) ∙ ap (λ z. left_arcs arcs (slice_set s.left z false)) the_one.number_is)
 
     pub showing_next : IsWhole s → IsShowing arcs (unlinked e.place s)
@@ -186,14 +215,14 @@ module _ (arcs : List (List Point)) (t : ℕ) (s : Linked) (show : IsShowing arc
 -- ---- without a threshold
 
 -- a corner that is the next of all, but for the positions beside it, whose place is the entry's
-pub record IsGone (arcs : List (List Point)) (s : Linked) (e : Entry) : Type 0 where
+pub record IsGone (guard : Guard) (arcs : List (List Point)) (s : Linked) (e : Entry) : Type 0 where
   pub one : ArcCorner
   pub has_place : HasPlace arcs one.arc one.corner.index
   pub number_is : number arcs one.arc one.corner.index ≡ e.place
   pub left : is_left_at s.left e.place ≡ true
   pub area : one.corner.area ≡ e.area
   pub next : ArcCorner
-  pub is_next : next_corner (guarded_by true []) (left_arcs arcs s.left) ≡ Some next
+  pub is_next : next_corner guard (left_arcs arcs s.left) ≡ Some next
   pub same_arc : next.arc ≡ one.arc
   pub same_corner : next.corner ≡ one.corner
   pub leaves : left_by (left_arcs arcs s.left) one ≡ left_arcs arcs (slice_set s.left e.place false)
@@ -206,31 +235,33 @@ next_alike guard arcs c m g h = on (next_corner guard arcs) refl
     on None e = absurd (both_ways (guard arcs c) (none_is_next guard arcs e c m) g)
     on (Some d) e = let n = next_is guard arcs d e in let a = tied d c (h d n.among n.passed) (n.none_before c m g) in (d, e, a.0, a.1)
 
-module _ (arcs : List (List Point)) (s : Linked) (show : IsShowing arcs s) (below : AreBelow s) where
+module _ (b : Bool) (rings : List (List ℤ)) (arcs : List (List Point)) (s : Linked) (show : IsShowing arcs s) (flag : s.no_crossings ≡ b) (fixed : FixedCannotGo arcs rings s) (below : AreBelow s) where
+  abbrev asked_for : Guard
+  asked_for = guarded_by b rings
+
   under_limit : (d : ArcCorner) → In d (all_corners 0 (left_arcs arcs s.left)) → d.corner.area < area_limit
   under_limit d m = let x : IsShownCorner arcs s d = shown_corner arcs s show d m in subst (λ n. n < area_limit) (sym x.area) (below (number arcs d.arc d.corner.index) x.corner)
 
-  allowed : (d : ArcCorner) → In d (all_corners 0 (left_arcs arcs s.left)) → guarded_by true [] (left_arcs arcs s.left) d ≡ true → goes (guarded_by true []) area_limit (left_arcs arcs s.left) d ≡ true
+  allowed : (d : ArcCorner) → In d (all_corners 0 (left_arcs arcs s.left)) → asked_for (left_arcs arcs s.left) d ≡ true → goes asked_for area_limit (left_arcs arcs s.left) d ≡ true
   allowed d m g = and_from _ _ (lt-ltb d.corner.area area_limit (under_limit d m)) g
 
-  pub none_at_all : (w : Waiting) → NoneNext area_limit s w → next_corner (guarded_by true []) (left_arcs arcs s.left) ≡ None
-  none_at_all w n = on (next_corner (guarded_by true []) (left_arcs arcs s.left)) refl
+  pub none_at_all : (w : Waiting) → NoneNext area_limit s w → next_corner asked_for (left_arcs arcs s.left) ≡ None
+  none_at_all w n = on (next_corner asked_for (left_arcs arcs s.left)) refl
     where
-      on : (o : Option ArcCorner) → next_corner (guarded_by true []) (left_arcs arcs s.left) ≡ o → next_corner (guarded_by true []) (left_arcs arcs s.left) ≡ None
+      on : (o : Option ArcCorner) → next_corner asked_for (left_arcs arcs s.left) ≡ o → next_corner asked_for (left_arcs arcs s.left) ≡ None
       on None e = e
       on (Some d) e =
-          let i = next_is (guarded_by true []) (left_arcs arcs s.left) d e in
-          absurd (both_ways (is_free (left_arcs arcs s.left) d)
-          (held_is_not_free arcs area_limit s show w d i.among (n.held (number arcs d.arc d.corner.index) (due_of arcs area_limit s show d i.among (under_limit d i.among))))
-          (passed area_limit (left_arcs arcs s.left) d (allowed d i.among i.passed)).1)
+          let i = next_is asked_for (left_arcs arcs s.left) d e in
+          let r = passed b rings area_limit (left_arcs arcs s.left) d (allowed d i.among i.passed) in
+          absurd (not_held b rings arcs area_limit s show flag fixed w d i.among r (n.held (number arcs d.arc d.corner.index) (due_of b rings arcs area_limit s show flag fixed d i.among r)))
 
-  pub one_gone : (items : List (Reverse Entry)) (w : Waiting) (e : Entry) → IsWhole s → IsNext area_limit s items w e → IsGone arcs s e
-  one_gone items w e whole n =
-      let f : IsFound arcs s show e.place = the_one arcs area_limit s show items w e n in
+  pub one_gone : (items : List (Reverse Entry)) (w : Waiting) (e : Entry) → IsWhole s → IsNext area_limit s items w e → IsKept arcs rings s.left e.place true → IsGone asked_for arcs s e
+  one_gone items w e whole n stay =
+      let f : IsFound arcs s show e.place = the_one b rings arcs area_limit s show flag fixed items w e n stay in
       let x : IsShownCorner arcs s f.corner = shown_corner arcs s show f.corner f.there in
-      let a = next_alike (guarded_by true []) (left_arcs arcs s.left) f.corner f.there
-      (and_parts _ _ (passes area_limit (left_arcs arcs s.left) f.corner (under arcs area_limit s show items w e n) (free arcs area_limit s show items w e n))).1
-      (λ d m g. none_before arcs area_limit s show items w e n d m (allowed d m g)) in
+      let a = next_alike asked_for (left_arcs arcs s.left) f.corner f.there
+      (and_parts _ _ (passes b rings area_limit (left_arcs arcs s.left) f.corner (may_go b rings arcs area_limit s show flag fixed items w e n stay))).1
+      (λ d m g. none_before b rings arcs area_limit s show flag fixed items w e n stay d m (allowed d m g)) in
       record {
         one = f.corner;
         has_place = x.there;

@@ -1,11 +1,11 @@
 -- The heap and the waits cover all corners under the threshold while corners are looked at and go.
-use Rattle.std.proofs.Common.{◌≡◌, ◌≢◌, ℕ, ◌<◌, ◌==◌, true, false, not, ◌&&◌, ◌||◌, List, ◌∷◌, length, slice_index, slice_index_or, get_or-set_other, refl, ap, sym, ◌∙◌, subst, ◌⊎◌, inl, inr, arith}
+use Rattle.std.proofs.Common.{◌≡◌, ◌≢◌, ℕ, ◌<◌, ◌==◌, true, false, not, ◌&&◌, ◌||◌, List, ◌∷◌, length, slice_index, slice_index_or, slice_set, length-set, get_or-set_same, get_or-set_other, Bool, refl, ap, sym, ◌∙◌, subst, ◌⊎◌, inl, inr, arith}
 use Rattle.std.specs.BinaryHeap.{IsUpperBound}
 use Rattle.std.specs.List.{Contains}
 use Rattle.std.specs.List.Sorted.{IsPermutation}
 use Rattle.std.specs.Ordering.{is_lt}
 use Rattle.std.specs.declared.cmp.Reverse.{Reverse}
-use Rattle.std.proofs.lemmas.Bool.{cases_eq}
+use Rattle.std.proofs.lemmas.Bool.{both_ways, cases_eq}
 use Rattle.std.proofs.lemmas.List.Elements.{All-contains, All-from_recursion}
 use Rattle.std.proofs.lemmas.List.Sorted.{Contains-permutation, IsPermutation-sym}
 use Rattle.geometry.specs.Points.{Point}
@@ -19,15 +19,17 @@ use Rattle.guarded_reduction.specs.Tests.{is_held_by}
 use Rattle.guarded_reduction.proofs.Indexes.{left_before}
 use Rattle.guarded_reduction.specs.declared.entry.Entry.{Entry}
 use Rattle.guarded_reduction.specs.Entries.{AreBelow, IsCurrent, IsDue, IsSound, entry_at, entry_in, turned, turned_cmp}
-use Rattle.guarded_reduction.specs.Linking.{Linked, IsChained, IsCorner, IsWhole, corner_in, unlinked}
-use Rattle.guarded_reduction.specs.States.{HoldsByLink, IsHeld, IsNext, IsQueued, Pushed, PushedAll, blocks}
+use Rattle.guarded_reduction.specs.Linking.{Linked, IsChained, IsCorner, IsWhole, corner_in, fixed_at, fixed_to, is_fixed, unlinked}
+use Rattle.guarded_reduction.specs.Moves.{Counted, keeps_all}
+use Rattle.guarded_reduction.specs.States.{HoldsByLink, IsFixing, IsHeld, IsNext, IsQueued, Pushed, PushedAll, blocks}
 use Rattle.guarded_reduction.specs.Waiting.{KeepsWaits, Waiting, WaitsOn}
 use Rattle.guarded_reduction.proofs.Unlinking.{same_at}
 
 -- ---- a place is waited on
 
-pub held_inside : (s : Linked) (w : Waiting) (v h : ℕ) (q : Corner) (p : Point) → Meets s.positions s.left (blocks s v) h → WaitsOn w h v → q ≡ corner_in s v → p ≡ point_at s.positions h → is_held_by q h p ≡ true → IsHeld s w v
-held_inside s w v h q p meets waits eq ep held = record {
+pub held_inside : (s : Linked) (w : Waiting) (v h : ℕ) (q : Corner) (p : Point) → s.no_crossings ≡ true → Meets s.positions s.left (blocks s v) h → WaitsOn w h v → q ≡ corner_in s v → p ≡ point_at s.positions h → is_held_by q h p ≡ true → IsHeld s w v
+held_inside s w v h q p asked meets waits eq ep held = record {
+  asked = asked;
   holder = h;
   within = meets.within;
   left = meets.left;
@@ -35,11 +37,11 @@ held_inside s w v h q p meets waits eq ep held = record {
   holds = inl (subst (λ (r : Point). is_held_by (corner_in s v) h r ≡ true) ep (subst (λ (r : Corner). is_held_by r h p ≡ true) eq held));
 }
 
-pub held_across : (s : Linked) (w : Waiting) (v h : ℕ) → Meets s.positions s.left (blocks s v) h → WaitsOn w h v → WaitsOn w (slice_index s.befores h) v → WaitsOn w (slice_index s.afters h) v → IsHeld s w v
-held_across s w v h meets waits before after = record { holder = h; within = meets.within; left = meets.left; waits = waits; holds = inr (record { blocks = meets.meets; before = before; after = after }) }
+pub held_across : (s : Linked) (w : Waiting) (v h : ℕ) → s.no_crossings ≡ true → Meets s.positions s.left (blocks s v) h → WaitsOn w h v → WaitsOn w (slice_index s.befores h) v → WaitsOn w (slice_index s.afters h) v → IsHeld s w v
+held_across s w v h asked meets waits before after = record { asked = asked; holder = h; within = meets.within; left = meets.left; waits = waits; holds = inr (record { blocks = meets.meets; before = before; after = after }) }
 
 pub still_held : (s : Linked) (old new : Waiting) (v : ℕ) → KeepsWaits old new → IsHeld s old v → IsHeld s new v
-still_held s old new v k h = record { holder = h.holder; within = h.within; left = h.left; waits = k.has h.holder v h.waits; holds = on h.holds }
+still_held s old new v k h = record { asked = h.asked; holder = h.holder; within = h.within; left = h.left; waits = k.has h.holder v h.waits; holds = on h.holds }
   where
     on : (is_held_by (corner_in s v) h.holder (point_at s.positions h.holder) ≡ true) ⊎ HoldsByLink s old v h.holder → (is_held_by (corner_in s v) h.holder (point_at s.positions h.holder) ≡ true) ⊎ HoldsByLink s new v h.holder
     on (inl e) = inl e
@@ -62,7 +64,7 @@ module _ (t : ℕ) (s : Linked) (items new : List (Reverse Entry)) (w : Waiting)
   was_there = Contains-permutation (turned e ∷ new) items (turned e) (IsPermutation-sym items (turned e ∷ new) perm) (contains_here (turned e) new)
 
   due_current : (v : ℕ) → IsDue t s v → IsCurrent s (entry_in s v)
-  due_current v h = record { within = h.corner.within; left = h.corner.left; before = refl; after = refl }
+  due_current v h = record { within = h.corner.within; left = h.corner.left; before = refl; after = refl; loose = h.loose }
 
   pub drop_stale : (IsCurrent s e → ⊥) → IsQueued t s new w
   drop_stale stale = record { covers = λ v h. on v h (queued.covers v h); sound = λ d h. queued.sound d (was d h); firsts = queued.firsts }
@@ -100,9 +102,10 @@ module _ (t : ℕ) (s : Linked) (items new : List (Reverse Entry)) (w : Waiting)
       record {
         corner = record { within = c.within; left = c.left; before = λ q. h.before (sym c.before ∙ q); after = λ q. h.after (sym c.after ∙ q) };
         under = subst (λ (x : Entry). x.area < t) (current_is c) h.under;
+        loose = c.loose;
       }
 
-  pub comes_next : IsUpperBound turned_cmp (turned e) items → IsCurrent s e → NoneMeets s.positions s.left (blocks s e.place) → IsNext t s new w e
+  pub comes_next : IsUpperBound turned_cmp (turned e) items → IsCurrent s e → (s.no_crossings ≡ true → NoneMeets s.positions s.left (blocks s e.place)) → IsNext t s new w e
   comes_next upper c free = record {
     due = current_due c;
     is = current_is c;
@@ -166,12 +169,14 @@ module _ (t : ℕ) (s : Linked) (whole : IsWhole s) (chained : IsChained s) (z :
     corner_was h = record { within = h.within; left = (left_before s.left z v within h.left).1; before = λ e. h.before (before_same v 0 not_follower ∙ e); after = λ e. h.after (after_same v 0 not_prior ∙ e) }
 
     due_was : IsDue t next v → (v ≢ z) × IsDue t s v
+    unfolding is_fixed
     due_was h =
         let r = left_before s.left z v within h.corner.left in (
           r.0,
           record {
             corner = record { within = h.corner.within; left = r.1; before = λ e. h.corner.before (before_same v 0 not_follower ∙ e); after = λ e. h.corner.after (after_same v 0 not_prior ∙ e) };
             under = subst (λ (x : Entry). x.area < t) entry_same h.under;
+            loose = h.loose;
           },
         )
 
@@ -186,6 +191,7 @@ module _ (t : ℕ) (s : Linked) (whole : IsWhole s) (chained : IsChained s) (z :
             let not_after : h.holder ≢ follower = λ e. l (ap (λ y. slice_index s.befores y) e ∙ (chained.after z corner.within corner.left corner.after).1) in
             let not_before : h.holder ≢ prior = λ e. r (ap (λ y. slice_index s.afters y) e ∙ (chained.before z corner.within corner.left corner.before).1) in
             inr (record {
+              asked = h.asked;
               holder = h.holder;
               within = h.within;
               left = left_other h.holder n h.left;
@@ -200,6 +206,7 @@ module _ (t : ℕ) (s : Linked) (whole : IsWhole s) (chained : IsChained s) (z :
 
         by : h.holder ≢ z → (is_held_by (corner_in s v) h.holder (point_at s.positions h.holder) ≡ true) ⊎ HoldsByLink s w v h.holder → WaitsOn w z v ⊎ IsHeld next w v
         by n (inl k) = inr (record {
+          asked = h.asked;
           holder = h.holder;
           within = h.within;
           left = left_other h.holder n h.left;
@@ -291,3 +298,59 @@ pub below_to : (t : ℕ) (s after : Linked) → IsWhole s → IsChained s → (i
 below_to t s after whole chained items first second last w e n is =
     subst (λ (x : Linked). Pushed t x items first e.before → Pushed t x first second e.after → PushedAll t x second last w e.place → AreBelow s → AreBelow x) (sym is)
     (λ p q r. below_still t s whole chained items first second last w e n p q r)
+
+-- ---- a place stays for good
+
+pub fixed_there : (s : Linked) (z : ℕ) → z < length s.fixed → is_fixed (fixed_at z s) z ≡ true
+unfolding is_fixed
+fixed_there s z h = get_or-set_same s.fixed z true false h
+
+pub fixed_elsewhere : (s : Linked) (z v : ℕ) → v ≢ z → is_fixed (fixed_at z s) v ≡ is_fixed s v
+unfolding is_fixed
+fixed_elsewhere s z v n = get_or-set_other s.fixed z v true false n
+
+-- what held a corner holds it still
+still_held_fixed : (s : Linked) (fs : List Bool) (w : Waiting) (v : ℕ) → IsHeld s w v → IsHeld (fixed_to fs s) w v
+still_held_fixed s fs w v h = record { asked = h.asked; holder = h.holder; within = h.within; left = h.left; waits = h.waits; holds = on h.holds }
+  where
+    on : (is_held_by (corner_in s v) h.holder (point_at s.positions h.holder) ≡ true) ⊎ HoldsByLink s w v h.holder →
+        (is_held_by (corner_in (fixed_to fs s) v) h.holder (point_at s.positions h.holder) ≡ true) ⊎ HoldsByLink (fixed_to fs s) w v h.holder
+    on (inl e) = inl e
+    on (inr l) = inr (record { blocks = l.blocks; before = l.before; after = l.after })
+
+-- the corner that would go next is done with when its place stays for good
+pub next_fixed : (t : ℕ) (s : Linked) (items : List (Reverse Entry)) (w : Waiting) (e : Entry) → is_fixed (fixed_at e.place s) e.place ≡ true → IsNext t s items w e → IsQueued t (fixed_at e.place s) items w
+next_fixed t s items w e there n = record { covers = λ v h. covered v h (cases_eq v e.place); sound = n.sound; firsts = n.firsts }
+  where
+    on : (v : ℕ) → v ≢ e.place → (v ≡ e.place) ⊎ (Contains items (turned (entry_in s v)) ⊎ IsHeld s w v) → Contains items (turned (entry_in s v)) ⊎ IsHeld (fixed_at e.place s) w v
+    on v o (inl k) = absurd (o k)
+    on v o (inr (inl k)) = inl k
+    on v o (inr (inr k)) = inr (still_held_fixed s (slice_set s.fixed e.place true) w v k)
+
+    covered : (v : ℕ) → IsDue t (fixed_at e.place s) v → (v ≡ e.place) ⊎ (v ≢ e.place) → Contains items (turned (entry_in s v)) ⊎ IsHeld (fixed_at e.place s) w v
+    covered v h (inl k) = absurd (both_ways (is_fixed (fixed_at e.place s) v) h.loose (ap (is_fixed (fixed_at e.place s)) k ∙ there))
+    covered v h (inr o) = on v o (n.covers v (record {
+      corner = record { within = h.corner.within; left = h.corner.left; before = h.corner.before; after = h.corner.after };
+      under = h.under;
+      loose = sym (fixed_elsewhere s e.place v o) ∙ h.loose;
+    }))
+
+-- the places that stay don't count
+keeps_same : (s : Linked) (fs : List Bool) (z : ℕ) (g : Counted) → keeps_all (fixed_to fs s) z g ≡ keeps_all s z g
+unfolding keeps_all
+keeps_same s fs z g = refl
+
+pub one_fixed : (old s : Linked) (g : Counted) (z : ℕ) → IsFixing old g s → IsCorner s z → keeps_all s z g ≡ false → IsFixing old g (fixed_at z s)
+one_fixed old s g z f corner e = record {
+  same = ap (fixed_to (slice_set s.fixed z true)) f.same;
+  many = length-set s.fixed z true ∙ f.many;
+  fixed = λ v h. on v h (cases_eq v z);
+}
+  where
+    was_corner : IsCorner (fixed_to s.fixed old) z → IsCorner old z
+    was_corner k = record { within = k.within; left = k.left; before = k.before; after = k.after }
+
+    on : (v : ℕ) → is_fixed (fixed_at z s) v ≡ true → (v ≡ z) ⊎ (v ≢ z) → (is_fixed old v ≡ true) ⊎ (IsCorner old v × (keeps_all old v g ≡ false))
+    on v h (inl k) = inr (subst (λ y. IsCorner old y × (keeps_all old y g ≡ false)) (sym k)
+        (was_corner (subst (λ (x : Linked). IsCorner x z) f.same corner), sym (keeps_same old s.fixed z g) ∙ ap (λ (x : Linked). keeps_all x z g) (sym f.same) ∙ e))
+    on v h (inr n) = f.fixed v (sym (fixed_elsewhere s z v n) ∙ h)

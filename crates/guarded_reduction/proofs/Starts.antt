@@ -1,5 +1,5 @@
 -- The places of whole arcs are linked as their positions follow one another.
-use Rattle.std.proofs.Common.{◌≡◌, ℕ, zero, suc, ◌+◌, ◌-◌, ◌<◌, ◌≤◌, ◌^◌, min, Bool, true, List, [], ◌∷◌, length, length-append, map, replicate, slice_index, slice_index_or, refl, ap, sym, ◌∙◌, subst, ◌⊎◌, inl, inr, arith}
+use Rattle.std.proofs.Common.{◌≡◌, ℕ, zero, suc, ◌+◌, ◌-◌, ◌<◌, ◌≤◌, ◌^◌, min, Bool, true, false, List, [], ◌∷◌, length, length-append, map, replicate, slice_index, slice_index_or, refl, ap, sym, ◌∙◌, subst, ◌⊎◌, inl, inr, arith}
 use Rattle.std.proofs.lemmas.Bool.{cases_lt}
 use Rattle.std.proofs.lemmas.List.{get_or_append_left, get_or-append_right, get_or-replicate, length-replicate}
 use Rattle.std.proofs.lemmas.List.FromFn.{get_or-map-range_with_len, length-map-range_with_len}
@@ -54,12 +54,12 @@ links_at neighbour o (ps ∷ arcs) (suc k) i d h =
     get_or-append_right (arc_links neighbour o (length ps)) (links_of neighbour (o + length ps) arcs) (length ps) (length ps + number arcs k i) d (length-map-range_with_len (λ j. o + neighbour (length ps) j) 0 (length ps)) (omega arith)
     ∙ ap (λ n. slice_index_or (links_of neighbour (o + length ps) arcs) n d) z ∙ links_at neighbour (o + length ps) arcs k i d h ∙ e
 
-module _ (arcs : List (List Point)) where
+module _ (no_crossings : Bool) (arcs : List (List Point)) where
   abbrev whole_arcs : List (List Vertex)
   whole_arcs = map (numbered 0) arcs
 
   abbrev first : Linked
-  first = first_linked arcs
+  first = first_linked no_crossings arcs
 
   before_at : (k i d : ℕ) → HasPlace arcs k i → slice_index_or first.befores (number arcs k i) d ≡ number arcs k (i - 1)
   before_at k i d h = let e : 0 + number arcs k (i - 1) ≡ number arcs k (i - 1) = omega arith in links_at before_index 0 arcs k i d h ∙ e
@@ -171,20 +171,23 @@ module _ (arcs : List (List Point)) where
     afters = links_many after_index 0 arcs;
     before = λ z l. before_within z (which_place arcs z l);
     after = λ z l. after_within z (which_place arcs z l);
+    fixed = length-replicate (length (joined arcs)) false;
   }
 
 -- the lists as they are made
-abbrev pub linked_of : List Point → List Bool → List ℕ → List ℕ → Linked
-linked_of ps ls bs cs = record { positions = ps; left = ls; befores = bs; afters = cs }
+abbrev pub linked_of : List Point → List Bool → List ℕ → List ℕ → Bool → List Bool → Linked
+linked_of ps ls bs cs b fs = record { positions = ps; left = ls; befores = bs; afters = cs; no_crossings = b; fixed = fs }
 
-pub first_is : (arcs : List (List Point)) (ps : List Point) (ls : List Bool) (bs cs : List ℕ) → ps ≡ joined arcs → ls ≡ replicate (length ps) true → bs ≡ links_of before_index 0 arcs → cs ≡ links_of after_index 0 arcs →
-    linked_of ps ls bs cs ≡ first_linked arcs
-first_is arcs ps ls bs cs e f g h =
-    ap (λ l. linked_of ps l bs cs) (f ∙ ap (λ (qs : List Point). replicate (length qs) true) e) ∙ ap (λ qs. linked_of qs (replicate (length (joined arcs)) true) bs cs) e
-    ∙ ap (λ l. linked_of (joined arcs) (replicate (length (joined arcs)) true) l cs) g ∙ ap (λ l. linked_of (joined arcs) (replicate (length (joined arcs)) true) (links_of before_index 0 arcs) l) h
+pub first_is : (b : Bool) (arcs : List (List Point)) (ps : List Point) (ls : List Bool) (bs cs : List ℕ) (fs : List Bool) → ps ≡ joined arcs → ls ≡ replicate (length ps) true → bs ≡ links_of before_index 0 arcs →
+    cs ≡ links_of after_index 0 arcs → fs ≡ replicate (length ps) false → linked_of ps ls bs cs b fs ≡ first_linked b arcs
+first_is b arcs ps ls bs cs fs e f g h i =
+    ap (λ l. linked_of ps l bs cs b fs) (f ∙ ap (λ (qs : List Point). replicate (length qs) true) e) ∙ ap (λ l. linked_of ps (replicate (length (joined arcs)) true) bs cs b l) (i ∙ ap (λ (qs : List Point). replicate (length qs) false) e)
+    ∙ ap (λ qs. linked_of qs (replicate (length (joined arcs)) true) bs cs b (replicate (length (joined arcs)) false)) e
+    ∙ ap (λ l. linked_of (joined arcs) (replicate (length (joined arcs)) true) l cs b (replicate (length (joined arcs)) false)) g
+    ∙ ap (λ l. linked_of (joined arcs) (replicate (length (joined arcs)) true) (links_of before_index 0 arcs) l b (replicate (length (joined arcs)) false)) h
 
 -- reduction begins with whole arcs, and has a step for each place
-pub begins : (guard : Guard) (t : ℕ) (arcs : List (List Point)) (s : Linked) (n : ℕ) → s ≡ first_linked arcs → n ≡ length s.positions → eliminate_arcs guard (n - 0) t (left_arcs arcs s.left) ≡ remaining_arcs guard t arcs
-begins guard t arcs s n e m =
+pub begins : (guard : Guard) (t : ℕ) (b : Bool) (arcs : List (List Point)) (s : Linked) (n : ℕ) → s ≡ first_linked b arcs → n ≡ length s.positions → eliminate_arcs guard (n - 0) t (left_arcs arcs s.left) ≡ remaining_arcs guard t arcs
+begins guard t b arcs s n e m =
     let many : n - 0 ≡ length (joined arcs) = omega (arith, m, ap (λ (x : Linked). length x.positions) e) in
-    ap (λ k. eliminate_arcs guard k t (left_arcs arcs s.left)) many ∙ ap (eliminate_arcs guard (length (joined arcs)) t) (ap (λ (x : Linked). left_arcs arcs x.left) e ∙ all_left arcs)
+    ap (λ k. eliminate_arcs guard k t (left_arcs arcs s.left)) many ∙ ap (eliminate_arcs guard (length (joined arcs)) t) (ap (λ (x : Linked). left_arcs arcs x.left) e ∙ all_left b arcs)

@@ -11,7 +11,6 @@ use Rattle.geometry.specs.Points.{Point}
 use Rattle.elimination_meaning.specs.Elimination.{Corner, Vertex, numbered}
 use Rattle.guarded_meaning.specs.Arcs.{ArcCorner, Place, place_at, places, is_place_of, left_by}
 use Rattle.guarded_meaning.specs.Elimination.{Guard, next_corner}
-use Rattle.guarded_meaning.specs.Guards.{guarded_by}
 use Rattle.guarded_meaning.specs.Weights.{interior_places, interior_weights, weight, weight_from}
 use Rattle.guarded_reduction.specs.Indexes.{is_left_at}
 use Rattle.guarded_reduction.specs.First.{first_linked}
@@ -52,29 +51,26 @@ if_same : {X : Type 0} (w a b c d : X) (l k : Bool) → k ≡ l → (l ≡ true 
 if_same w a b c d true k e f g h = h ∙ f refl ∙ sym (ap (λ x. if x then c else d) e)
 if_same w a b c d false k e f g h = h ∙ g ∙ sym (ap (λ x. if x then c else d) e)
 
-module _ (arcs : List (List Point)) where
-  abbrev guard : Guard
-  guard = guarded_by true []
-
+module _ (guard : Guard) (arcs : List (List Point)) where
   abbrev number_at : Place → ℕ
   number_at x = number arcs x.arc x.vertex.index
 
   there : (x : Place) → In x (places 0 (map (numbered 0) arcs)) → HasPlace arcs x.arc x.vertex.index
   there x k = let r = placed 0 arcs x k in let e : r.m ≡ x.arc = omega (arith, r.arc) in subst (λ (i : ℕ). HasPlace arcs i x.vertex.index) e r.there
 
-  pub weighing_begins : (s : Linked) (n : ℕ) (ls : List ℕ) → s ≡ first_linked arcs → n ≡ length s.positions → IsWeighing arcs (n - 0) 0 s.left ls
-  weighing_begins s n ls e m = record { known = λ x k. known x k }
+  pub weighing_begins : (b : Bool) (s : Linked) (n : ℕ) (ls : List ℕ) → s ≡ first_linked b arcs → n ≡ length s.positions → IsWeighing guard arcs (n - 0) 0 s.left ls
+  weighing_begins b s n ls e m = record { known = λ x k. known x k }
     where
       many : n - 0 ≡ length (joined arcs)
       many = omega (arith, m, ap (λ (y : Linked). length y.positions) e)
 
       known : (x : Place) → In x (places 0 (map (numbered 0) arcs)) → weight guard arcs x ≡ (if is_left_at s.left (number_at x) then weight_from guard (n - 0) 0 (left_arcs arcs s.left) x else Some (slice_index ls (number_at x)))
       known x k =
-          let l : is_left_at s.left (number_at x) ≡ true = ap (λ (y : Linked). is_left_at y.left (number_at x)) e ∙ left_first arcs (number_at x) (number_within arcs x.arc x.vertex.index (there x k)) in
-          sym (ap (λ i. weight_from guard i 0 (left_arcs arcs s.left) x) many ∙ ap (λ vs. weight_from guard (length (joined arcs)) 0 vs x) (ap (λ (y : Linked). left_arcs arcs y.left) e ∙ all_left arcs))
+          let l : is_left_at s.left (number_at x) ≡ true = ap (λ (y : Linked). is_left_at y.left (number_at x)) e ∙ left_first b arcs (number_at x) (number_within arcs x.arc x.vertex.index (there x k)) in
+          sym (ap (λ i. weight_from guard i 0 (left_arcs arcs s.left) x) many ∙ ap (λ vs. weight_from guard (length (joined arcs)) 0 vs x) (ap (λ (y : Linked). left_arcs arcs y.left) e ∙ all_left b arcs))
           ∙ sym (ap (λ b. if b then weight_from guard (n - 0) 0 (left_arcs arcs s.left) x else Some (slice_index ls (number_at x))) l)
 
-  pub weighing_ends : (steps level : ℕ) (bs : List Bool) (ls : List ℕ) → ((x : Place) → weight_from guard steps level (left_arcs arcs bs) x ≡ None) → IsWeighing arcs steps level bs ls → AreWeights arcs bs ls
+  pub weighing_ends : (steps level : ℕ) (bs : List Bool) (ls : List ℕ) → ((x : Place) → weight_from guard steps level (left_arcs arcs bs) x ≡ None) → IsWeighing guard arcs steps level bs ls → AreWeights guard arcs bs ls
   weighing_ends steps level bs ls f h = record {
     known = λ x k. if_same (weight guard arcs x) (weight_from guard steps level (left_arcs arcs bs) x) (Some (slice_index ls (number_at x))) None (Some (slice_index ls (number_at x))) (is_left_at bs (number_at x)) (is_left_at bs (number_at x)) refl (λ _. f x) refl (h.known x k);
   }
@@ -82,8 +78,8 @@ module _ (arcs : List (List Point)) where
   pub no_steps : (steps level : ℕ) (bs : List Bool) (x : Place) → steps ≡ 0 → weight_from guard steps level (left_arcs arcs bs) x ≡ None
   no_steps steps level bs x e = ap (λ i. weight_from guard i level (left_arcs arcs bs) x) e
 
-  pub weighing_step : (s : Linked) (e : Entry) (steps m level : ℕ) (ls : List ℕ) → IsGone arcs s e → e.place < length s.left → e.place < length ls → steps ≡ suc m → IsWeighing arcs steps level s.left ls →
-      IsWeighing arcs m (max level e.area) (unlinked e.place s).left (slice_set ls e.place (max level e.area))
+  pub weighing_step : (s : Linked) (e : Entry) (steps m level : ℕ) (ls : List ℕ) → IsGone guard arcs s e → e.place < length s.left → e.place < length ls → steps ≡ suc m → IsWeighing guard arcs steps level s.left ls →
+      IsWeighing guard arcs m (max level e.area) (unlinked e.place s).left (slice_set ls e.place (max level e.area))
   weighing_step s e steps m level ls g within inside z h = record { known = λ x k. on x k (cases_eq (number_at x) e.place) }
     where
       new : ℕ
@@ -149,8 +145,8 @@ levels_of bs ls f k o (ps ∷ arcs) h =
     let z : o + (length ps + number arcs m x.vertex.index) ≡ (o + length ps) + number arcs m x.vertex.index = omega arith in
     h (suc m) x (in_right x (map (place_at k) (numbered 0 ps)) (places (suc k) (map (numbered 0) arcs)) n) (omega (arith, e)) ∙ ap (level_at bs ls) z))
 
-pub weights_are : (arcs : List (List Point)) (bs : List Bool) (ls : List ℕ) → AreWeights arcs bs ls → all_inner_levels bs ls 0 arcs ≡ interior_weights (guarded_by true []) arcs
-weights_are arcs bs ls w = sym (levels_of bs ls (weight (guarded_by true []) arcs) 0 0 arcs (λ m x n e.
+pub weights_are : (guard : Guard) (arcs : List (List Point)) (bs : List Bool) (ls : List ℕ) → AreWeights guard arcs bs ls → all_inner_levels bs ls 0 arcs ≡ interior_weights guard arcs
+weights_are guard arcs bs ls w = sym (levels_of bs ls (weight guard arcs) 0 0 arcs (λ m x n e.
     let z : x.arc ≡ m = omega (arith, e) in
     let o : number arcs m x.vertex.index ≡ 0 + number arcs m x.vertex.index = omega arith in
     w.known x n ∙ ap (λ k. level_at bs ls (number arcs k x.vertex.index)) z ∙ ap (level_at bs ls) o))

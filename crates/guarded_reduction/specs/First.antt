@@ -1,5 +1,5 @@
 -- The links of whole arcs.
-use Rattle.std.specs.Prelude.{ℕ, ◌+◌, ◌-◌, min, true, List, [], ◌∷◌, ◌++◌, length, map, replicate}
+use Rattle.std.specs.Prelude.{ℕ, ◌+◌, ◌-◌, min, Bool, true, false, List, [], ◌∷◌, ◌++◌, length, map, replicate}
 use Rattle.std.specs.List.{range_with_len}
 use Rattle.geometry.specs.Lists.{joined}
 use Rattle.geometry.specs.Points.{Point}
@@ -27,5 +27,12 @@ links_of neighbour first [] = []
 links_of neighbour first (ps ∷ arcs) = arc_links neighbour first (length ps) ++ links_of neighbour (first + length ps) arcs
 
 -- the places of arcs, which are all left
-abbrev pub first_linked : List (List Point) → Linked
-first_linked arcs = record { positions = joined arcs; left = replicate (length (joined arcs)) true; befores = links_of before_index 0 arcs; afters = links_of after_index 0 arcs }
+abbrev pub first_linked : Bool → List (List Point) → Linked
+first_linked no_crossings arcs = record {
+  positions = joined arcs;
+  left = replicate (length (joined arcs)) true;
+  befores = links_of before_index 0 arcs;
+  afters = links_of after_index 0 arcs;
+  no_crossings = no_crossings;
+  fixed = replicate (length (joined arcs)) false;
+}

@@ -3,8 +3,10 @@ pub mod Entries
 pub mod Extents
 pub mod First
 pub mod Indexes
+pub mod Keeping
 pub mod Laws
 pub mod Linking
+pub mod Moves
 pub mod Numbers
 pub mod Orders
 pub mod Shown

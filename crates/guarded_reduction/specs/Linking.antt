@@ -1,5 +1,5 @@
 -- Places that are left, linked to their neighbours.
-use Rattle.std.specs.Prelude.{◌≡◌, ◌≢◌, ℕ, ◌<◌, ◌^◌, Bool, true, false, List, length, slice_index, slice_set}
+use Rattle.std.specs.Prelude.{◌≡◌, ◌≢◌, ℕ, ◌<◌, ◌^◌, Bool, true, false, List, length, slice_index, slice_index_or, slice_set}
 use Rattle.geometry.specs.Lists.{joined}
 use Rattle.geometry.specs.Points.{Point}
 use Rattle.guarded_reduction.specs.declared.query.Corner.{Corner}
@@ -7,12 +7,19 @@ use Rattle.guarded_reduction.specs.Indexes.{is_left_at, point_at}
 use Rattle.guarded_reduction.specs.Laws.{Shows, ShowsOnly}
 use Rattle.guarded_reduction.specs.Numbers.{number, left_arcs}
 
--- the positions of all places, which places are left, and the neighbours of these: the place itself where there is none
+-- the positions of all places, which places are left, and the neighbours of these: the place itself where there is none; whether crossings are
+-- to be avoided, and which places stay for good
 pub record Linked : Type 0 where
   pub positions : List Point
   pub left : List Bool
   pub befores : List ℕ
   pub afters : List ℕ
+  pub no_crossings : Bool
+  pub fixed : List Bool
+
+-- the place stays for good
+unfoldable pub is_fixed : Linked → ℕ → Bool
+is_fixed s z = slice_index_or s.fixed z false
 
 -- each list has an element for each place, neighbours are places, and an index has room for them
 pub record IsWhole (s : Linked) : Type 0 where
@@ -20,6 +27,7 @@ pub record IsWhole (s : Linked) : Type 0 where
   pub left : length s.left ≡ length s.positions
   pub befores : length s.befores ≡ length s.positions
   pub afters : length s.afters ≡ length s.positions
+  pub fixed : length s.fixed ≡ length s.positions
   pub before : (z : ℕ) → z < length s.positions → slice_index s.befores z < length s.positions
   pub after : (z : ℕ) → z < length s.positions → slice_index s.afters z < length s.positions
 
@@ -34,7 +42,17 @@ unlinked z s = record {
   left = slice_set s.left z false;
   befores = slice_set s.befores (slice_index s.afters z) (slice_index s.befores z);
   afters = slice_set s.afters (slice_index s.befores z) (slice_index s.afters z);
+  no_crossings = s.no_crossings;
+  fixed = s.fixed;
 }
+
+-- these places stay for good
+abbrev pub fixed_to : List Bool → Linked → Linked
+fixed_to fs s = record { positions = s.positions; left = s.left; befores = s.befores; afters = s.afters; no_crossings = s.no_crossings; fixed = fs }
+
+-- and this one
+abbrev pub fixed_at : ℕ → Linked → Linked
+fixed_at z s = fixed_to (slice_set s.fixed z true) s
 
 -- the place is left and has a neighbour on either side
 pub record IsCorner (s : Linked) (z : ℕ) : Type 0 where

@@ -9,7 +9,8 @@ use Rattle.guarded_reduction.specs.Indexes.{NoneMeets, is_left_at, point_at}
 use Rattle.guarded_reduction.specs.Tests.{Test, is_held_by}
 use Rattle.guarded_reduction.specs.declared.entry.Entry.{Entry}
 use Rattle.guarded_reduction.specs.Entries.{entry_cmp, turned, entry_in, IsDue, IsSound}
-use Rattle.guarded_reduction.specs.Linking.{Linked, IsCorner, corner_in}
+use Rattle.guarded_reduction.specs.Linking.{Linked, IsCorner, corner_in, fixed_to, is_fixed}
+use Rattle.guarded_reduction.specs.Moves.{Counted, keeps_all}
 use Rattle.guarded_reduction.specs.Waiting.{Waiting, WaitsOn}
 
 -- which places block a corner
@@ -22,8 +23,9 @@ pub record HoldsByLink (s : Linked) (w : Waiting) (v holder : ℕ) : Type 0 wher
   pub before : WaitsOn w (slice_index s.befores holder) v
   pub after : WaitsOn w (slice_index s.afters holder) v
 
--- a place that is left keeps the corner from going, which waits on it
+-- a place that is left keeps the corner from going without a crossing, and the corner waits on it
 pub record IsHeld (s : Linked) (w : Waiting) (v : ℕ) : Type 0 where
+  pub asked : s.no_crossings ≡ true
   pub holder : ℕ
   pub within : holder < length s.positions
   pub left : is_left_at s.left holder ≡ true
@@ -36,11 +38,12 @@ pub record IsQueued (t : ℕ) (s : Linked) (items : List (Reverse Entry)) (w : W
   pub sound : (e : Entry) → Contains items (turned e) → IsSound t s.positions e
   pub firsts : length w.firsts ≡ length s.positions
 
--- the entry is of the corner that goes next: nothing blocks it, and those on the heap don't go before it
+-- the entry is of the corner that goes next, if its rings stay: nothing blocks it, where crossings are to be avoided, and those on the heap don't
+-- go before it
 pub record IsNext (t : ℕ) (s : Linked) (items : List (Reverse Entry)) (w : Waiting) (e : Entry) : Type 0 where
   pub due : IsDue t s e.place
   pub is : e ≡ entry_in s e.place
-  pub free : NoneMeets s.positions s.left (blocks s e.place)
+  pub free : s.no_crossings ≡ true → NoneMeets s.positions s.left (blocks s e.place)
   pub first : (d : Entry) → Contains items (turned d) → is_lt (entry_cmp d e) ≡ false
   pub covers : (v : ℕ) → IsDue t s v → (v ≡ e.place) ⊎ (Contains items (turned (entry_in s v)) ⊎ IsHeld s w v)
   pub sound : (d : Entry) → Contains items (turned d) → IsSound t s.positions d
@@ -62,3 +65,9 @@ pub record PushedAll (t : ℕ) (s : Linked) (old new : List (Reverse Entry)) (w 
   pub has : (d : Entry) → Contains old (turned d) → Contains new (turned d)
   pub here : (v : ℕ) → WaitsOn w h v → IsDue t s v → Contains new (turned (entry_in s v))
   pub only : (d : Entry) → Contains new (turned d) → Contains old (turned d) ⊎ IsSound t s.positions d
+
+-- more places stay for good, each at a corner with which not all rings would stay
+pub record IsFixing (old : Linked) (g : Counted) (new : Linked) : Type 0 where
+  pub same : new ≡ fixed_to new.fixed old
+  pub many : length new.fixed ≡ length old.fixed
+  pub fixed : (v : ℕ) → is_fixed new v ≡ true → (is_fixed old v ≡ true) ⊎ (IsCorner old v × (keeps_all old v g ≡ false))

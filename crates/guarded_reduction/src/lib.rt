@@ -1,11 +1,13 @@
-//! Guarded reduction of all arcs at once, in code: of all corners under a threshold the least goes again and again, where no crossing is made of it.
-//! It stands on `guarded_meaning`, whose definition it answers, and on `effective_area`, whose cross product its predicates ask for the side on which
-//! a position lies. The layer above uses `reduce_without_crossings`; `weights_without_crossings` is for a share of the positions, which no command
-//! asks for. Corners are queued on a heap; one that is kept from going waits on the place that keeps it, and is looked at again when that place
-//! goes. What keeps it is found by `PositionIndex`, over positions of which more and more go: it finds one that is left and meets a query, above
-//! all a `Blocked`, that is in a corner's triangle or begins a segment between the ends of its base. It sorts once, and goes up one path of a tree of
-//! boxes for each place that goes. `free_law` and `blocked_law` tie it to the guard. Each look is a search of the index and a step of the
-//! heap; how many there are, and how many boxes each goes through, is not promised. No code calls `meets_badly`.
+//! Guarded reduction of all arcs at once, in code: of all corners under a threshold the least goes again and again, where no crossing is made of it,
+//! or where rings keep four positions, or both. It stands on `guarded_meaning`, whose definition it answers, and on `effective_area`, whose cross
+//! product its predicates ask for the side on which a position lies. The layer above uses `reduce_guarded`; `weights_guarded` is for a share of the
+//! positions, which no command asks for. Corners are queued on a heap; one that is kept from going without a crossing waits on the place that
+//! keeps it, and is looked at again when that place goes; one with which a ring would become too short never goes, so its place stays for good.
+//! What keeps a corner is found by `PositionIndex`, over positions of which more and more go: it finds one that is left and meets a query, above
+//! all a `Blocked`, that is in a corner's triangle or begins a segment between the ends of its base. It sorts once, and goes up one path of a tree
+//! of boxes for each place that goes. `free_law` and `blocked_law` tie it to the guard. Rings are asked by how often their arcs move on from a
+//! position to another (`src/kept_rings.rt`). Each look is a search of the index and a step of the heap; how many there are, and how many boxes
+//! each goes through, is not promised. No code calls `meets_badly`.
 #![tactic(auto)]
 
 mod blocking;
@@ -14,6 +16,7 @@ mod entry;
 mod extent;
 mod flattening;
 mod index;
+mod kept_rings;
 mod laws;
 mod linked_places;
 mod looking;
@@ -23,6 +26,7 @@ mod pushing;
 mod query;
 mod reducing;
 mod refitting;
+mod ring_moves;
 mod searching;
 mod sides;
 mod triangle;
@@ -36,7 +40,7 @@ pub use index::PositionIndex;
 pub use laws::{blocked_law, free_law};
 pub use meeting::{is_end, is_on, meets_badly, same_ends, touches};
 pub use query::{Corner, Query};
-pub use reducing::reduce_without_crossings;
+pub use reducing::reduce_guarded;
 pub use triangle::{in_triangle, is_clear};
 pub use turns::{is_flat, is_left, is_right};
-pub use weighing::weights_without_crossings;
+pub use weighing::weights_guarded;

@@ -6,13 +6,15 @@ ghost use Rattle.guarded_reduction.specs.Indexes.{Meets, NoneMeets, is_left_at, 
 ghost use Rattle.guarded_reduction.specs.Blocking.{is_blocked_by};
 ghost use Rattle.guarded_reduction.specs.Entries.{IsCurrent, IsDue, entry_at, entry_in};
 ghost use Rattle.guarded_reduction.specs.First.{first_linked};
-ghost use Rattle.guarded_reduction.specs.Linking.{IsCorner, IsWhole as IsWholeLinked, corner_in, unlinked};
+ghost use Rattle.guarded_reduction.specs.Linking.{IsCorner, IsWhole as IsWholeLinked, corner_in, fixed_at, is_fixed as is_fixed_in, unlinked};
+ghost use Rattle.guarded_reduction.specs.Moves.{lost_at};
 
 use crate::blocking::{Blocked, Links};
 use crate::entry::Entry;
 use crate::flattening::{afters_of, all_positions, befores_of};
 use crate::index::PositionIndex;
 use crate::query::Corner;
+use crate::ring_moves::step;
 use effective_area::cross;
 use geometry::Position;
 use owned_values::{Items, Memory};
@@ -20,12 +22,14 @@ use std::alloc::Global;
 use std::marker::Model;
 
 /// The places of arcs, numbered one arc after another, of which some are left, and the neighbours of these: the place before each, and the one after
-/// it; where there is none, the place itself.
+/// it; where there is none, the place itself. Some of them may stay for good.
 #[derive(Drop)]
 pub struct LinkedPlaces {
     index: PositionIndex,
     befores: Vec<usize>,
     afters: Vec<usize>,
+    no_crossings: bool,
+    fixed: Vec<bool>,
 }
 
 impl Model for LinkedPlaces {
@@ -33,17 +37,22 @@ impl Model for LinkedPlaces {
 
     ghost Value = { Linked };
 
-    ghost view = { λ p. record { positions = p.index.positions; left = p.index.left; befores = p.befores.items; afters = p.afters.items } };
+    ghost view = { λ p. record { positions = p.index.positions; left = p.index.left; befores = p.befores.items; afters = p.afters.items; no_crossings = p.no_crossings; fixed = p.fixed.items } };
 
-    ghost invariant = { λ p. IsWhole (record { positions = p.index.positions; left = p.index.left; befores = p.befores.items; afters = p.afters.items }) };
+    ghost invariant = { λ p. IsWhole (record { positions = p.index.positions; left = p.index.left; befores = p.befores.items; afters = p.afters.items; no_crossings = p.no_crossings; fixed = p.fixed.items }) };
 }
 
 impl LinkedPlaces {
-    /// The places of these arcs, which are all left.
-    pub fn of(alloc: Global, arcs: &[Items<Position>]) -> Result<LinkedPlaces, Memory>
-        ensures { IfOk result (λ s. s ≡ first_linked arcs.now) }
+    /// The places of these arcs, which are all left, and whether crossings are to be avoided.
+    pub fn of(
+        alloc: Global,
+        arcs: &[Items<Position>],
+        no_crossings: bool,
+    ) -> Result<LinkedPlaces, Memory>
+        ensures { IfOk result (λ s. s ≡ first_linked no_crossings arcs.now) }
     {
         let positions = all_positions(alloc, arcs)?;
+        let fixed = vec![in alloc; false; positions.len()]?;
         let index = PositionIndex::of(alloc, positions)?;
         let befores = befores_of(alloc, arcs)?;
         let afters = afters_of(alloc, arcs)?;
@@ -51,6 +60,8 @@ impl LinkedPlaces {
             index,
             befores,
             afters,
+            no_crossings,
+            fixed,
         })
     }
 
@@ -74,6 +85,15 @@ impl LinkedPlaces {
         ensures { result ≡ is_left_at self.now.left place }
     {
         self.index.is_left(place)
+    }
+
+    /// The place stays for good.
+    #[tactic(auto, unfolding(crate::specs::Linking::is_fixed))]
+    fn is_fixed(&self, place: usize) -> bool
+        requires { place < length self.now.positions }
+        ensures { result ≡ is_fixed_in self.now place }
+    {
+        self.fixed[place]
     }
 
     /// The position of a place.
@@ -124,7 +144,7 @@ impl LinkedPlaces {
         }
     }
 
-    /// The corner at a place, if there is one that is under the threshold.
+    /// The corner at a place, if there is one that is under the threshold and doesn't stay for good.
     pub fn entry(&self, place: usize, threshold: u128) -> Option<Entry>
         ensures due { IfSome result (λ e. IsDue threshold self.now place) }
         ensures value { IfSome result (λ e. e ≡ entry_in self.now place) }
@@ -146,13 +166,13 @@ impl LinkedPlaces {
             return None;
         }
         let entry = self.entry_between(before, place, after);
-        if entry.area >= threshold {
+        if entry.area >= threshold || self.is_fixed(place) {
             return None;
         }
         Some(entry)
     }
 
-    /// The entry's place is left, and its neighbours are those that its area was computed with.
+    /// The entry's place is left, doesn't stay for good, and its neighbours are those that its area was computed with.
     pub fn is_current(&self, entry: &Entry) -> bool
         ensures current { result ≡ true → IsCurrent self.now entry.now }
         ensures stale { result ≡ false → IsCurrent self.now entry.now → ⊥ }
@@ -161,7 +181,7 @@ impl LinkedPlaces {
         if place >= self.len() {
             return false;
         }
-        if !self.is_left(place) {
+        if !self.is_left(place) || self.is_fixed(place) {
             return false;
         }
         if self.before(place) != entry.before {
@@ -183,11 +203,15 @@ impl LinkedPlaces {
         }
     }
 
-    /// A place that is left and blocks a corner.
+    /// A place that is left and blocks a corner, where crossings are to be avoided.
     pub fn holder(&self, corner: Corner) -> Option<usize>
+        ensures asked { IfSome result (λ _. self.now.no_crossings ≡ true) }
         ensures some { IfSome result (λ z. Meets self.now.positions self.now.left (is_blocked_by self.now.positions self.now.befores self.now.afters corner) z) }
-        ensures none { IfNone result (NoneMeets self.now.positions self.now.left (is_blocked_by self.now.positions self.now.befores self.now.afters corner)) }
+        ensures none { IfNone result (self.now.no_crossings ≡ true → NoneMeets self.now.positions self.now.left (is_blocked_by self.now.positions self.now.befores self.now.afters corner)) }
     {
+        if !self.no_crossings {
+            return None;
+        }
         let links = Links {
             positions: self.index.positions(),
             befores: self.befores.as_slice(),
@@ -198,6 +222,25 @@ impl LinkedPlaces {
             links: &links,
         };
         self.index.find(&blocked)
+    }
+
+    /// How many moves fewer an arc makes when the corner at a place goes.
+    pub fn lost(&self, place: usize) -> usize
+        requires { place < length self.now.positions }
+        ensures { result ≡ lost_at self.now place }
+    {
+        let corner = self.corner(place);
+        let there = step(corner.before, corner.at) + step(corner.at, corner.after);
+        there.saturating_sub(step(corner.before, corner.after))
+    }
+
+    /// The place stays for good.
+    pub fn fix(&mut self, place: usize)
+        requires { place < length self.old.positions }
+        ensures fixed { self.new ≡ fixed_at place self.old }
+        ensures stays { is_fixed_in self.new place ≡ true }
+    {
+        self.fixed[place] = true;
     }
 
     /// The place goes, and its neighbours become each other's.

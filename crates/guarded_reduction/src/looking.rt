@@ -1,13 +1,15 @@
 // The corner that goes next.
-ghost use Rattle.std.specs.Prelude.{◌≡◌, ◌<◌, IfOk, OnOk, length};
+ghost use Rattle.std.specs.Prelude.{◌≡◌, ◌⊎◌, ◌<◌, IfOk, OnOk, length, true};
 ghost use Rattle.std.specs.Option.{IfNone, IfSome};
-ghost use Rattle.std.specs.BinaryHeap.{heap_items, IsHeap};
+ghost use Rattle.std.specs.BinaryHeap.{heap_items, heap_len, IsHeap};
 ghost use Rattle.guarded_reduction.specs.Indexes.{Meets};
 ghost use Rattle.guarded_reduction.specs.Entries.{turned_cmp};
-ghost use Rattle.guarded_reduction.specs.States.{IsHeld, IsNext, IsQueued, NoneNext, blocks};
+ghost use Rattle.guarded_reduction.specs.Moves.{counted_without, keeps_all};
+ghost use Rattle.guarded_reduction.specs.States.{IsFixing, IsHeld, IsNext, IsQueued, NoneNext, blocks};
 ghost use Rattle.guarded_reduction.specs.Waiting.{KeepsWaits};
 
 use crate::entry::Entry;
+use crate::kept_rings::KeptRings;
 use crate::linked_places::LinkedPlaces;
 use crate::query::Query;
 use crate::waiting_lists::WaitingLists;
@@ -23,6 +25,7 @@ fn wait_on(
     place: usize,
     holder: usize,
 ) -> Result<(), Memory>
+    requires asked { places.now.no_crossings ≡ true }
     requires place { place < length places.now.positions }
     requires firsts { length waiting.old.firsts ≡ length places.now.positions }
     requires meets { Meets places.now.positions places.now.left (blocks places.now place) holder }
@@ -38,7 +41,7 @@ fn wait_on(
     waiting.add(places.after(holder), place)
 }
 
-/// The corner that goes next, if there is one. Those that are blocked come to wait, each once.
+/// The corner that goes next, if its rings stay, and if there is one. Those that are blocked come to wait, each once.
 pub fn next_corner(
     heap: &mut BinaryHeap<Reverse<Entry>>,
     waiting: &mut WaitingLists,
@@ -50,6 +53,7 @@ pub fn next_corner(
     ensures order { OnOk result (IsHeap turned_cmp (heap_items heap.new)) }
     ensures next { IfOk result (λ found. IfSome found (λ e. IsNext threshold places.now (heap_items heap.new) waiting.new e)) }
     ensures none { IfOk result (λ found. IfNone found (NoneNext threshold places.now waiting.new)) }
+    ensures fewer { IfOk result (λ found. IfSome found (λ _. heap_len heap.new < heap_len heap.old)) }
 {
     let mut held = places.len();
     'entries: while let Some(Reverse(entry)) = heap.pop() {
@@ -65,6 +69,34 @@ pub fn next_corner(
         };
         wait_on(waiting, places, entry.place, holder)?;
         held = entry.place;
+    }
+    Ok(None)
+}
+
+/// The corner that goes next, if there is one. The places of those with which not all rings would stay, stay for good.
+pub fn next_going(
+    heap: &mut BinaryHeap<Reverse<Entry>>,
+    waiting: &mut WaitingLists,
+    places: &mut LinkedPlaces,
+    rings: &mut KeptRings<'_>,
+    threshold: u128,
+) -> Result<Option<Entry>, Memory>
+    requires order { IsHeap turned_cmp (heap_items heap.old) }
+    requires queued { IsQueued threshold places.old (heap_items heap.old) waiting.old }
+    requires owners { (length rings.old.rings ≡ 0) ⊎ (length rings.old.owners ≡ length places.old.positions) }
+    ensures order { OnOk result (IsHeap turned_cmp (heap_items heap.new)) }
+    ensures fixing { OnOk result (IsFixing places.old rings.old places.new) }
+    ensures next { IfOk result (λ found. IfSome found (λ e. IsNext threshold places.new (heap_items heap.new) waiting.new e)) }
+    ensures stay { IfOk result (λ found. IfSome found (λ e. keeps_all places.new e.place rings.old ≡ true)) }
+    ensures counted { IfOk result (λ found. IfSome found (λ e. rings.new ≡ counted_without places.new e.place rings.old)) }
+    ensures none { IfOk result (λ found. IfNone found (NoneNext threshold places.new waiting.new)) }
+{
+    'corners: while let Some(entry) = next_corner(heap, waiting, places, threshold)? {
+        if rings.keeps(places, entry.place) {
+            rings.remove(places, entry.place);
+            return Ok(Some(entry));
+        }
+        places.fix(entry.place);
     }
     Ok(None)
 }

@@ -1,15 +1,18 @@
 // The reduction.
-ghost use Rattle.std.specs.Prelude.{◌≡◌, ◌+◌, ◌≤◌, IfOk, [], true, length, map};
+ghost use Rattle.std.specs.Prelude.{◌≡◌, ◌+◌, ◌≤◌, IfOk, true, length, map};
+ghost use Rattle.std.specs.List.{AllByRecursion};
+ghost use Rattle.geometry.specs.Joins.{AreInRange, Meet, arc_at};
 ghost use Rattle.geometry.specs.Lists.{joined};
 ghost use Rattle.guarded_meaning.specs.Elimination.{reduce_arcs, remaining_arcs};
-ghost use Rattle.guarded_meaning.specs.Guards.{guarded_by};
+ghost use Rattle.guarded_meaning.specs.Guards.{guarded_by, is_long};
 ghost use Rattle.guarded_reduction.specs.Numbers.{all_kept_indexes, kept_indexes, left_arcs};
 
+use crate::kept_rings::KeptRings;
 use crate::linked_places::LinkedPlaces;
-use crate::looking::next_corner;
+use crate::looking::next_going;
 use crate::pushing::{first_corners, take_out};
 use crate::waiting_lists::WaitingLists;
-use geometry::Position;
+use geometry::{ArcRef, Position};
 use owned_values::{Items, Memory};
 use std::alloc::Global;
 
@@ -17,18 +20,25 @@ use std::alloc::Global;
 fn reduced_places(
     alloc: Global,
     arcs: &[Items<Position>],
+    no_crossings: bool,
+    rings: &[Items<ArcRef>],
     threshold: u128,
 ) -> Result<LinkedPlaces, Memory>
+    requires in_range { AllByRecursion (AreInRange (length arcs.now)) rings.now }
+    requires meet { AllByRecursion (λ refs. Meet (map (arc_at arcs.now) refs)) rings.now }
+    requires long { AllByRecursion (λ refs. is_long arcs.now refs ≡ true) rings.now }
     ensures positions { IfOk result (λ s. length s.positions ≡ length (joined arcs.now)) }
-    ensures left { IfOk result (λ s. left_arcs arcs.now s.left ≡ remaining_arcs (guarded_by true []) threshold arcs.now) }
+    ensures left { IfOk result (λ s. left_arcs arcs.now s.left ≡ remaining_arcs (guarded_by no_crossings rings.now) threshold arcs.now) }
 {
-    let mut places = LinkedPlaces::of(alloc, arcs)?;
+    let mut places = LinkedPlaces::of(alloc, arcs, no_crossings)?;
+    let mut kept = KeptRings::of(alloc, arcs, rings)?;
     let n = places.len();
     let mut waiting = WaitingLists::none(alloc, n)?;
     let mut heap = first_corners(alloc, &places, &waiting, threshold)?;
     'corners: for _step in 0..n {
+        let next = next_going(&mut heap, &mut waiting, &mut places, &mut kept, threshold)?;
         places.law();
-        let Some(entry) = next_corner(&mut heap, &mut waiting, &places, threshold)? else {
+        let Some(entry) = next else {
             return Ok(places);
         };
         take_out(&mut heap, &mut places, &waiting, threshold, entry)?;
@@ -76,15 +86,22 @@ fn all_kept(
     Ok(all)
 }
 
-/// Of each arc the numbers of the positions that stay, where all arcs are reduced at once and no corner goes that would make a crossing.
-pub fn reduce_without_crossings(
+/// Of each arc the numbers of the positions that stay, where all arcs are reduced at once, no corner goes that would make a crossing, where crossings
+/// are to be avoided, and none that would leave one of these rings fewer than four positions, with equal neighbours as one. The rings are given
+/// by their arc indexes; they have four positions or more before. Corners go while they are under the threshold: twice the area of the triangle.
+pub fn reduce_guarded(
     alloc: Global,
     arcs: &[Items<Position>],
+    no_crossings: bool,
+    rings: &[Items<ArcRef>],
     threshold: u128,
 ) -> Result<Vec<Vec<usize>>, Memory>
-    ensures { IfOk result (λ kept. map (λ k. k.items) kept.items ≡ reduce_arcs (guarded_by true []) threshold arcs.now) }
+    requires in_range { AllByRecursion (AreInRange (length arcs.now)) rings.now }
+    requires meet { AllByRecursion (λ refs. Meet (map (arc_at arcs.now) refs)) rings.now }
+    requires long { AllByRecursion (λ refs. is_long arcs.now refs ≡ true) rings.now }
+    ensures { IfOk result (λ kept. map (λ k. k.items) kept.items ≡ reduce_arcs (guarded_by no_crossings rings.now) threshold arcs.now) }
 {
-    let places = reduced_places(alloc, arcs, threshold)?;
+    let places = reduced_places(alloc, arcs, no_crossings, rings, threshold)?;
     let kept = all_kept(alloc, &places, arcs)?;
     Ok(kept)
 }

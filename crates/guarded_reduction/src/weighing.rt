@@ -1,15 +1,18 @@
 // The weights of positions.
-ghost use Rattle.std.specs.Prelude.{◌≡◌, ◌+◌, ◌≤◌, ◌<◌, ◌++◌, IfOk, OnOk, [], true, length, max};
+ghost use Rattle.std.specs.Prelude.{◌≡◌, ◌+◌, ◌≤◌, ◌<◌, ◌++◌, IfOk, OnOk, true, length, map, max};
+ghost use Rattle.std.specs.List.{AllByRecursion};
+ghost use Rattle.geometry.specs.Joins.{AreInRange, Meet, arc_at};
 ghost use Rattle.geometry.specs.Lists.{joined};
-ghost use Rattle.guarded_meaning.specs.Guards.{guarded_by};
+ghost use Rattle.guarded_meaning.specs.Guards.{guarded_by, is_long};
 ghost use Rattle.guarded_meaning.specs.Weights.{interior_weights};
 ghost use Rattle.guarded_reduction.specs.Weighing.{AreWeights, all_inner_levels, inner_levels, level_at};
 
+use crate::kept_rings::KeptRings;
 use crate::linked_places::LinkedPlaces;
-use crate::looking::next_corner;
+use crate::looking::next_going;
 use crate::pushing::{first_corners, take_out};
 use crate::waiting_lists::WaitingLists;
-use geometry::{AREA_LIMIT, Position};
+use geometry::{AREA_LIMIT, ArcRef, Position};
 use owned_values::{Items, Memory};
 use std::alloc::Global;
 
@@ -24,20 +27,27 @@ fn greater(x: u128, y: u128) -> u128
 fn weighed_places(
     alloc: Global,
     arcs: &[Items<Position>],
+    no_crossings: bool,
+    rings: &[Items<ArcRef>],
 ) -> Result<(LinkedPlaces, Vec<u128>), Memory>
+    requires in_range { AllByRecursion (AreInRange (length arcs.now)) rings.now }
+    requires meet { AllByRecursion (λ refs. Meet (map (arc_at arcs.now) refs)) rings.now }
+    requires long { AllByRecursion (λ refs. is_long arcs.now refs ≡ true) rings.now }
     ensures positions { IfOk result (λ r. length r.0.positions ≡ length (joined arcs.now)) }
     ensures levels { IfOk result (λ r. length r.1.items ≡ length (joined arcs.now)) }
-    ensures weights { IfOk result (λ r. AreWeights arcs.now r.0.left r.1.items) }
+    ensures weights { IfOk result (λ r. AreWeights (guarded_by no_crossings rings.now) arcs.now r.0.left r.1.items) }
 {
-    let mut places = LinkedPlaces::of(alloc, arcs)?;
+    let mut places = LinkedPlaces::of(alloc, arcs, no_crossings)?;
+    let mut kept = KeptRings::of(alloc, arcs, rings)?;
     let n = places.len();
     let mut levels = vec![in alloc; 0u128; n]?;
     let mut waiting = WaitingLists::none(alloc, n)?;
     let mut heap = first_corners(alloc, &places, &waiting, AREA_LIMIT)?;
     let mut level = 0u128;
     'corners: for _step in 0..n {
+        let next = next_going(&mut heap, &mut waiting, &mut places, &mut kept, AREA_LIMIT)?;
         places.law();
-        let Some(entry) = next_corner(&mut heap, &mut waiting, &places, AREA_LIMIT)? else {
+        let Some(entry) = next else {
             return Ok((places, levels));
         };
         level = greater(level, entry.area);
@@ -100,16 +110,21 @@ fn all_levels(
     Ok(weights)
 }
 
-/// The weights of the positions between the ends of arcs, in order, where no corner goes that would make a crossing: twice the greatest area of the
-/// corners that go without a threshold, up to and including its own; none where it never goes. At a threshold those stay that have none, or one
-/// that isn't under it.
-pub fn weights_without_crossings(
+/// The weights of the positions between the ends of arcs, in order, where corners go as in `reduce_guarded`: twice the greatest area of the corners
+/// that go without a threshold, up to and including its own; none where it never goes. At a threshold those stay that have none, or one that
+/// isn't under it.
+pub fn weights_guarded(
     alloc: Global,
     arcs: &[Items<Position>],
+    no_crossings: bool,
+    rings: &[Items<ArcRef>],
 ) -> Result<Vec<Option<u128>>, Memory>
-    ensures { IfOk result (λ weights. weights.items ≡ interior_weights (guarded_by true []) arcs.now) }
+    requires in_range { AllByRecursion (AreInRange (length arcs.now)) rings.now }
+    requires meet { AllByRecursion (λ refs. Meet (map (arc_at arcs.now) refs)) rings.now }
+    requires long { AllByRecursion (λ refs. is_long arcs.now refs ≡ true) rings.now }
+    ensures { IfOk result (λ weights. weights.items ≡ interior_weights (guarded_by no_crossings rings.now) arcs.now) }
 {
-    let weighed = weighed_places(alloc, arcs)?;
+    let weighed = weighed_places(alloc, arcs, no_crossings, rings)?;
     let weights = all_levels(alloc, &weighed.0, &weighed.1, arcs)?;
     Ok(weights)
 }

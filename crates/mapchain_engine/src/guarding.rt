@@ -10,7 +10,7 @@ ghost use Rattle.topojson_types.specs.Validity.{IsArc};
 
 use byte_ends::Memory;
 use geojson_types::{Dropped, Position};
-use guarded_reduction::reduce_without_crossings;
+use guarded_reduction::reduce_guarded;
 use json_value::Items;
 use simplified_topology::guarded_indexes_reach;
 use std::alloc::Global;
@@ -39,7 +39,7 @@ fn kept_cells(alloc: Global, topology: &Topology, t: u128) -> Result<Vec<Vec<usi
     ensures { IfOk result (λ kept. map (λ k. k.items) kept.items ≡ guarded_indexes true t topology.now) }
 {
     let lines = arc_positions(alloc, topology.transform(), topology.arcs())?;
-    reduce_without_crossings(alloc, &lines, t)
+    reduce_guarded(alloc, &lines, true, &[], t)
 }
 
 /// What is left of a topology where all arcs are reduced at once at a threshold, no crossing may be made, and rings under a limit are left

@@ -1,4 +1,4 @@
-use Rattle.std.proofs.Common.{inr, subst}
+use Rattle.std.proofs.Common.{arith, inr, subst}
 use Rattle.std.specs.BinaryHeap.{heap_items}
 use Rattle.guarded_reduction.specs.declared.query.Corner.{Corner}
 use Rattle.guarded_reduction.specs.Blocking.{is_blocked_by}
@@ -11,6 +11,7 @@ entries-preserved-then-not-is_current c = record {
   order = (c.in-Some.ensures.heap_order c.entries.invariant.order).0;
   queued = drop_stale c.args.threshold c.args.places.now (heap_items c.entries.heap) (heap_items c.pop.new.self) c.entries.waiting c.in-Some.field-0.0 c.entries.invariant.queued c.in-Some.ensures.permutation (c.is_current.ensures.stale c.if-not-is_current.true);
   held = c.entries.invariant.held;
+  fewer = omega (arith, c.in-Some.ensures.len, c.entries.invariant.fewer);
 }
 
 pub returns-in_default-holder-clause-next : goal.returns-in_default-holder-clause-next
@@ -18,7 +19,7 @@ returns-in_default-holder-clause-next c =
     let s = c.args.places.now in
     comes_next c.args.threshold s (heap_items c.entries.heap) (heap_items c.pop.new.self) c.entries.waiting c.in-Some.field-0.0 c.entries.invariant.queued c.in-Some.ensures.permutation (c.in-Some.ensures.heap_order c.entries.invariant.order).1
     (c.is_current.ensures.current c.if-not-is_current.false)
-    (subst (λ (q : Corner). NoneMeets s.positions s.left (is_blocked_by s.positions s.befores s.afters q)) c.corner.ensures c.in_default-holder.ensures.none)
+    (λ f. subst (λ (q : Corner). NoneMeets s.positions s.left (is_blocked_by s.positions s.befores s.afters q)) c.corner.ensures (c.in_default-holder.ensures.none f))
 
 pub entries-preserved : goal.entries-preserved
 entries-preserved c = record {
@@ -26,6 +27,7 @@ entries-preserved c = record {
   queued = come_to_wait c.args.threshold c.args.places.now (heap_items c.entries.heap) (heap_items c.pop.new.self) c.entries.waiting c.in-Some.field-0.0 c.entries.invariant.queued c.in-Some.ensures.permutation c.wait_on.new.waiting
       c.in_ok-wait_on.ensures.kept c.in_ok-wait_on.ensures.held;
   held = inr c.in_ok-wait_on.ensures.held;
+  fewer = omega (arith, c.in-Some.ensures.len, c.entries.invariant.fewer);
 }
 
 pub entries-preserved-then-entry-held : goal.entries-preserved-then-entry-held
@@ -34,4 +36,5 @@ entries-preserved-then-entry-held c = record {
   queued = drop_held c.args.threshold c.args.places.now (heap_items c.entries.heap) (heap_items c.pop.new.self) c.entries.waiting c.in-Some.field-0.0 c.entries.invariant.queued c.in-Some.ensures.permutation c.entries.held c.if-entry-held.true
       c.entries.invariant.held;
   held = c.entries.invariant.held;
+  fewer = omega (arith, c.in-Some.ensures.len, c.entries.invariant.fewer);
 }

@@ -1,4 +1,4 @@
-use Rattle.std.specs.Prelude.{◌≡◌, ◌⊎◌, length}
+use Rattle.std.specs.Prelude.{◌≡◌, ◌⊎◌, ◌≤◌, length}
 use Rattle.std.specs.BinaryHeap.{heap_items, heap_len, IsHeap}
 use Rattle.guarded_reduction.specs.Entries.{turned_cmp}
 use Rattle.guarded_reduction.specs.States.{IsHeld, IsQueued}
@@ -9,6 +9,7 @@ invariant-entries l = record {
   order : IsHeap turned_cmp (heap_items l.heap);
   queued : IsQueued l.threshold l.places (heap_items l.heap) l.waiting;
   held : (l.held ≡ length l.places.positions) ⊎ IsHeld l.places l.waiting l.held;
+  fewer : heap_len l.heap ≤ heap_len l.fn.heap;
 }
 
 abbrev pub decreases-entries : goal.decreases-entries

@@ -1,9 +1,11 @@
-use Rattle.std.proofs.Common.{◌≡◌, ◌+◌, ◌-◌, suc, [], true, ap, sym, subst, ◌∙◌, arith}
+use Rattle.std.proofs.Common.{◌≡◌, ◌+◌, ◌-◌, suc, ap, sym, subst, ◌∙◌, arith}
 use Rattle.std.specs.BinaryHeap.{heap_items}
 use Rattle.guarded_meaning.specs.Elimination.{eliminate_arcs, remaining_arcs}
 use Rattle.guarded_meaning.specs.Guards.{guarded_by}
+use Rattle.guarded_reduction.specs.Keeping.{IsKeeping}
 use Rattle.guarded_reduction.specs.Linking.{IsShowing, Linked, unlinked}
 use Rattle.guarded_reduction.specs.Numbers.{left_arcs}
+use Rattle.guarded_reduction.proofs.Keeping.{IsGoing, first_keeping, fixed_still, going, owners_at}
 use Rattle.guarded_reduction.proofs.Next.{all_steps, goes_next, no_step, none_next, one_step, showing_next}
 use Rattle.guarded_reduction.proofs.Showing.{chained}
 use Rattle.guarded_reduction.proofs.Starts.{begins, first_showing}
@@ -13,34 +15,58 @@ pub corners-init : goal.corners-init
 corners-init c = record {
   order = c.in_ok-heap.ensures.order;
   queued = c.in_ok-heap.ensures.queued;
-  showing = subst (IsShowing c.args.arcs.now) (sym c.in_ok-places.ensures) (first_showing c.args.arcs.now);
-  rest = begins (guarded_by true []) c.args.threshold c.args.arcs.now c.in_ok-places.places c.len-n.result c.in_ok-places.ensures c.len-n.ensures;
+  showing = subst (IsShowing c.args.arcs.now) (sym c.in_ok-places.ensures) (first_showing c.args.no_crossings c.args.arcs.now);
+  flag = ap (λ (s : Linked). s.no_crossings) c.in_ok-places.ensures;
+  keeping = first_keeping c.args.no_crossings c.args.arcs.now c.args.rings.now c.in_ok-places.places c.in_ok-kept.kept c.in_ok-places.ensures c.in_ok-kept.ensures.rings c.in_ok-kept.ensures.counted c.requires.meet;
+  rest = begins (guarded_by c.args.no_crossings c.args.rings.now) c.args.threshold c.args.no_crossings c.args.arcs.now c.in_ok-places.places c.len-n.result c.in_ok-places.ensures c.len-n.ensures;
 }
 
+pub next_going-requires-clause-owners : goal.next_going-requires-clause-owners
+next_going-requires-clause-owners c = owners_at c.args.arcs.now c.args.rings.now c.corners.places c.corners.kept c.corners.invariant.showing c.corners.invariant.keeping
+
 pub take_out-requires-clause-chained : goal.take_out-requires-clause-chained
-take_out-requires-clause-chained c = chained c.args.arcs.now c.corners.places c.corners.invariant.showing
+take_out-requires-clause-chained c = chained c.args.arcs.now c.next_going.new.places
+    (fixed_still c.args.arcs.now c.args.rings.now c.corners.places c.corners.invariant.showing c.corners.kept c.corners.invariant.keeping c.next_going.new.places c.in_ok-next.ensures.fixing).showing
 
 pub corners-preserved : goal.corners-preserved
 corners-preserved c =
-    let n = rw c.in-Some.is at c.in_ok-entry.ensures.next in
+    let arcs = c.args.arcs.now in
+    let rings = c.args.rings.now in
+    let b = c.args.no_crossings in
+    let s = c.next_going.new.places in
+    let n = rw c.in-Some.is at c.in_ok-next.ensures.next in
+    let f = fixed_still arcs rings c.corners.places c.corners.invariant.showing c.corners.kept c.corners.invariant.keeping s c.in_ok-next.ensures.fixing in
+    let g : IsGoing arcs rings s c.corners.kept c.next_going.new.rings c.in-Some.entry.place = going arcs rings s f.showing c.corners.kept c.next_going.new.rings f.keeping c.law.ensures c.in-Some.entry.place n.due.corner
+    (rw c.in-Some.is at c.in_ok-next.ensures.stay) (rw c.in-Some.is at c.in_ok-next.ensures.counted) in
     let steps : c.len-n.result - c.corners._step ≡ suc (c.len-n.result - (c.corners._step + 1)) = omega (arith, c.corners-test.true) in
     record {
       order = c.in_ok-take_out.ensures.order;
       queued = c.in_ok-take_out.ensures.queued;
-      showing = subst (IsShowing c.args.arcs.now) (sym c.in_ok-take_out.ensures.places)
-          (showing_next c.args.arcs.now c.args.threshold c.corners.places c.corners.invariant.showing (heap_items c.next_corner.new.heap) c.next_corner.new.waiting c.in-Some.entry n c.law.ensures);
-      rest = ap (λ (s : Linked). eliminate_arcs (guarded_by true []) (c.len-n.result - (c.corners._step + 1)) c.args.threshold (left_arcs c.args.arcs.now s.left)) c.in_ok-take_out.ensures.places ∙ one_step (guarded_by true []) (c.len-n.result - c.corners._step) (c.len-n.result - (c.corners._step + 1)) c.args.threshold (left_arcs c.args.arcs.now c.corners.places.left)
-          (left_arcs c.args.arcs.now (unlinked c.in-Some.entry.place c.corners.places).left) (remaining_arcs (guarded_by true []) c.args.threshold c.args.arcs.now) steps
-          (goes_next c.args.arcs.now c.args.threshold c.corners.places c.corners.invariant.showing (heap_items c.next_corner.new.heap) c.next_corner.new.waiting c.in-Some.entry n c.law.ensures) c.corners.invariant.rest;
+      showing = subst (IsShowing arcs) (sym c.in_ok-take_out.ensures.places)
+          (showing_next b rings arcs c.args.threshold s f.showing (f.flag ∙ c.corners.invariant.flag) f.keeping.fixed (heap_items c.next_going.new.heap) c.next_going.new.waiting c.in-Some.entry n g.stay c.law.ensures);
+      flag = ap (λ (x : Linked). x.no_crossings) c.in_ok-take_out.ensures.places ∙ f.flag ∙ c.corners.invariant.flag;
+      keeping = subst (λ (x : Linked). IsKeeping arcs rings x c.next_going.new.rings) (sym c.in_ok-take_out.ensures.places) g.keeping;
+      rest = ap (λ (x : Linked). eliminate_arcs (guarded_by b rings) (c.len-n.result - (c.corners._step + 1)) c.args.threshold (left_arcs arcs x.left)) c.in_ok-take_out.ensures.places
+          ∙ one_step (guarded_by b rings) (c.len-n.result - c.corners._step) (c.len-n.result - (c.corners._step + 1)) c.args.threshold (left_arcs arcs s.left)
+          (left_arcs arcs (unlinked c.in-Some.entry.place s).left) (remaining_arcs (guarded_by b rings) c.args.threshold arcs) steps
+          (goes_next b rings arcs c.args.threshold s f.showing (f.flag ∙ c.corners.invariant.flag) f.keeping.fixed (heap_items c.next_going.new.heap) c.next_going.new.waiting c.in-Some.entry n g.stay c.law.ensures)
+          (ap (λ bs. eliminate_arcs (guarded_by b rings) (c.len-n.result - c.corners._step) c.args.threshold (left_arcs arcs bs)) f.left ∙ c.corners.invariant.rest);
     }
 
 pub returns-in_default-clause-left : goal.returns-in_default-clause-left
 returns-in_default-clause-left c =
-    let n = rw c.in_default.is at c.in_ok-entry.ensures.none in
-    no_step (guarded_by true []) (c.len-n.result - c.corners._step) c.args.threshold (left_arcs c.args.arcs.now c.corners.places.left) (remaining_arcs (guarded_by true []) c.args.threshold c.args.arcs.now)
-    (none_next c.args.arcs.now c.args.threshold c.corners.places c.corners.invariant.showing c.next_corner.new.waiting n) c.corners.invariant.rest
+    let arcs = c.args.arcs.now in
+    let rings = c.args.rings.now in
+    let b = c.args.no_crossings in
+    let s = c.next_going.new.places in
+    let n = rw c.in_default.is at c.in_ok-next.ensures.none in
+    let f = fixed_still arcs rings c.corners.places c.corners.invariant.showing c.corners.kept c.corners.invariant.keeping s c.in_ok-next.ensures.fixing in
+    no_step (guarded_by b rings) (c.len-n.result - c.corners._step) c.args.threshold (left_arcs arcs s.left) (remaining_arcs (guarded_by b rings) c.args.threshold arcs)
+    (none_next b rings arcs c.args.threshold s f.showing (f.flag ∙ c.corners.invariant.flag) f.keeping.fixed c.next_going.new.waiting n)
+    (ap (λ bs. eliminate_arcs (guarded_by b rings) (c.len-n.result - c.corners._step) c.args.threshold (left_arcs arcs bs)) f.left ∙ c.corners.invariant.rest)
 
 pub returns-clause-left : goal.returns-clause-left
 returns-clause-left c =
     let none : c.len-n.result - c.corners._step ≡ 0 = omega (arith, c.corners-test.false) in
-    all_steps (guarded_by true []) (c.len-n.result - c.corners._step) c.args.threshold (left_arcs c.args.arcs.now c.corners.places.left) (remaining_arcs (guarded_by true []) c.args.threshold c.args.arcs.now) none c.corners.invariant.rest
+    all_steps (guarded_by c.args.no_crossings c.args.rings.now) (c.len-n.result - c.corners._step) c.args.threshold (left_arcs c.args.arcs.now c.corners.places.left)
+    (remaining_arcs (guarded_by c.args.no_crossings c.args.rings.now) c.args.threshold c.args.arcs.now) none c.corners.invariant.rest

@@ -1,8 +1,9 @@
-use Rattle.std.proofs.Common.{◌≡◌, ◌-◌, true, []}
+use Rattle.std.proofs.Common.{◌≡◌, ◌-◌}
 use Rattle.std.specs.BinaryHeap.{heap_items, IsHeap}
 use Rattle.guarded_meaning.specs.Elimination.{eliminate_arcs, remaining_arcs}
 use Rattle.guarded_meaning.specs.Guards.{guarded_by}
 use Rattle.guarded_reduction.specs.Entries.{turned_cmp}
+use Rattle.guarded_reduction.specs.Keeping.{IsKeeping}
 use Rattle.guarded_reduction.specs.Linking.{IsShowing}
 use Rattle.guarded_reduction.specs.Numbers.{left_arcs}
 use Rattle.guarded_reduction.specs.States.{IsQueued}
@@ -14,5 +15,7 @@ invariant-corners l = record {
   order : IsHeap turned_cmp (heap_items l.heap);
   queued : IsQueued l.threshold l.places (heap_items l.heap) l.waiting;
   showing : IsShowing l.arcs l.places;
-  rest : eliminate_arcs (guarded_by true []) (l.n - l._step) l.threshold (left_arcs l.arcs l.places.left) ≡ remaining_arcs (guarded_by true []) l.threshold l.arcs;
+  flag : l.places.no_crossings ≡ l.no_crossings;
+  keeping : IsKeeping l.arcs l.rings l.places l.kept;
+  rest : eliminate_arcs (guarded_by l.no_crossings l.rings) (l.n - l._step) l.threshold (left_arcs l.arcs l.places.left) ≡ remaining_arcs (guarded_by l.no_crossings l.rings) l.threshold l.arcs;
 }

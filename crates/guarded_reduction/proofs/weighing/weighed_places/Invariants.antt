@@ -1,7 +1,9 @@
 use Rattle.std.proofs.Common.{◌≡◌, ◌-◌, length}
 use Rattle.std.specs.BinaryHeap.{heap_items, IsHeap}
 use Rattle.geometry.specs.Units.{area_limit}
+use Rattle.guarded_meaning.specs.Guards.{guarded_by}
 use Rattle.guarded_reduction.specs.Entries.{AreBelow, turned_cmp}
+use Rattle.guarded_reduction.specs.Keeping.{IsKeeping}
 use Rattle.guarded_reduction.specs.Linking.{IsShowing}
 use Rattle.guarded_reduction.specs.States.{IsQueued}
 use Rattle.guarded_reduction.specs.Weighing.{IsWeighing}
@@ -13,7 +15,9 @@ invariant-corners l = record {
   order : IsHeap turned_cmp (heap_items l.heap);
   queued : IsQueued area_limit l.places (heap_items l.heap) l.waiting;
   showing : IsShowing l.arcs l.places;
+  flag : l.places.no_crossings ≡ l.no_crossings;
+  keeping : IsKeeping l.arcs l.rings l.places l.kept;
   below : AreBelow l.places;
   many : length l.levels.items ≡ length l.places.positions;
-  weighing : IsWeighing l.arcs (l.n - l._step) l.level l.places.left l.levels.items;
+  weighing : IsWeighing (guarded_by l.no_crossings l.rings) l.arcs (l.n - l._step) l.level l.places.left l.levels.items;
 }

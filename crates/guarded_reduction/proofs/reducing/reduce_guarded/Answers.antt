@@ -1,7 +1,7 @@
 use Rattle.std.proofs.Common.{ap, map, ◌∙◌}
 use Rattle.guarded_meaning.specs.Elimination.{reduce_arcs}
 use Rattle.guarded_reduction.proofs.KeptIndexes.{left_indexes}
-use Rattle.guarded_reduction.proofs.reducing.reduce_without_crossings.Goals as goal
+use Rattle.guarded_reduction.proofs.reducing.reduce_guarded.Goals as goal
 
 pub returns : goal.returns
 unfolding reduce_arcs

@@ -1,0 +1,231 @@
+-- Which rings use which arcs, and how often arcs move on, as loops count it.
+use Rattle.std.proofs.Common.{◌≡◌, ◌≢◌, ℕ, ℤ, ◌+◌, ◌-◌, ◌<◌, ◌≤◌, ◌==◌, Bool, true, false, nat_le, ◌&&◌, List, [], ◌∷◌, ◌++◌, length, map, take, drop, replicate, get_or, slice_index_or, slice_set, length-set, get_or-set_same, get_or-set_other, refl, ap, sym, ◌∙◌, subst, ◌⊎◌, inl, inr, arith}
+use Rattle.std.specs.List.{Contains, list_all}
+use Rattle.std.proofs.lemmas.Bool.{both_ways, cases_eq, cases_lt, or_cases}
+use Rattle.std.proofs.lemmas.Bool.Decides.{nat_tests}
+use Rattle.std.proofs.lemmas.List.{drop_all, get_or_default, get_or-map, get_or-replicate, get_or_past, length-drop, length-map, length-replicate, map-set}
+use Rattle.std.proofs.lemmas.Grind.{common_steps}
+use Rattle.std.proofs.lemmas.List.Elements.{Contains-append_cases, Contains-append_left, Contains-append_right}
+use Rattle.std.proofs.lemmas.List.Folds.{list_any-append}
+use Rattle.effective_area.proofs.HeapLaws.{contains_cases, contains_here}
+use Rattle.owned_values.proofs.Lists.{drop_here, take_here}
+use Rattle.geometry.specs.Joins.{number_of}
+use Rattle.geometry.specs.Points.{Point}
+use Rattle.guarded_meaning.specs.Guards.{uses}
+use Rattle.guarded_reduction.specs.Moves.{AddsUser, AreUsers, moves, ring_at, ring_moves, stays, steps, users_at}
+
+take_whole : {X : Type 0} (i : ℕ) (xs : List X) → length xs ≤ i → take i xs ≡ xs
+take_whole i xs h = grind (arith, common_steps)
+
+-- ---- a ring is listed with one arc more
+
+test_eq : (m n : ℕ) → (m == n) ≡ true → m ≡ n
+test_eq m n e = grind (arith, nat_tests)
+
+module _ {X : Type 0} (f : X → List ℕ) (ring : ℕ) (first us : List X) (x y : X) (refs : List ℤ) (i : ℕ) (r : ℤ) (l : i < length refs) (r_is : r ≡ get_or refs i r) (within : number_of r < length us)
+    (x_is : x ≡ get_or us (number_of r) x) (y_is : f y ≡ f x ++ (ring ∷ [])) where
+  abbrev arc : ℕ
+  arc = number_of r
+
+  abbrev old : List (List ℕ)
+  old = map f us
+
+  abbrev new : List (List ℕ)
+  new = map f (slice_set us arc y)
+
+  new_is : new ≡ slice_set old arc (f y)
+  new_is = map-set f us arc y
+
+  inside : arc < length old
+  inside = omega (arith, within, length-map us f)
+
+  old_here : users_at old arc ≡ f x
+  old_here = get_or-map f us arc x [] within ∙ ap f (sym x_is)
+
+  here : users_at new arc ≡ users_at old arc ++ (ring ∷ [])
+  here = ap (λ us. users_at us arc) new_is ∙ get_or-set_same old arc (f y) [] inside ∙ y_is ∙ ap (λ js. js ++ (ring ∷ [])) (sym old_here)
+
+  elsewhere : (k : ℕ) → k ≢ arc → users_at new k ≡ users_at old k
+  elsewhere k n = ap (λ us. users_at us k) new_is ∙ get_or-set_other old arc k (f y) [] n
+
+  has : (k j : ℕ) → Contains (users_at old k) j → Contains (users_at new k) j
+  has k j h = on (cases_eq k arc)
+    where
+      on : (k ≡ arc) ⊎ (k ≢ arc) → Contains (users_at new k) j
+      on (inl e) = subst (λ n. Contains (users_at new n) j) (sym e)
+          (subst (λ js. Contains js j) (sym here) (Contains-append_left (users_at old arc) (ring ∷ []) j (subst (λ n. Contains (users_at old n) j) e h)))
+      on (inr n) = subst (λ js. Contains js j) (sym (elsewhere k n)) h
+
+  only : (k j : ℕ) → Contains (users_at new k) j → Contains (users_at old k) j ⊎ (j ≡ ring)
+  only k j h = on (cases_eq k arc)
+    where
+      last : Contains (ring ∷ []) j → j ≡ ring
+      last m = by (contains_cases ring [] j m)
+        where
+          by : (j ≡ ring) ⊎ Contains [] j → j ≡ ring
+          by (inl e) = e
+          by (inr k) = absurd (omega (arith, k.1))
+
+      by : k ≡ arc → Contains (users_at old arc) j ⊎ Contains (ring ∷ []) j → Contains (users_at old k) j ⊎ (j ≡ ring)
+      by e (inl m) = inl (subst (λ n. Contains (users_at old n) j) (sym e) m)
+      by e (inr m) = inr (last m)
+
+      on : (k ≡ arc) ⊎ (k ≢ arc) → Contains (users_at old k) j ⊎ (j ≡ ring)
+      on (inl e) = by e (Contains-append_cases (users_at old arc) (ring ∷ []) j (subst (λ js. Contains js j) here (subst (λ n. Contains (users_at new n) j) e h)))
+      on (inr n) = inl (subst (λ js. Contains js j) (elsewhere k n) h)
+
+  -- with this arc they are those up to here
+  one_more : (k : ℕ) → uses k (take (i + 1) refs) ≡ true → (uses k (take i refs) ≡ true) ⊎ (k ≡ arc)
+  one_more k u = on (or_cases (uses k (take i refs)) (uses k (r ∷ [])) (sym (list_any-append (λ q. number_of q == k) (take i refs) (r ∷ [])) ∙ ap (uses k) (sym (take_here refs i r l r_is)) ∙ u))
+    where
+      on : (uses k (take i refs) ≡ true) ⊎ (uses k (r ∷ []) ≡ true) → (uses k (take i refs) ≡ true) ⊎ (k ≡ arc)
+      on (inl h) = inl h
+      on (inr h) = by (or_cases (arc == k) false h)
+        where
+          by : ((arc == k) ≡ true) ⊎ (false ≡ true) → (uses k (take i refs) ≡ true) ⊎ (k ≡ arc)
+          by (inl e) = inr (sym (test_eq arc k e))
+          by (inr e) = absurd (both_ways false refl e)
+
+  pub adds_one : AddsUser ring (take i refs) (map f first) old → AddsUser ring (take (i + 1) refs) (map f first) new
+  adds_one h = record {
+    many = ap length new_is ∙ length-set old arc (f y) ∙ h.many;
+    has = λ k j m. has k j (h.has k j m);
+    listed = λ k w u. listed k w (one_more k u);
+    only = λ k j m. before k j (only k j m);
+  }
+    where
+      listed : (k : ℕ) → k < length new → (uses k (take i refs) ≡ true) ⊎ (k ≡ arc) → Contains (users_at new k) ring
+      listed k w (inl u) = has k ring (h.listed k (omega (arith, w, ap length new_is ∙ length-set old arc (f y))) u)
+      listed k w (inr e) = subst (λ n. Contains (users_at new n) ring) (sym e) (subst (λ js. Contains js ring) (sym here) (Contains-append_right (users_at old arc) (ring ∷ []) ring (contains_here ring [])))
+
+      before : (k j : ℕ) → Contains (users_at old k) j ⊎ (j ≡ ring) → Contains (users_at (map f first) k) j ⊎ (j ≡ ring)
+      before k j (inl m) = h.only k j m
+      before k j (inr e) = inr e
+
+pub adds_none : (ring : ℕ) (refs : List ℤ) (us : List (List ℕ)) → AddsUser ring (take 0 refs) us us
+adds_none ring refs us = record { many = refl; has = λ k j m. m; listed = λ k w u. absurd (both_ways false refl u); only = λ k j m. inl m }
+
+pub adds_all : (ring i : ℕ) (refs : List ℤ) (old new : List (List ℕ)) → length refs ≤ i → AddsUser ring (take i refs) old new → AddsUser ring refs old new
+adds_all ring i refs old new h = subst (λ rs. AddsUser ring rs old new) (take_whole i refs h)
+
+-- ---- ring by ring
+
+abbrev no_numbers : List ℕ
+no_numbers = []
+
+pub no_users_yet : (n : ℕ) (rings : List (List ℤ)) (us : List (List ℕ)) → us ≡ replicate n [] → AreUsers 0 rings us
+no_users_yet n rings us e = record { ring = λ k j m. absurd (none k j m); listed = λ k j w l u. absurd (omega (arith, l)) }
+  where
+    none : (k j : ℕ) → Contains (users_at us k) j → ⊥
+    none k j m = empty (subst (λ js. Contains js j) (ap (λ vs. users_at vs k) e ∙ on (cases_lt k n)) m)
+      where
+        empty : Contains no_numbers j → ⊥
+        empty h = omega (arith, h.1)
+
+        on : (k < n) ⊎ (n ≤ k) → users_at (replicate n []) k ≡ []
+        on (inl h) = get_or-replicate n k [] [] h
+        on (inr h) = get_or_past (replicate n []) k [] (omega (arith, h, length-replicate n no_numbers))
+
+pub one_ring_more : (rings : List (List ℤ)) (refs : List ℤ) (j : ℕ) (old new : List (List ℕ)) → refs ≡ ring_at rings j → AddsUser j refs old new → AreUsers j rings old → AreUsers (j + 1) rings new
+one_ring_more rings refs j old new is a h = record {
+  ring = λ k i m. within k i (a.only k i m);
+  listed = λ k i w l u. on k i w u (cases_lt i j) l;
+}
+  where
+    within : (k i : ℕ) → Contains (users_at old k) i ⊎ (i ≡ j) → i < j + 1
+    within k i (inl m) = let l = h.ring k i m in omega (arith, l)
+    within k i (inr e) = omega (arith, e)
+
+    on : (k i : ℕ) → k < length new → uses k (ring_at rings i) ≡ true → (i < j) ⊎ (j ≤ i) → i < j + 1 → Contains (users_at new k) i
+    on k i w u (inl l) m = a.has k i (h.listed k i (omega (arith, w, a.many)) l u)
+    on k i w u (inr l) m =
+        let e : j ≡ i = omega (arith, l, m) in
+        subst (λ n. Contains (users_at new k) n) e (a.listed k w (ap (uses k) is ∙ ap (λ n. uses k (ring_at rings n)) e ∙ u))
+
+-- ---- how often lines move on
+
+pub one_step_more : (ps : List Point) (p q : Point) (i m n : ℕ) → 0 < i → i < length ps → p ≡ get_or ps (i - 1) p → q ≡ get_or ps i q → m + moves (drop (i - 1) ps) ≡ moves ps → n ≡ m + steps p q → n + moves (drop i ps) ≡ moves ps
+one_step_more ps p q i m n some within p_is q_is h e =
+    let before : i - 1 < length ps = omega (arith, within) in
+    let next : (i - 1) + 1 ≡ i = omega (arith, some) in
+    let here : drop (i - 1) ps ≡ p ∷ drop i ps = drop_here ps (i - 1) p before p_is ∙ ap (λ k. p ∷ drop k ps) next in
+    let there : drop i ps ≡ q ∷ drop (i + 1) ps = drop_here ps i q within q_is in
+    let a : moves (drop (i - 1) ps) ≡ steps p q + moves (drop i ps) = ap moves here ∙ ap (λ qs. moves (p ∷ qs)) there ∙ ap (λ qs. steps p q + moves qs) (sym there) in
+    omega (arith, a, h, e)
+
+pub all_steps_taken : (ps : List Point) (i m : ℕ) → length ps ≤ i → m + moves (drop (i - 1) ps) ≡ moves ps → m ≡ moves ps
+all_steps_taken ps i m l h = let e = few (drop (i - 1) ps) (omega (arith, l, length-drop (i - 1) ps)) in omega (arith, e, h)
+  where
+    few : (qs : List Point) → length qs ≤ 1 → moves qs ≡ 0
+    few [] k = refl
+    few (q ∷ []) k = refl
+    few (q ∷ (r ∷ qs)) k = absurd (omega (arith, k))
+
+-- ---- how often a ring moves on
+
+-- what is read of a list of numbers
+pub read : (ms : List ℕ) (i v : ℕ) → i < length ms → v ≡ get_or ms i v → v ≡ slice_index_or ms i 0
+read ms i v h e = e ∙ get_or_default ms i v 0 h
+
+-- how often the arc moves on, where the one of this number does as often as is left to it
+pub other_moves : (ms : List ℕ) (k left i v : ℕ) → i ≢ k → i < length ms → v ≡ get_or ms i v → v ≡ slice_index_or (slice_set ms k left) i 0
+other_moves ms k left i v n h e = read ms i v h e ∙ sym (get_or-set_other ms k i left 0 n)
+
+pub own_moves : (ms : List ℕ) (k left i : ℕ) → i ≡ k → k < length ms → left ≡ slice_index_or (slice_set ms k left) i 0
+own_moves ms k left i e h = sym (ap (λ n. slice_index_or (slice_set ms k left) n 0) e ∙ get_or-set_same ms k left 0 h)
+
+pub one_arc_more : (ms : List ℕ) (refs : List ℤ) (i : ℕ) (r : ℤ) (v m n : ℕ) → i < length refs → r ≡ get_or refs i r → v ≡ slice_index_or ms (number_of r) 0 → n ≡ m - v →
+    nat_le m (ring_moves ms (drop i refs)) ≡ stays ms refs → nat_le n (ring_moves ms (drop (i + 1) refs)) ≡ stays ms refs
+one_arc_more ms refs i r v m n within is v_is n_is h = less (ring_moves ms (drop (i + 1) refs)) (ring_moves ms (drop i refs)) more ∙ h
+  where
+    more : ring_moves ms (drop i refs) ≡ v + ring_moves ms (drop (i + 1) refs)
+    more = ap (ring_moves ms) (drop_here refs i r within is) ∙ ap (λ k. k + ring_moves ms (drop (i + 1) refs)) (sym v_is)
+
+    less : (a b : ℕ) → b ≡ v + a → nat_le n a ≡ nat_le m b
+    less a b e = grind (arith, nat_tests)
+
+-- nothing is missing any more
+pub enough_arcs : (ms : List ℕ) (refs : List ℤ) (n k : ℕ) → n ≡ 0 → nat_le n k ≡ stays ms refs → true ≡ stays ms refs
+enough_arcs ms refs n k e h = zero_is n k e ∙ h
+  where
+    zero_is : (n k : ℕ) → n ≡ 0 → true ≡ nat_le n k
+    zero_is n k e = grind (arith, nat_tests)
+
+-- something is missing still, and no arc is left
+pub no_arcs_left : (ms : List ℕ) (refs : List ℤ) (i m : ℕ) → 0 < m → length refs ≤ i → nat_le m (ring_moves ms (drop i refs)) ≡ stays ms refs → false ≡ stays ms refs
+no_arcs_left ms refs i m some l h = sym (none m some) ∙ sym (ap (λ rs. nat_le m (ring_moves ms rs)) (drop_all i refs l)) ∙ h
+  where
+    none : (m : ℕ) → 0 < m → nat_le m 0 ≡ false
+    none m l = grind (arith, nat_tests)
+
+pub stays_is : (ms : List ℕ) (refs : List ℤ) → nat_le 3 (ring_moves ms refs) ≡ stays ms refs
+unfolding stays
+stays_is ms refs = refl
+
+-- ---- the rings of an arc
+
+contains_at : (js : List ℕ) (i : ℕ) → i < length js → Contains js (slice_index_or js i 0)
+contains_at js i h = (i, h, get_or_default js i (slice_index_or js i 0) 0 h)
+
+pub listed_within : (js : List ℕ) (n i : ℕ) → i < length js → ((j : ℕ) → Contains js j → j < n) → slice_index_or js i 0 < n
+listed_within js n i h f = f (slice_index_or js i 0) (contains_at js i h)
+
+here_first : (js : List ℕ) (i : ℕ) → i < length js → drop i js ≡ slice_index_or js i 0 ∷ drop (i + 1) js
+here_first js i h = drop_here js i (slice_index_or js i 0) h (get_or_default js i 0 (slice_index_or js i 0) h)
+
+pub one_user_more : (p : ℕ → Bool) (js : List ℕ) (i : ℕ) → i < length js → p (slice_index_or js i 0) ≡ true → list_all p (drop i js) ≡ list_all p js → list_all p (drop (i + 1) js) ≡ list_all p js
+one_user_more p js i h e f = sym (ap (λ b. b && list_all p (drop (i + 1) js)) e) ∙ sym (ap (list_all p) (here_first js i h)) ∙ f
+
+pub one_user_fails : (p : ℕ → Bool) (js : List ℕ) (i : ℕ) → i < length js → p (slice_index_or js i 0) ≡ false → list_all p (drop i js) ≡ list_all p js → false ≡ list_all p js
+one_user_fails p js i h e f = sym (ap (λ b. b && list_all p (drop (i + 1) js)) e) ∙ sym (ap (list_all p) (here_first js i h)) ∙ f
+
+pub no_users_left : (p : ℕ → Bool) (js : List ℕ) (i : ℕ) → length js ≤ i → list_all p (drop i js) ≡ list_all p js → true ≡ list_all p js
+no_users_left p js i l f = sym (ap (list_all p) (drop_all i js l)) ∙ f
+
+-- the list that was read
+pub users_read : {X : Type 0} (f : X → List ℕ) (us : List X) (k : ℕ) (x : X) → k < length us → x ≡ get_or us k x → f x ≡ users_at (map f us) k
+users_read f us k x h e = ap f e ∙ sym (get_or-map f us k x [] h)
+
+-- the ring that was read
+pub ring_read : (rings : List (List ℤ)) (j : ℕ) (refs : List ℤ) → j < length rings → refs ≡ get_or rings j refs → refs ≡ ring_at rings j
+ring_read rings j refs h e = e ∙ get_or_default rings j refs [] h

@@ -7,6 +7,7 @@ pub mod Celled
 pub mod CelledDecoding
 mod GridRows
 pub mod Guarded
+pub mod Greatest
 pub mod GuardedLayers
 mod GuardedRows
 pub mod Kept
@@ -14,14 +15,19 @@ pub mod KeptLabels
 pub mod Simplified
 pub mod Lying
 pub mod Made
+pub mod Marks
 pub mod Objects
 pub mod OnGrid
+pub mod Protected
 pub mod Retained
 pub mod Reaching
+mod ProtectedRows
 pub mod Replaced
+pub mod RingKept
 mod Rows
 pub mod Snapped
 mod SnappedRows
+pub mod Spared
 pub mod Twice
 pub mod Valid
 pub mod ValidCelled

@@ -1,5 +1,5 @@
 -- Objects that are pruned twice, and the lines and rings of pruned objects.
-use Rattle.std.proofs.Common.{rules, arith, ◌≡◌, ℕ, ℤ, Bool, List, [], ◌∷◌, map, Option, None, Some, refl}
+use Rattle.std.proofs.Common.{rules, arith, ◌≡◌, ℕ, ℤ, Bool, List, [], ◌∷◌, map, Option, None, Some, refl, subst}
 use Rattle.std.proofs.lemmas.List.{map-append}
 use Rattle.std.specs.List.{AllByRecursion}
 use Rattle.geometry.specs.Lists.{then_some}
@@ -11,9 +11,11 @@ use Rattle.topojson_types.specs.declared.feature.TopoFeature.{TopoFeature}
 use Rattle.topojson_types.specs.declared.object.TopoObject.{TopoObject}
 use Rattle.topojson_types.specs.declared.object.TopoObject.TheVariants.{One, Many}
 use Rattle.topojson_types.specs.Topologies.{TopoShape, object_features, features_lines_and_rings, objects_lines_and_rings}
-use Rattle.owned_values.proofs.Elements.{all_append, all_left, all_right}
-use Rattle.build_meaning.proofs.LinesAndRings.{option_left}
+use Rattle.owned_values.proofs.Elements.{all_left, all_right, all_weaker}
 use Rattle.simplified_topology.specs.Simplified.{Refs, feature_pruned, object_pruned, objects_pruned}
+use Rattle.simplified_topology.specs.Protected.{no_protection}
+use Rattle.simplified_topology.proofs.Spared.{by_refs, objects_plain}
+use Rattle.simplified_topology.proofs.Spared as spared
 use Rattle.simplified_topology.proofs.Replaced.{lines_and_rings_replaced}
 
 abbrev Named_objects : Type 0
@@ -51,16 +53,10 @@ module _ (kept : Refs) (X : Bool × List ℤ → Type 0) where
   abbrev pub Leaves : Bool × List ℤ → Type 0
   Leaves b = (m : List ℤ) → kept b.0 b.1 ≡ Some m → X (b.0, m)
 
-  features_left : (fs : List TopoFeature) → AllByRecursion Leaves (features_lines_and_rings fs) → AllByRecursion X (features_lines_and_rings (map (feature_pruned kept) fs))
-  features_left [] h = tt
-  features_left (f ∷ fs) h = search (rules, all_append, option_left, all_left, all_right, features_left fs (all_right Leaves (option_lines_and_rings f.shape) (features_lines_and_rings fs) h))
-
-  object_left : (o : TopoObject) → AllByRecursion Leaves (features_lines_and_rings (object_features o)) → AllByRecursion X (features_lines_and_rings (object_features (object_pruned kept o)))
-  object_left o h = grind (arith, features_left)
-
   pub objects_left : (os : Named_objects) → AllByRecursion Leaves (objects_lines_and_rings os) → AllByRecursion X (objects_lines_and_rings (objects_pruned kept os))
-  objects_left [] h = tt
-  objects_left (o ∷ os) h = grind (arith, all_append, object_left, all_left, all_right, objects_left os (all_right Leaves (features_lines_and_rings (object_features o.1)) (objects_lines_and_rings os) h))
+  objects_left os h =
+      subst (λ left. AllByRecursion X (objects_lines_and_rings left)) (objects_plain (by_refs kept) os)
+      (spared.objects_left no_protection (by_refs kept) X os (all_weaker Leaves (spared.Leaves no_protection (by_refs kept) X) (λ b k mark. k) (objects_lines_and_rings os) h))
 
 -- ---- the lines and rings where each is replaced
 

@@ -6,6 +6,9 @@ pub mod Quantized
 pub mod Guarded
 pub mod GuardedLaws
 pub mod Laws
+pub mod OuterRings
+pub mod Protected
+pub mod ProtectedLaws
 pub mod Simplified
 pub mod Thresholds
 pub mod TransformLaws

@@ -3,12 +3,14 @@
 //! trimming it uses, on `grid_snap`, whose grids have cells, and on `topojson_types`, which says where a cell lies by a transform. There is
 //! no code but the laws. The layers above use the definitions and the laws: what is reduced, and what is put on a grid, stays valid; on a
 //! grid it decodes to the same, and to the features that are expected of the snapped layers; and what is built at a threshold of zero and
-//! then reduced is what is built at the threshold, with a grid and without.
+//! then reduced is what is built at the threshold, with a grid and without. `specs/Protected.antt` says what is left where in each feature one
+//! ring is protected; nothing above uses it yet.
 #![tactic(auto)]
 
 mod grid_laws;
 mod guarded_laws;
 mod laws;
+mod protected_laws;
 mod transform_laws;
 
 pub use grid_laws::{
@@ -25,5 +27,11 @@ pub use laws::{
     assembling_removes, built_decodes_back_on_grid, built_decodes_on_grid, built_is_valid_on_grid,
     celled_decodes, celled_is_valid, indexes_reach, reduced_is_valid, retained_is_reduced,
     simplified_is_valid, simplified_keeps, simplifies_to_built, simplifies_to_built_on_grid,
+};
+pub use protected_laws::{
+    greatest_ring_is_greatest, none_is_greatest, protecting_arcs_are_reduced,
+    protecting_crossings_never_rise, protecting_indexes_reach, protecting_is_valid,
+    protecting_keeps, protecting_none_stays_none, shapes_stay, spared_is_valid, spared_keeps,
+    unprotected_is_guarded, unprotected_is_simplified,
 };
 pub use transform_laws::{cells_are_on_grid, cells_lie_there, grid_has_transform};

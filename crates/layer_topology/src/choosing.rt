@@ -116,8 +116,30 @@ fn arcs_by_weights(
     Ok(left)
 }
 
-/// Of each arc the positions that stay at the greatest threshold that keeps a share, and this threshold. Each arc is weighed once, so no
-/// reducer is needed; and no further than the threshold can lie, so a long arc costs no more than reducing it.
+/// The weights of the positions of each arc, and the greatest threshold at which at least p of q of the positions between the ends of all
+/// arcs stay. Each arc is weighed once, and no further than the threshold can lie, so a long arc costs no more than reducing it. At the
+/// threshold the weights say what stays of each arc.
+pub fn weigh_arcs(
+    alloc: Global,
+    arcs: &[Items<Position>],
+    p: u64,
+    q: u64,
+) -> Result<(Vec<Vec<Weight>>, u128), Memory>
+    requires whole { 0 < q }
+    requires part { p ≤ q }
+    ensures stays { IfOk result (λ r. map (λ w. kept_at r.1 w.items) r.0.items ≡ map (reduce r.1) arcs.now) }
+    ensures chosen { IfOk result (λ r. r.1 ≡ share p q (interior_weights (map weights_of arcs.now))) }
+{
+    kept_at_is_reduced();
+    capped_is_enough();
+    let count = count_positions(arcs)?;
+    let most = most_weighed(count, p, q);
+    let all = weighed_arcs(alloc, arcs, most)?;
+    let threshold = share_threshold(alloc, &all, p, q)?;
+    Ok((all, threshold))
+}
+
+/// Of each arc the positions that stay at the greatest threshold that keeps a share, and this threshold. No reducer is needed.
 fn shared_out_arcs(
     alloc: Global,
     arcs: Vec<Items<Position>>,
@@ -129,13 +151,8 @@ fn shared_out_arcs(
     ensures retained { IfOk result (λ r. r.0.items ≡ retained_arcs (map (reduce r.1) arcs.items) arcs.items) }
     ensures chosen { IfOk result (λ r. r.1 ≡ share p q (interior_weights (map weights_of arcs.items))) }
 {
-    kept_at_is_reduced();
-    capped_is_enough();
-    let count = count_positions(&arcs)?;
-    let most = most_weighed(count, p, q);
-    let all = weighed_arcs(alloc, &arcs, most)?;
-    let threshold = share_threshold(alloc, &all, p, q)?;
-    let left = arcs_by_weights(alloc, arcs, &all, threshold)?;
+    let (weights, threshold) = weigh_arcs(alloc, &arcs, p, q)?;
+    let left = arcs_by_weights(alloc, arcs, &weights, threshold)?;
     Ok((left, threshold))
 }
 

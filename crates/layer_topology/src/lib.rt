@@ -17,7 +17,7 @@ mod objects;
 mod topology;
 mod transforms;
 
-pub use choosing::reduced_line;
+pub use choosing::{reduced_line, weigh_arcs};
 pub use guarded_laws::{guarded_is_assembled_of, simplified_under_law, written_under_law};
 pub use guards::Guards;
 pub use laws::{simplifies_to_written, written_laws};

@@ -9,6 +9,8 @@ pub mod Linking
 pub mod Moves
 pub mod Numbers
 pub mod Orders
+pub mod Placed
+pub mod PlacedLists
 pub mod Shown
 pub mod States
 pub mod Tests

@@ -28,6 +28,7 @@ mod reducing;
 mod refitting;
 mod ring_moves;
 mod searching;
+mod shown_places;
 mod sides;
 mod triangle;
 mod turns;

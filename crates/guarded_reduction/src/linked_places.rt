@@ -12,9 +12,10 @@ ghost use Rattle.guarded_reduction.specs.Moves.{lost_at};
 use crate::blocking::{Blocked, Links};
 use crate::entry::Entry;
 use crate::flattening::{afters_of, all_positions, befores_of};
-use crate::index::PositionIndex;
 use crate::query::Corner;
 use crate::ring_moves::step;
+use crate::searching::position_of;
+use crate::shown_places::ShownPlaces;
 use effective_area::cross;
 use geometry::Position;
 use owned_values::{Items, Memory};
@@ -25,10 +26,9 @@ use std::marker::Model;
 /// it; where there is none, the place itself. Some of them may stay for good.
 #[derive(Drop)]
 pub struct LinkedPlaces {
-    index: PositionIndex,
+    places: ShownPlaces,
     befores: Vec<usize>,
     afters: Vec<usize>,
-    no_crossings: bool,
     fixed: Vec<bool>,
 }
 
@@ -37,13 +37,13 @@ impl Model for LinkedPlaces {
 
     ghost Value = { Linked };
 
-    ghost view = { λ p. record { positions = p.index.positions; left = p.index.left; befores = p.befores.items; afters = p.afters.items; no_crossings = p.no_crossings; fixed = p.fixed.items } };
+    ghost view = { λ p. record { positions = p.places.positions; left = p.places.left; befores = p.befores.items; afters = p.afters.items; no_crossings = p.places.indexed; fixed = p.fixed.items } };
 
-    ghost invariant = { λ p. IsWhole (record { positions = p.index.positions; left = p.index.left; befores = p.befores.items; afters = p.afters.items; no_crossings = p.no_crossings; fixed = p.fixed.items }) };
+    ghost invariant = { λ p. IsWhole (record { positions = p.places.positions; left = p.places.left; befores = p.befores.items; afters = p.afters.items; no_crossings = p.places.indexed; fixed = p.fixed.items }) };
 }
 
 impl LinkedPlaces {
-    /// The places of these arcs, which are all left, and whether crossings are to be avoided.
+    /// The places of these arcs, which are all left, with an index where crossings are to be avoided.
     pub fn of(
         alloc: Global,
         arcs: &[Items<Position>],
@@ -53,14 +53,13 @@ impl LinkedPlaces {
     {
         let positions = all_positions(alloc, arcs)?;
         let fixed = vec![in alloc; false; positions.len()]?;
-        let index = PositionIndex::of(alloc, positions)?;
+        let places = ShownPlaces::of(alloc, positions, no_crossings)?;
         let befores = befores_of(alloc, arcs)?;
         let afters = afters_of(alloc, arcs)?;
         Ok(LinkedPlaces {
-            index,
+            places,
             befores,
             afters,
-            no_crossings,
             fixed,
         })
     }
@@ -76,7 +75,7 @@ impl LinkedPlaces {
     pub fn len(&self) -> usize
         ensures { result ≡ length self.now.positions }
     {
-        self.index.positions().len()
+        self.places.positions().len()
     }
 
     /// The place is left.
@@ -84,7 +83,7 @@ impl LinkedPlaces {
         requires { place < length self.now.positions }
         ensures { result ≡ is_left_at self.now.left place }
     {
-        self.index.is_left(place)
+        self.places.is_left(place)
     }
 
     /// The place stays for good.
@@ -101,7 +100,7 @@ impl LinkedPlaces {
         requires { place < length self.now.positions }
         ensures { result ≡ point_at self.now.positions place }
     {
-        self.index.position(place)
+        position_of(self.places.positions(), place)
     }
 
     /// The place before a place.
@@ -131,9 +130,9 @@ impl LinkedPlaces {
         ensures value { result ≡ entry_at self.now.positions before place after }
         ensures below { result.area < area_limit }
     {
-        let at = self.index.position(place);
-        let first = self.index.position(before);
-        let last = self.index.position(after);
+        let at = self.position(place);
+        let first = self.position(before);
+        let last = self.position(after);
         let area = cross(first, at, last).unsigned_abs();
         Entry {
             area,
@@ -209,11 +208,8 @@ impl LinkedPlaces {
         ensures some { IfSome result (λ z. Meets self.now.positions self.now.left (is_blocked_by self.now.positions self.now.befores self.now.afters corner) z) }
         ensures none { IfNone result (self.now.no_crossings ≡ true → NoneMeets self.now.positions self.now.left (is_blocked_by self.now.positions self.now.befores self.now.afters corner)) }
     {
-        if !self.no_crossings {
-            return None;
-        }
         let links = Links {
-            positions: self.index.positions(),
+            positions: self.places.positions(),
             befores: self.befores.as_slice(),
             afters: self.afters.as_slice(),
         };
@@ -221,7 +217,7 @@ impl LinkedPlaces {
             corner,
             links: &links,
         };
-        self.index.find(&blocked)
+        self.places.find(&blocked)
     }
 
     /// How many moves fewer an arc makes when the corner at a place goes.
@@ -250,7 +246,7 @@ impl LinkedPlaces {
     {
         let before = self.before(place);
         let after = self.after(place);
-        self.index.remove(place);
+        self.places.remove(place);
         self.befores[after] = before;
         self.afters[before] = after;
     }

@@ -1,0 +1,99 @@
+// The positions of places, of which some are left.
+ghost use Rattle.std.specs.Prelude.{◌≡◌, ◌<◌, ◌^◌, IfOk, length, true};
+ghost use Rattle.std.specs.Option.{IfNone, IfSome};
+ghost use Rattle.guarded_reduction.specs.Indexes.{Meets, NoneMeets, is_left_at};
+ghost use Rattle.guarded_reduction.specs.PlacedLists.{all_placed, without_placed};
+
+use crate::index::PositionIndex;
+use crate::query::Query;
+use geometry::Position;
+use owned_values::Memory;
+use std::alloc::Global;
+use std::marker::Model;
+
+#[derive(Drop)]
+pub enum Places {
+    Listed {
+        positions: Vec<Position>,
+        left: Vec<bool>,
+    },
+    Indexed(PositionIndex),
+}
+
+/// Positions by the numbers of their places, of which some are left, with an index over these, or without one where nothing is looked for.
+#[derive(Drop)]
+pub struct ShownPlaces {
+    places: Places,
+}
+
+impl Model for ShownPlaces {
+    ghost use Rattle.guarded_reduction.specs.Placed.{IsPaired, placed_in};
+    ghost use Rattle.guarded_reduction.specs.PlacedLists.{Placed};
+
+    ghost Value = { Placed };
+
+    ghost view = { λ p. placed_in p.places };
+
+    ghost invariant = { λ p. IsPaired p.places };
+}
+
+impl ShownPlaces {
+    /// These positions, which are all left, with an index or without.
+    pub fn of(alloc: Global, positions: Vec<Position>, indexed: bool) -> Result<ShownPlaces, Memory>
+        requires { length positions.items < 2 ^ 60 }
+        ensures { IfOk result (λ x. x ≡ all_placed indexed positions.items) }
+    {
+        let places = if indexed {
+            Places::Indexed(PositionIndex::of(alloc, positions)?)
+        } else {
+            let left = vec![in alloc; true; positions.len()]?;
+            Places::Listed { positions, left }
+        };
+        Ok(ShownPlaces { places })
+    }
+
+    /// The positions of all places, also of those that are gone.
+    pub fn positions(&self) -> &[Position]
+        ensures { result.now ≡ self.now.positions }
+    {
+        match &self.places {
+            Places::Listed { positions, .. } => positions.as_slice(),
+            Places::Indexed(index) => index.positions(),
+        }
+    }
+
+    /// The place is left.
+    #[tactic(auto, unfolding(crate::specs::Indexes::is_left_at))]
+    pub fn is_left(&self, place: usize) -> bool
+        requires { place < length self.now.positions }
+        ensures { result ≡ is_left_at self.now.left place }
+    {
+        match &self.places {
+            Places::Listed { left, .. } => left[place],
+            Places::Indexed(index) => index.is_left(place),
+        }
+    }
+
+    /// The place goes.
+    pub fn remove(&mut self, place: usize)
+        requires { place < length self.old.positions }
+        ensures { self.new ≡ without_placed place self.old }
+    {
+        match &mut self.places {
+            Places::Listed { left, .. } => left[place] = false,
+            Places::Indexed(index) => index.remove(place),
+        }
+    }
+
+    /// A place that is left and meets the test of the query, where there is an index.
+    pub fn find<Q: Query>(&self, query: &Q) -> Option<usize>
+        ensures asked { IfSome result (λ _. self.now.indexed ≡ true) }
+        ensures some { IfSome result (λ z. Meets self.now.positions self.now.left (Q.test query.now) z) }
+        ensures none { IfNone result (self.now.indexed ≡ true → NoneMeets self.now.positions self.now.left (Q.test query.now)) }
+    {
+        match &self.places {
+            Places::Listed { .. } => None,
+            Places::Indexed(index) => index.find(query),
+        }
+    }
+}

@@ -1,8 +1,8 @@
--- Topologies whose arcs are reduced at once: which arcs are left, and what stays.
-use Rattle.std.proofs.Common.{◌≡◌, ℕ, suc, ◌-◌, ◌≤◌, Bool, true, false, List, [], ◌∷◌, map, length, Option, None, Some, refl, sym, ap, ◌∙◌, subst, arith}
+-- Arcs that are reduced at once: those that are left of a topology, as positions, with their ends, and what is left without a guard.
+use Rattle.std.proofs.Common.{◌≡◌, ℕ, suc, ◌-◌, ◌≤◌, Bool, false, List, [], ◌∷◌, map, length, Option, None, Some, refl, sym, ap, ◌∙◌, subst}
 use Rattle.std.specs.List.{AllByRecursion}
 use Rattle.std.proofs.lemmas.List.{length-map}
-use Rattle.build_meaning.specs.Trimming.{is_used, keep_from, trimmed}
+use Rattle.build_meaning.specs.Trimming.{keep_from}
 use Rattle.build_meaning.proofs.Trimmed.{kept_of_map}
 use Rattle.elimination_meaning.specs.Elimination.{Vertex, numbered, reduce}
 use Rattle.elimination_meaning.specs.Rising.{RisesTo, RisesOver}
@@ -12,25 +12,20 @@ use Rattle.geometry.specs.Joins.{last_of}
 use Rattle.geometry.specs.Points.{Point}
 use Rattle.guarded_meaning.specs.Elimination.{remaining_arcs, reduce_arcs, reduced_arcs}
 use Rattle.guarded_meaning.specs.Arcs.{points_of}
-use Rattle.guarded_meaning.specs.Guards.{guarded_by}
-use Rattle.guarded_meaning.specs.Laws.{ArcsRise, CrossingsNeverRise, FewerArcsLaw, NoneStaysNone, UnguardedIndexLaw}
+use Rattle.guarded_meaning.specs.Laws.{UnguardedIndexLaw}
 use Rattle.guarded_meaning.specs.Lists.{EachTo, IsThinned}
 use Rattle.guarded_meaning.proofs.Thinned.{remaining_thinned}
-use Rattle.owned_values.proofs.Elements.{all_weaker}
 use Rattle.owned_values.proofs.Tests.{holds_of_chosen}
 use Rattle.topojson_types.specs.declared.transform.Transform.{Transform}
 use Rattle.topojson_types.specs.Decoding.{placed_arcs}
 use Rattle.topojson_types.specs.Topologies.{Contents}
 use Rattle.topojson_types.specs.Transforms.{place_on}
-use Rattle.topojson_types.specs.Validity.{IsArc}
 use Rattle.simplified_topology.specs.Guarded.{arc_positions, guarded_indexes, guarded_contents, guarded_dropped, guarded_removed_count}
-use Rattle.simplified_topology.specs.GuardedLaws.{ArcsRetainedAreReduced, GuardedArcsAreReduced, UnguardedIsSimplified, GuardedIndexesReach, GuardedIsValid, GuardedKeeps, GuardedCrossingsNeverRise, GuardedNoneStaysNone}
-use Rattle.simplified_topology.specs.Simplified.{retained_arcs, retained_whole, simplified_by, dropped_by, removed_count_by, FromFirstToLast, EachFromFirstToLast}
+use Rattle.simplified_topology.specs.GuardedLaws.{ArcsRetainedAreReduced, UnguardedIsSimplified}
+use Rattle.simplified_topology.specs.Simplified.{retained_arcs, simplified_by, dropped_by, removed_count_by, FromFirstToLast, EachFromFirstToLast}
 use Rattle.simplified_topology.specs.Thresholds.{placed_cells, reduced_indexes, simplified_contents, simplified_dropped, simplified_removed_count}
 use Rattle.simplified_topology.proofs.Celled.{arcs_map}
-use Rattle.simplified_topology.proofs.KeptLabels.{simplified_keeps}
 use Rattle.simplified_topology.proofs.Retained.{Stands, all_stand, points_retained}
-use Rattle.simplified_topology.proofs.Valid.{simplified_is_valid}
 
 -- ---- which arcs are left
 
@@ -55,14 +50,6 @@ pub placed_left : (transform : Option Transform) (passes : ℕ → Bool) (arcs :
 placed_left None passes arcs = refl
 placed_left (Some t) passes arcs = kept_of_map (map (place_on t)) passes 0 arcs
 
-pub arcs_are_reduced : GuardedArcsAreReduced
-unfolding guarded_contents simplified_by trimmed
-arcs_are_reduced no_crossings t limit y =
-    let kept : List (List ℕ) = guarded_indexes no_crossings t y in
-    let passes : ℕ → Bool = is_used (retained_whole kept limit y).objects in
-    placed_left y.transform passes (retained_arcs kept y.arcs)
-    ∙ ap (keep_from passes 0) (placed_retained y.transform kept y.arcs ∙ retained_are_reduced (guarded_by no_crossings []) t (arc_positions y))
-
 -- ---- without a guard
 
 each_by_itself : (t : ℕ) (transform : Option Transform) (arcs : List (List Point)) → map (reduce t) (placed_arcs transform arcs) ≡ map (λ cells. reduce t (placed_cells transform cells)) arcs
@@ -81,7 +68,7 @@ unguarded_is_simplified law t limit y = record {
   removed_count = ap (λ kept. removed_count_by kept limit y) (unguarded_indexes law t y);
 }
 
--- ---- what stays
+-- ---- the ends of arcs
 
 rises_last : (last i : ℕ) (is : List ℕ) → RisesTo last i is → last_of (i ∷ is) ≡ Some last
 rises_last last i [] h = ap Some h
@@ -117,40 +104,9 @@ pub placed_through : (transform : Option Transform) (kept : List (List ℕ)) (ar
 placed_through None kept arcs h long = each_through kept arcs h long
 placed_through (Some t) kept arcs h long = unplaced (place_on t) kept arcs (each_through kept (map (map (place_on t)) arcs) h (placed_long (place_on t) arcs long))
 
-pub indexes_reach : ArcsRise → GuardedIndexesReach
-indexes_reach rise no_crossings t y h =
-    placed_through y.transform (guarded_indexes no_crossings t y) y.arcs (rise (guarded_by no_crossings []) t (arc_positions y)) (all_weaker (IsArc y.transform) IsLong (λ a k. k.0) y.arcs h.arcs)
-
-pub is_valid : ArcsRise → GuardedIsValid
-unfolding guarded_contents
-is_valid rise no_crossings t limit y h = simplified_is_valid (guarded_indexes no_crossings t y) limit y h (indexes_reach rise no_crossings t y h)
-
-pub keeps_labels : GuardedKeeps
-unfolding guarded_contents
-keeps_labels no_crossings t limit y = simplified_keeps (guarded_indexes no_crossings t y) limit y
-
--- ---- no crossings
+-- ---- some of the arcs
 
 pub sub_left : {X : Type 0} (passes : ℕ → Bool) (n : ℕ) (xs : List X) → Sublist (keep_from passes n xs) xs
 sub_left passes n [] = none
 sub_left passes n (x ∷ xs) =
     holds_of_chosen (λ l. Sublist l (x ∷ xs)) (passes n) (x ∷ keep_from passes (suc n) xs) (keep_from passes (suc n) xs) (keep (sub_left passes (suc n) xs)) (skip (sub_left passes (suc n) xs))
-
-some_of_reduced : (t limit : ℕ) (y : Contents) → Sublist (arc_positions (guarded_contents true t limit y)) (reduced_arcs (guarded_by true []) t (arc_positions y))
-some_of_reduced t limit y =
-    subst (λ arcs. Sublist arcs (reduced_arcs (guarded_by true []) t (arc_positions y))) (sym (arcs_are_reduced true t limit y))
-    (sub_left (is_used (retained_whole (guarded_indexes true t y) limit y).objects) 0 (reduced_arcs (guarded_by true []) t (arc_positions y)))
-
-pub crossings_never_rise : CrossingsNeverRise → FewerArcsLaw → GuardedCrossingsNeverRise
-crossings_never_rise never fewer t limit y = omega (
-  arith,
-  fewer (arc_positions (guarded_contents true t limit y)) (reduced_arcs (guarded_by true []) t (arc_positions y)) (some_of_reduced t limit y),
-  never [] t (arc_positions y),
-)
-
-pub none_stays_none : NoneStaysNone → FewerArcsLaw → GuardedNoneStaysNone
-none_stays_none stays fewer t limit y h = omega (
-  arith,
-  fewer (arc_positions (guarded_contents true t limit y)) (reduced_arcs (guarded_by true []) t (arc_positions y)) (some_of_reduced t limit y),
-  stays [] t (arc_positions y) h,
-)

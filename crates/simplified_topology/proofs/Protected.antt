@@ -14,7 +14,7 @@ use Rattle.geometry.specs.Paths.{Placed}
 use Rattle.geometry.specs.Points.{Point}
 use Rattle.geometry.specs.Pruning.{prune, lines_and_rings, option_lines_and_rings}
 use Rattle.geometry.proofs.Composition.{composed}
-use Rattle.guarded_meaning.specs.Elimination.{reduce_arcs}
+use Rattle.guarded_meaning.specs.Elimination.{reduce_arcs, reduced_arcs}
 use Rattle.guarded_meaning.specs.Guards.{is_long, guarded_by}
 use Rattle.guarded_meaning.specs.Laws.{ArcsRise, CrossingsNeverRise, FewerArcsLaw, NoneStaysNone, RingsStay}
 use Rattle.guarded_meaning.specs.Lists.{EachTo}
@@ -26,13 +26,15 @@ use Rattle.topojson_types.specs.declared.object.TopoObject.{TopoObject}
 use Rattle.topojson_types.specs.declared.object.TopoObject.TheVariants.{One, Many}
 use Rattle.topojson_types.specs.Decoding.{placed_arcs}
 use Rattle.topojson_types.specs.Topologies.{TopoShape, Contents, object_features, features_lines_and_rings, objects_lines_and_rings}
-use Rattle.topojson_types.specs.Validity.{IsArc}
+use Rattle.topojson_types.specs.Validity.{IsArc, IsTopology}
 use Rattle.simplified_topology.specs.GridLaws.{all_features}
 use Rattle.simplified_topology.specs.Guarded.{arc_positions, crossings_of, guarded_indexes, guarded_contents, guarded_dropped, guarded_removed_count}
+use Rattle.simplified_topology.specs.GuardedLaws.{GuardedArcsAreReduced, GuardedIndexesReach, GuardedIsValid, GuardedKeeps, GuardedCrossingsNeverRise, GuardedNoneStaysNone}
+use Rattle.simplified_topology.specs.Laws.{labels}
 use Rattle.simplified_topology.specs.OuterRings.{outer_rings, marked}
 use Rattle.simplified_topology.specs.Protected.{Protection, no_protection, greatest_ring, protected_of, protected_rings, cause_sparing, sparing, MarkedRefs, shape_marked, feature_spared, object_spared, spared_whole, spared_by, option_unprotected, spared_dropped, spared_removed_count, protecting_indexes, protecting_contents, protecting_dropped, protecting_removed_count}
 use Rattle.simplified_topology.specs.ProtectedLaws.{UnprotectedIsSimplified, UnprotectedIsGuarded, ProtectingIndexesReach, ProtectingIsValid, ProtectingKeeps, protecting_reduced, ProtectingArcsAreReduced, ProtectingCrossingsNeverRise, ProtectingNoneStaysNone, HasRing, ShapesStay}
-use Rattle.simplified_topology.specs.Simplified.{small_cause, large_refs, option_small, retained_arcs, simplified_by, dropped_by, removed_count_by}
+use Rattle.simplified_topology.specs.Simplified.{small_cause, large_refs, option_small, retained_arcs, simplified_by, dropped_by, removed_count_by, EachFromFirstToLast, retained_whole}
 use Rattle.simplified_topology.proofs.Again.{all_hold}
 use Rattle.simplified_topology.proofs.Greatest.{greatest_is}
 use Rattle.simplified_topology.proofs.Guarded.{retained_are_reduced, placed_retained, placed_left, placed_through, sub_left}
@@ -137,6 +139,36 @@ crossings_never_rise never fewer protects t limit y = never_rise protects t limi
 
 pub none_stays_none : NoneStaysNone → FewerArcsLaw → ProtectingNoneStaysNone
 none_stays_none stays fewer protects t limit y h = stays_none protects t limit y stays fewer h
+
+-- ---- where no ring is protected, and arcs are reduced at once
+
+module _ (no_crossings : Bool) (t limit : ℕ) (y : Contents) where
+  abbrev same_contents : protecting_contents no_crossings no_protection t limit y ≡ guarded_contents no_crossings t limit y
+  same_contents = (unprotected_is_guarded no_crossings t limit y).contents
+
+  same_whole : spared_whole no_protection (protecting_indexes no_crossings no_protection t y) limit y ≡ retained_whole (guarded_indexes no_crossings t y) limit y
+  same_whole = ap (λ kept. spared_whole no_protection kept limit y) (unprotected_indexes no_crossings t y) ∙ whole_plain (guarded_indexes no_crossings t y) limit y
+
+pub guarded_arcs_are_reduced : GuardedArcsAreReduced
+guarded_arcs_are_reduced no_crossings t limit y =
+    sym (ap arc_positions (same_contents no_crossings t limit y)) ∙ arcs_are_reduced no_crossings no_protection t limit y
+    ∙ ap (λ z. keep_from (is_used z.objects) 0 (protecting_reduced no_crossings no_protection t y)) (same_whole no_crossings t limit y)
+    ∙ ap (λ rings. keep_from (is_used (retained_whole (guarded_indexes no_crossings t y) limit y).objects) 0 (reduced_arcs (guarded_by no_crossings rings) t (arc_positions y))) (no_rings (all_features y))
+
+pub guarded_indexes_reach : ArcsRise → GuardedIndexesReach
+guarded_indexes_reach rise no_crossings t y h = subst (λ kept. EachFromFirstToLast kept y.arcs) (unprotected_indexes no_crossings t y) (indexes_reach rise no_crossings no_protection t y h)
+
+pub guarded_is_valid : ArcsRise → GuardedIsValid
+guarded_is_valid rise no_crossings t limit y h = subst IsTopology (same_contents no_crossings t limit y) (is_valid rise no_crossings no_protection t limit y h)
+
+pub guarded_keeps : GuardedKeeps
+guarded_keeps no_crossings t limit y = subst (λ z. (labels z ≡ labels y) × (z.transform ≡ y.transform)) (same_contents no_crossings t limit y) (keeps_labels no_crossings no_protection t limit y)
+
+pub guarded_never_rise : CrossingsNeverRise → FewerArcsLaw → GuardedCrossingsNeverRise
+guarded_never_rise never fewer t limit y = subst (λ z. crossings_of z ≤ crossings_of y) (same_contents true t limit y) (crossings_never_rise never fewer no_protection t limit y)
+
+pub guarded_stays_none : NoneStaysNone → FewerArcsLaw → GuardedNoneStaysNone
+guarded_stays_none stays fewer t limit y h = subst (λ z. crossings_of z ≡ 0) (same_contents true t limit y) (none_stays_none stays fewer no_protection t limit y h)
 
 -- ---- shapes stay
 

@@ -13,7 +13,7 @@ pub fn arcs_retained_are_reduced()
 {}
 
 /// The arcs that are left of a topology are the reduced ones that a line uses that is kept.
-#[tactic(auto, using(crate::proofs::Guarded::arcs_are_reduced))]
+#[tactic(auto, using(crate::proofs::Protected::guarded_arcs_are_reduced))]
 pub fn guarded_arcs_are_reduced()
     ensures { GuardedArcsAreReduced }
 {}
@@ -26,7 +26,7 @@ pub fn unguarded_is_simplified()
 }
 
 /// The indexes that stay of a valid topology's arc reach from its first cell to its last.
-#[tactic(auto, using(crate::proofs::Guarded::indexes_reach))]
+#[tactic(auto, using(crate::proofs::Protected::guarded_indexes_reach))]
 pub fn guarded_indexes_reach()
     ensures { GuardedIndexesReach }
 {
@@ -46,7 +46,7 @@ pub fn guarded_keeps()
 {}
 
 /// Where no crossing may be made, no more pairs of segments meet badly than before.
-#[tactic(auto, using(crate::proofs::Guarded::crossings_never_rise))]
+#[tactic(auto, using(crate::proofs::Protected::guarded_never_rise))]
 pub fn guarded_crossings_never_rise()
     ensures { GuardedCrossingsNeverRise }
 {
@@ -55,7 +55,7 @@ pub fn guarded_crossings_never_rise()
 }
 
 /// And none do where none did.
-#[tactic(auto, using(crate::proofs::Guarded::none_stays_none))]
+#[tactic(auto, using(crate::proofs::Protected::guarded_stays_none))]
 pub fn guarded_none_stays_none()
     ensures { GuardedNoneStaysNone }
 {

@@ -281,6 +281,7 @@ def lines_of(coordinates):
 
 
 BUILD, STAT, GEO, SIMPLIFY = "build a=file", "stat file", "geo --object a file", "simplify --min-area 1 file"
+UNCROSSED = "simplify --no-crossings --min-area 1000000000000 file"
 MILLION = 10**6
 OPEN_FILES = min(10**5, resource.getrlimit(resource.RLIMIT_NOFILE)[1] - 100)
 
@@ -327,12 +328,20 @@ FILES = (
     ("one position, often", MILLION, lambda n: line("[[0,0],%s]" % ",".join(["[1,1]"] * n)), BUILD, 0),
     ("a zigzag that goes", MILLION, lambda n: line(listed(f"[{i},{i % 2}]" for i in range(n))), BUILD + " --min-area 1000", 0),
     ("a spiral that goes", MILLION, lambda n: line(spiral(n)), BUILD + " --min-area 1000000000000", 0),
+    ("lines from one position", MILLION // 10, lambda n: topology("", star(n)), UNCROSSED, 0),
+    ("spikes over one base", MILLION // 10, lambda n: topology("", ",".join(f"[[0,0],[{n},{i + 1}],[{2 * n},0]]" for i in range(n))), UNCROSSED, 0),
+    ("equal positions in a row", MILLION // 10, lambda n: topology("", "[[0,0],%s,[9,0]]" % ",".join(["[5,5]"] * n)), UNCROSSED, 0),
+    ("equal roofs", MILLION // 10, lambda n: topology("", ",".join(["[[0,0],[5,5],[10,0]]"] * n)), UNCROSSED, 0),
     ("white space", 50 * MILLION, lambda n: " " * n + '{"type":"FeatureCollection","features":[]}', BUILD, 0),
     ("layers", OPEN_FILES, lambda n: '{"type":"FeatureCollection","features":[]}', "build LAYERS", 0),
     ("opening brackets", 50 * MILLION, lambda n: "[" * n, BUILD, 1),
     ("zero bytes", 50 * MILLION, lambda n: "\0" * n, BUILD, 1),
     ("a text without an end", 50 * MILLION, lambda n: '"' + "a" * n, BUILD, 1),
 )
+
+
+def star(n):
+    return ",".join(f"[[0,0],[{i + 1},{n - i}],[{2 * i + 3},{2 * (n - i)}]]" for i in range(n))
 
 
 def named_objects(n):
@@ -549,7 +558,7 @@ PARTS = (
     (try_depths, 80, 80),
     (try_outputs, 31, 31),
     (try_inputs, 14, 14),
-    (try_sizes, 276, 92),
+    (try_sizes, 300, 100),
     (try_chosen, 41, 34),
 )
 

@@ -198,7 +198,7 @@ sound_step rings most arcs h = all_of (λ c. guarded_by true rings arcs c ≡ tr
 by_points : (arcs : List (List Vertex)) → map segment_of (arc_segments arcs) ≡ filter has_length (all_segments (points_of arcs))
 by_points arcs = sym (filter_map has_length segment_of (all_neighbours 0 arcs)) ∙ ap (filter has_length) (segments_are 0 arcs)
 
-segments_by_points : (arcs : List (List Point)) → segments arcs ≡ filter has_length (all_segments arcs)
+pub segments_by_points : (arcs : List (List Point)) → segments arcs ≡ filter has_length (all_segments arcs)
 segments_by_points arcs = by_points (map (numbered 0) arcs) ∙ ap (λ pss. filter has_length (all_segments pss)) (points_numbered arcs)
 
 count_points : (arcs : List (List Vertex)) → crossings (points_of arcs) ≡ count_of arcs

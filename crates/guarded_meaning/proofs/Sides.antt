@@ -93,7 +93,7 @@ without_second j k l x y z e n = omega (arith, ints, e, ap (λ i. i *ℤ y) n �
 without_third : (j k l x y z : ℤ) → j *ℤ x +ℤ (k *ℤ y +ℤ l *ℤ z) ≡ pos 0 → l ≡ pos 0 → j *ℤ x +ℤ k *ℤ y ≡ pos 0
 without_third j k l x y z e n = omega (arith, ints, e, ap (λ i. i *ℤ z) n ∙ zero-*ℤ z)
 
-flat_says : (a b q : Point) → is_on a b q ≡ true → cross a b q ≡ pos 0
+pub flat_says : (a b q : Point) → is_on a b q ≡ true → cross a b q ≡ pos 0
 unfolding is_on
 flat_says a b q h = (Decides-int_eq (cross a b q) (pos 0)).0 (and_parts (is_flat a b q) (is_between a.x b.x q.x && is_between a.y b.y q.y) h).0
 

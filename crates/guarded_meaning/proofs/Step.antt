@@ -16,7 +16,7 @@ use Rattle.guarded_meaning.proofs.Pasch.{swapped, parts_left, parts_right, cross
 
 -- ---- the line through the first two separates the others
 
-abbrev Parted : Point → Point → Point → Point → Type 0
+abbrev pub Parted : Point → Point → Point → Point → Type 0
 Parted a b c d = ((pos 0 <ℤ cross a b c) × (cross a b d <ℤ pos 0)) ⊎ ((cross a b c <ℤ pos 0) × (pos 0 <ℤ cross a b d))
 
 parts_says : (a b c d : Point) → separates a b c d ≡ true → Parted a b c d
@@ -31,15 +31,15 @@ parts_passes : (a b c d : Point) → Parted a b c d → separates a b c d ≡ tr
 parts_passes a b c d (inl h) = parts_left a b c d h.0 h.1
 parts_passes a b c d (inr h) = parts_right a b c d h.0 h.1
 
-others_turned : (a b c d : Point) → Parted a b c d → Parted a b d c
+pub others_turned : (a b c d : Point) → Parted a b c d → Parted a b d c
 others_turned a b c d (inl h) = inr (h.1, h.0)
 others_turned a b c d (inr h) = inl (h.1, h.0)
 
-line_turned : (a b c d : Point) → Parted a b c d → Parted b a c d
+pub line_turned : (a b c d : Point) → Parted a b c d → Parted b a c d
 line_turned a b c d (inl h) = inr (omega (arith, ints, h.0, swapped a b c), omega (arith, ints, h.1, swapped a b d))
 line_turned a b c d (inr h) = inl (omega (arith, ints, h.0, swapped a b c), omega (arith, ints, h.1, swapped a b d))
 
-crosses_says : (a b c d : Point) → crosses (segment a b) (segment c d) ≡ true → Parted a b c d × Parted c d a b
+pub crosses_says : (a b c d : Point) → crosses (segment a b) (segment c d) ≡ true → Parted a b c d × Parted c d a b
 unfolding crosses
 crosses_says a b c d h = let m = and_parts (separates a b c d) (separates c d a b) h in (parts_says a b c d m.0, parts_says c d a b m.1)
 
@@ -66,7 +66,7 @@ on_turned a b q h =
       or_turned (int_le a.y q.y && int_le q.y b.y) (int_le b.y q.y && int_le q.y a.y) k.1,
     ) refl
 
-touches_says : (a b q : Point) → touches a b q ≡ true → (is_on a b q ≡ true) × (is_end a b q ≡ false)
+pub touches_says : (a b q : Point) → touches a b q ≡ true → (is_on a b q ≡ true) × (is_end a b q ≡ false)
 unfolding touches
 touches_says a b q h = let m = and_parts (is_on a b q) (not (is_end a b q)) h in (m.0, not-true (is_end a b q) m.1)
 
@@ -138,7 +138,7 @@ bad_touch : (s t : Segment) → is_touched t s ≡ true → meets_badly s t ≡ 
 unfolding meets_badly
 bad_touch s t h = or_right (same_ends s t) (crosses s t || (is_touched s t || is_touched t s)) (or_right (crosses s t) (is_touched s t || is_touched t s) (or_right (is_touched s t) (is_touched t s) h))
 
-bad_says : (s t : Segment) → meets_badly s t ≡ true → (same_ends s t ≡ true) ⊎ ((crosses s t ≡ true) ⊎ ((is_touched s t ≡ true) ⊎ (is_touched t s ≡ true)))
+pub bad_says : (s t : Segment) → meets_badly s t ≡ true → (same_ends s t ≡ true) ⊎ ((crosses s t ≡ true) ⊎ ((is_touched s t ≡ true) ⊎ (is_touched t s ≡ true)))
 unfolding meets_badly
 bad_says s t h = on (or_cases (same_ends s t) (crosses s t || (is_touched s t || is_touched t s)) h)
   where

@@ -30,23 +30,23 @@ pub blocked_inside : (ps : List Point) (befores afters : List ℕ) (q : Corner) 
 unfolding is_blocked_by
 blocked_inside ps befores afters q z p h = or_left _ _ h
 
-blocked_across : (ps : List Point) (befores afters : List ℕ) (q : Corner) (z : ℕ) (p : Point) → joins_ends ps befores afters q z p ≡ true → is_blocked_by ps befores afters q z p ≡ true
+pub blocked_across : (ps : List Point) (befores afters : List ℕ) (q : Corner) (z : ℕ) (p : Point) → joins_ends ps befores afters q z p ≡ true → is_blocked_by ps befores afters q z p ≡ true
 unfolding is_blocked_by
 blocked_across ps befores afters q z p h = or_right _ _ h
 
-leads : (ps : List Point) (c : Point) (w y : ℕ) (p : Point) → y < length ps → (y ≡ w → ⊥) → point_at ps y ≡ p → same c p ≡ true → leads_on ps c w y ≡ true
+pub leads : (ps : List Point) (c : Point) (w y : ℕ) (p : Point) → y < length ps → (y ≡ w → ⊥) → point_at ps y ≡ p → same c p ≡ true → leads_on ps c w y ≡ true
 unfolding leads_on
 leads ps c w y p l n e s = and_from _ _ (lt-ltb y (length ps) l) (and_from _ _ (other y w n) (subst (λ (r : Point). same c r ≡ true) (sym e) s))
 
-joined_before : (ps : List Point) (befores afters : List ℕ) (a c : Point) (w z y : ℕ) (p : Point) → same a p ≡ true → (z ≡ w → ⊥) → slice_index_or befores z w ≡ y → leads_on ps c w y ≡ true → is_joined_at ps befores afters a c w z p ≡ true
+pub joined_before : (ps : List Point) (befores afters : List ℕ) (a c : Point) (w z y : ℕ) (p : Point) → same a p ≡ true → (z ≡ w → ⊥) → slice_index_or befores z w ≡ y → leads_on ps c w y ≡ true → is_joined_at ps befores afters a c w z p ≡ true
 unfolding is_joined_at
 joined_before ps befores afters a c w z y p s n e l = and_from _ _ s (and_from _ _ (other z w n) (or_left _ _ (subst (λ (k : ℕ). leads_on ps c w k ≡ true) (sym e) l)))
 
-joined_after : (ps : List Point) (befores afters : List ℕ) (a c : Point) (w z y : ℕ) (p : Point) → same a p ≡ true → (z ≡ w → ⊥) → slice_index_or afters z w ≡ y → leads_on ps c w y ≡ true → is_joined_at ps befores afters a c w z p ≡ true
+pub joined_after : (ps : List Point) (befores afters : List ℕ) (a c : Point) (w z y : ℕ) (p : Point) → same a p ≡ true → (z ≡ w → ⊥) → slice_index_or afters z w ≡ y → leads_on ps c w y ≡ true → is_joined_at ps befores afters a c w z p ≡ true
 unfolding is_joined_at
 joined_after ps befores afters a c w z y p s n e l = and_from _ _ s (and_from _ _ (other z w n) (or_right _ _ (subst (λ (k : ℕ). leads_on ps c w k ≡ true) (sym e) l)))
 
-ends : (ps : List Point) (befores afters : List ℕ) (q : Corner) (z : ℕ) (p : Point) → same q.before q.after ≡ false → is_joined_at ps befores afters q.before q.after q.place z p ≡ true → joins_ends ps befores afters q z p ≡ true
+pub ends : (ps : List Point) (befores afters : List ℕ) (q : Corner) (z : ℕ) (p : Point) → same q.before q.after ≡ false → is_joined_at ps befores afters q.before q.after q.place z p ≡ true → joins_ends ps befores afters q z p ≡ true
 unfolding joins_ends
 ends ps befores afters q z p d h = and_from _ _ (not_from_false _ d) h
 

@@ -17,7 +17,7 @@ at_first ps befores afters a c w z p h = (and_parts _ _ h).0
 pub joined_reach : (e : Extent) (ps : List Point) (befores afters : List ℕ) (a c : Point) (w : ℕ) → HoldsPoint e a → Reaches e (is_joined_at ps befores afters a c w)
 joined_reach e ps befores afters a c w h = record { holds = λ z p j. subst (λ (q : Point). HoldsPoint e q) (same_is a p (at_first ps befores afters a c w z p j)) h }
 
-blocked_cases : (ps : List Point) (befores afters : List ℕ) (c : Corner) (z : ℕ) (p : Point) → is_blocked_by ps befores afters c z p ≡ true → (is_held_by c z p ≡ true) ⊎ (joins_ends ps befores afters c z p ≡ true)
+pub blocked_cases : (ps : List Point) (befores afters : List ℕ) (c : Corner) (z : ℕ) (p : Point) → is_blocked_by ps befores afters c z p ≡ true → (is_held_by c z p ≡ true) ⊎ (joins_ends ps befores afters c z p ≡ true)
 unfolding is_blocked_by
 blocked_cases ps befores afters c z p h = or_cases _ _ h
 

@@ -13,6 +13,7 @@ pub mod Next
 pub mod NotFree
 pub mod Numbers
 pub mod Orders
+pub mod OtherSide
 pub mod Placed
 pub mod Queries
 pub mod Queued

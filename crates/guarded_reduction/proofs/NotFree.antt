@@ -24,7 +24,7 @@ equal a b h = grind (arith, nat_tests)
 distinct : (a b : ℕ) → not (a == b) ≡ true → a ≡ b → ⊥
 distinct a b h e = grind (arith, nat_tests)
 
-held : (q : Corner) (z : ℕ) (p : Point) → is_held_by q z p ≡ true → (z ≡ q.place → ⊥) × (is_clear q.before q.at q.after p ≡ false)
+pub held : (q : Corner) (z : ℕ) (p : Point) → is_held_by q z p ≡ true → (z ≡ q.place → ⊥) × (is_clear q.before q.at q.after p ≡ false)
 unfolding is_held_by
 held q z p h = (distinct z q.place (and_parts _ _ h).0, not-true _ (and_parts _ _ h).1)
 
@@ -32,18 +32,18 @@ blocked : (ps : List Point) (befores afters : List ℕ) (q : Corner) (z : ℕ) (
 unfolding is_blocked_by
 blocked ps befores afters q z p h = or_cases _ _ h
 
-joined : (ps : List Point) (befores afters : List ℕ) (q : Corner) (z : ℕ) (p : Point) → joins_ends ps befores afters q z p ≡ true → (same q.before q.after ≡ false) × (is_joined_at ps befores afters q.before q.after q.place z p ≡ true)
+pub joined : (ps : List Point) (befores afters : List ℕ) (q : Corner) (z : ℕ) (p : Point) → joins_ends ps befores afters q z p ≡ true → (same q.before q.after ≡ false) × (is_joined_at ps befores afters q.before q.after q.place z p ≡ true)
 unfolding joins_ends
 joined ps befores afters q z p h = (not-true _ (and_parts _ _ h).0, (and_parts _ _ h).1)
 
-joined_parts : (ps : List Point) (befores afters : List ℕ) (a c : Point) (w z : ℕ) (p : Point) → is_joined_at ps befores afters a c w z p ≡ true →
+pub joined_parts : (ps : List Point) (befores afters : List ℕ) (a c : Point) (w z : ℕ) (p : Point) → is_joined_at ps befores afters a c w z p ≡ true →
     (same a p ≡ true) × (z ≡ w → ⊥) × ((leads_on ps c w (slice_index_or befores z w) ≡ true) ⊎ (leads_on ps c w (slice_index_or afters z w) ≡ true))
 unfolding is_joined_at
 joined_parts ps befores afters a c w z p h =
     let r : (not (z == w) && (leads_on ps c w (slice_index_or befores z w) || leads_on ps c w (slice_index_or afters z w))) ≡ true = (and_parts _ _ h).1 in
     ((and_parts _ _ h).0, distinct z w (and_parts _ _ r).0, or_cases _ _ (and_parts _ _ r).1)
 
-leads_parts : (ps : List Point) (c : Point) (w y : ℕ) → leads_on ps c w y ≡ true → (y ≡ w → ⊥) × (same c (point_at ps y) ≡ true)
+pub leads_parts : (ps : List Point) (c : Point) (w y : ℕ) → leads_on ps c w y ≡ true → (y ≡ w → ⊥) × (same c (point_at ps y) ≡ true)
 unfolding leads_on
 leads_parts ps c w y h =
     let r : (not (y == w) && same c (point_at ps y)) ≡ true = (and_parts _ _ h).1 in

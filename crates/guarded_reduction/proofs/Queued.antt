@@ -354,3 +354,7 @@ one_fixed old s g z f corner e = record {
     on v h (inl k) = inr (subst (λ y. IsCorner old y × (keeps_all old y g ≡ false)) (sym k)
         (was_corner (subst (λ (x : Linked). IsCorner x z) f.same corner), sym (keeps_same old s.fixed z g) ∙ ap (λ (x : Linked). keeps_all x z g) (sym f.same) ∙ e))
     on v h (inr n) = f.fixed v (sym (fixed_elsewhere s z v n) ∙ h)
+
+-- places that stay for good change no neighbours
+pub chained_fixed : (old s : Linked) (g : Counted) → IsFixing old g s → IsChained old → IsChained s
+chained_fixed old s g f k = subst IsChained (sym f.same) (record { before = k.before; after = k.after })

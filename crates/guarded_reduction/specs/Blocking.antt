@@ -22,3 +22,7 @@ joins_ends ps befores afters c z p = not (same c.before c.after) && is_joined_at
 -- the place z, at the position p, is in the corner's triangle, or joins the positions before and after it
 unfoldable pub is_blocked_by : List Point → List ℕ → List ℕ → Corner → ℕ → Point → Bool
 is_blocked_by ps befores afters c z p = is_held_by c z p || joins_ends ps befores afters c z p
+
+-- the corner as it is seen from its other side
+abbrev pub turned_corner : Corner → Corner
+turned_corner c = record { before = c.after; at = c.at; after = c.before; place = c.place }

@@ -2,7 +2,7 @@
 ghost use Rattle.std.specs.Prelude.{◌≡◌, slice_index_or};
 ghost use Rattle.guarded_reduction.specs.Blocking.{is_blocked_by, is_joined_at, joins_ends, leads_on};
 
-use crate::extent::{Extent, around};
+use crate::extent::{Extent, around, is_point};
 use crate::query::{Corner, Query, is_held_by, reach_of};
 use crate::searching::position_of;
 use crate::sides::is_aside;
@@ -106,6 +106,7 @@ impl Query for Blocked<'_> {
     }
 
     fn may_meet(&self, e: &Extent) -> bool {
-        !is_aside(e, self.corner.before, self.corner.at, self.corner.after)
+        !is_point(e, self.corner.after)
+            && !is_aside(e, self.corner.before, self.corner.at, self.corner.after)
     }
 }

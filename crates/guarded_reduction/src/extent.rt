@@ -60,6 +60,13 @@ pub fn around(p: Position) -> Extent
     }
 }
 
+/// The box holds this position alone, if the answer is yes.
+pub fn is_point(e: &Extent, p: Position) -> bool
+    ensures { result ≡ true → (q : Point) → HoldsPoint e.now q → q ≡ p }
+{
+    e.low_x == p.x() && (e.high_x == p.x() && (e.low_y == p.y() && e.high_y == p.y()))
+}
+
 /// The lesser of two numbers.
 fn lesser(x: i64, y: i64) -> i64
     ensures first { result ≤ℤ x }

@@ -71,6 +71,14 @@ impl PositionIndex {
         self.tree.remove(place);
     }
 
+    /// There seem to be more places at the position of one than at that of another, with those that are gone. Nothing rests on it but speed.
+    pub fn is_more_crowded(&self, place: usize, other: usize) -> bool
+        requires place { place < length self.now.positions }
+        requires other { other < length self.now.positions }
+    {
+        self.tree.is_more_crowded(place, other)
+    }
+
     /// A place that is left and meets the test of the query.
     pub fn find<Q: Query>(&self, query: &Q) -> Option<usize>
         ensures some { IfSome result (λ z. Meets self.now.positions self.now.left (Q.test query.now) z) }

@@ -5,16 +5,18 @@
 //! keeps it, and is looked at again when that place goes; one with which a ring would become too short never goes, so its place stays for good.
 //! What keeps a corner is found by `PositionIndex`, over positions of which more and more go: it finds one that is left and meets a query, above
 //! all a `Blocked`, that is in a corner's triangle or begins a segment between the ends of its base. It sorts once, and goes up one path of a tree
-//! of boxes for each place that goes. `free_law` and `blocked_law` tie it to the guard. Rings are asked by how often their arcs move on from a
-//! position to another (`src/kept_rings.rt`). Each look is a search of the index and a step of the heap; how many there are, and how many boxes
-//! each goes through, is not promised. No code calls `meets_badly`.
+//! of boxes for each place that goes. `holding` asks it from the side of the corner where fewer places lie. `free_law` and `blocked_law` tie it to
+//! the guard. Rings are asked by how often their arcs move on from a position to another (`src/kept_rings.rt`). Each look is a search of the index
+//! and a step of the heap; how many there are, and how many boxes each goes through, is not promised. No code here calls `meets_badly`.
 #![tactic(auto)]
 
 mod blocking;
 mod box_tree;
+mod crowds;
 mod entry;
 mod extent;
 mod flattening;
+mod holding;
 mod index;
 mod kept_rings;
 mod laws;
@@ -36,12 +38,14 @@ mod waiting_lists;
 mod weighing;
 
 pub use blocking::{Blocked, Joined, Links};
-pub use extent::Extent;
+pub use extent::{Extent, around, empty_extent, joined, meets};
 pub use index::PositionIndex;
 pub use laws::{blocked_law, free_law};
 pub use meeting::{is_end, is_on, meets_badly, same_ends, touches};
+pub use ordering::{Scale, extent_with, scale_over};
 pub use query::{Corner, Query};
 pub use reducing::reduce_guarded;
+pub use sides::is_beyond;
 pub use triangle::{in_triangle, is_clear};
 pub use turns::{is_flat, is_left, is_right};
 pub use weighing::weights_guarded;

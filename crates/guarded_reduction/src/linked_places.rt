@@ -12,7 +12,7 @@ ghost use Rattle.guarded_reduction.specs.Moves.{lost_at};
 use crate::blocking::{Blocked, Links};
 use crate::entry::Entry;
 use crate::flattening::{afters_of, all_positions, befores_of};
-use crate::query::Corner;
+use crate::query::{Corner, Query};
 use crate::ring_moves::step;
 use crate::searching::position_of;
 use crate::shown_places::ShownPlaces;
@@ -218,6 +218,41 @@ impl LinkedPlaces {
             links: &links,
         };
         self.places.find(&blocked)
+    }
+
+    /// Crossings are to be avoided.
+    pub fn avoids_crossings(&self) -> bool
+        ensures { result ≡ self.now.no_crossings }
+    {
+        self.places.is_indexed()
+    }
+
+    /// There seem to be more places at the position of one than at that of another.
+    pub fn is_more_crowded(&self, place: usize, other: usize) -> bool
+        requires place { place < length self.now.positions }
+        requires other { other < length self.now.positions }
+    {
+        self.places.is_more_crowded(place, other)
+    }
+
+    /// The place is left and blocks a corner.
+    pub fn is_holder(&self, corner: &Corner, place: usize) -> bool
+        ensures yes { result ≡ true → Meets self.now.positions self.now.left (is_blocked_by self.now.positions self.now.befores self.now.afters corner.now) place }
+        ensures no { result ≡ false → Meets self.now.positions self.now.left (is_blocked_by self.now.positions self.now.befores self.now.afters corner.now) place → ⊥ }
+    {
+        if place >= self.len() {
+            return false;
+        }
+        let links = Links {
+            positions: self.places.positions(),
+            befores: self.befores.as_slice(),
+            afters: self.afters.as_slice(),
+        };
+        let blocked = Blocked {
+            corner: *corner,
+            links: &links,
+        };
+        self.is_left(place) && blocked.is_met_by(place, self.position(place))
     }
 
     /// How many moves fewer an arc makes when the corner at a place goes.

@@ -4,11 +4,13 @@ ghost use Rattle.std.specs.Option.{IfNone, IfSome};
 ghost use Rattle.std.specs.BinaryHeap.{heap_items, heap_len, IsHeap};
 ghost use Rattle.guarded_reduction.specs.Indexes.{Meets};
 ghost use Rattle.guarded_reduction.specs.Entries.{turned_cmp};
+ghost use Rattle.guarded_reduction.specs.Linking.{IsChained};
 ghost use Rattle.guarded_reduction.specs.Moves.{counted_without, keeps_all};
 ghost use Rattle.guarded_reduction.specs.States.{IsFixing, IsHeld, IsNext, IsQueued, NoneNext, blocks};
 ghost use Rattle.guarded_reduction.specs.Waiting.{KeepsWaits};
 
 use crate::entry::Entry;
+use crate::holding::holder_of;
 use crate::kept_rings::KeptRings;
 use crate::linked_places::LinkedPlaces;
 use crate::query::Query;
@@ -50,12 +52,14 @@ pub fn next_corner(
 ) -> Result<Option<Entry>, Memory>
     requires order { IsHeap turned_cmp (heap_items heap.old) }
     requires queued { IsQueued threshold places.now (heap_items heap.old) waiting.old }
+    requires chained { IsChained places.now }
     ensures order { OnOk result (IsHeap turned_cmp (heap_items heap.new)) }
     ensures next { IfOk result (λ found. IfSome found (λ e. IsNext threshold places.now (heap_items heap.new) waiting.new e)) }
     ensures none { IfOk result (λ found. IfNone found (NoneNext threshold places.now waiting.new)) }
     ensures fewer { IfOk result (λ found. IfSome found (λ _. heap_len heap.new < heap_len heap.old)) }
 {
     let mut held = places.len();
+    let mut last = held;
     'entries: while let Some(Reverse(entry)) = heap.pop() {
         // (equal entries come off the heap one after another)
         if entry.place == held {
@@ -64,11 +68,12 @@ pub fn next_corner(
         if !places.is_current(&entry) {
             continue;
         }
-        let Some(holder) = places.holder(places.corner(entry.place)) else {
+        let Some(holder) = holder_of(places, entry.place, last) else {
             return Ok(Some(entry));
         };
         wait_on(waiting, places, entry.place, holder)?;
         held = entry.place;
+        last = holder;
     }
     Ok(None)
 }
@@ -83,6 +88,7 @@ pub fn next_going(
 ) -> Result<Option<Entry>, Memory>
     requires order { IsHeap turned_cmp (heap_items heap.old) }
     requires queued { IsQueued threshold places.old (heap_items heap.old) waiting.old }
+    requires chained { IsChained places.old }
     requires owners { (length rings.old.rings ≡ 0) ⊎ (length rings.old.owners ≡ length places.old.positions) }
     ensures order { OnOk result (IsHeap turned_cmp (heap_items heap.new)) }
     ensures fixing { OnOk result (IsFixing places.old rings.old places.new) }

@@ -4,6 +4,7 @@ ghost use Rattle.std.specs.List.{range_with_len};
 ghost use Rattle.std.specs.List.Sorted.{IsPermutation};
 ghost use Rattle.guarded_reduction.specs.Orders.{AreRanks, place_of};
 
+use crate::extent::{Extent, around, empty_extent, joined};
 use geometry::Position;
 use owned_values::Memory;
 use std::alloc::Global;
@@ -31,48 +32,51 @@ fn steps_over(x: i64, least: i64, step: u64) -> u64 {
 
 /// The least of the numbers and the length of 2^32 steps over their range.
 #[derive(Drop)]
-struct Scale {
+pub struct Scale {
     least_x: i64,
     least_y: i64,
     step: u64,
 }
 
-fn scale_of(positions: &[Position]) -> Scale {
-    let mut least_x = i64::MAX;
-    let mut least_y = i64::MAX;
-    let mut most_x = i64::MIN;
-    let mut most_y = i64::MIN;
-    for p in positions {
-        least_x = least_x.min(p.x());
-        least_y = least_y.min(p.y());
-        most_x = most_x.max(p.x());
-        most_y = most_y.max(p.y());
-    }
-    let across = most_x.abs_diff(least_x);
-    let up = most_y.abs_diff(least_y);
+/// The scale of a curve that fills a box.
+pub fn scale_over(e: &Extent) -> Scale {
+    let across = e.high_x.abs_diff(e.low_x);
+    let up = e.high_y.abs_diff(e.low_y);
     let step = across.max(up) / 0xffff_ffff + 1;
     Scale {
-        least_x,
-        least_y,
+        least_x: e.low_x,
+        least_y: e.low_y,
         step,
     }
 }
 
-fn along(scale: &Scale, p: Position) -> u64 {
-    let x = steps_over(p.x(), scale.least_x, scale.step);
-    let y = steps_over(p.y(), scale.least_y, scale.step);
-    spread(x) ^ (spread(y) << 1)
+/// The box round positions and another box.
+pub fn extent_with(extent: Extent, positions: &[Position]) -> Extent {
+    let mut all = extent;
+    for p in positions {
+        all = joined(all, around(*p));
+    }
+    all
+}
+
+impl Scale {
+    /// How far along the curve a position lies.
+    pub fn along(&self, x: i64, y: i64) -> u64 {
+        let across = steps_over(x, self.least_x, self.step);
+        let up = steps_over(y, self.least_y, self.step);
+        spread(across) ^ (spread(up) << 1)
+    }
 }
 
 /// The places, each with where it lies.
 fn keys_of(alloc: Global, positions: &[Position]) -> Result<Vec<Key>, Memory>
     ensures { IfOk result (λ v. map place_of v.items ≡ range_with_len 0 (length positions.now)) }
 {
-    let scale = scale_of(positions);
+    let scale = scale_over(&extent_with(empty_extent(), positions));
     let mut keys = Vec::with_capacity(alloc, positions.len())?;
     for (place, p) in positions.iter().enumerate() {
         keys.push(Key {
-            along: along(&scale, *p),
+            along: scale.along(p.x(), p.y()),
             place,
         })?;
     }

@@ -74,6 +74,27 @@ impl ShownPlaces {
         }
     }
 
+    /// There is an index.
+    pub fn is_indexed(&self) -> bool
+        ensures { result ≡ self.now.indexed }
+    {
+        match &self.places {
+            Places::Listed { .. } => false,
+            Places::Indexed(_) => true,
+        }
+    }
+
+    /// There seem to be more places at the position of one than at that of another, as far as an index shows it. Nothing rests on it but speed.
+    pub fn is_more_crowded(&self, place: usize, other: usize) -> bool
+        requires place { place < length self.now.positions }
+        requires other { other < length self.now.positions }
+    {
+        match &self.places {
+            Places::Listed { .. } => false,
+            Places::Indexed(index) => index.is_more_crowded(place, other),
+        }
+    }
+
     /// The place goes.
     pub fn remove(&mut self, place: usize)
         requires { place < length self.old.positions }

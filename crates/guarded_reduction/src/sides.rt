@@ -68,7 +68,7 @@ fn leftmost(e: &Extent, from: Position, to: Position) -> Position
 }
 
 /// Each position of a box is to the right, seen along the way from one position to another, if the answer is yes.
-fn is_beyond(e: &Extent, from: Position, to: Position) -> bool
+pub fn is_beyond(e: &Extent, from: Position, to: Position) -> bool
     ensures beyond { result ≡ true → (q : Point) → IsPosition q → HoldsPoint e.now q → spec.cross from to q <ℤ pos 0 }
     ensures from { IsPosition from }
     ensures to { IsPosition to }

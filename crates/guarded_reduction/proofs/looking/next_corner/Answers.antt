@@ -1,8 +1,5 @@
-use Rattle.std.proofs.Common.{arith, inr, subst}
+use Rattle.std.proofs.Common.{arith, inr}
 use Rattle.std.specs.BinaryHeap.{heap_items}
-use Rattle.guarded_reduction.specs.declared.query.Corner.{Corner}
-use Rattle.guarded_reduction.specs.Blocking.{is_blocked_by}
-use Rattle.guarded_reduction.specs.Indexes.{NoneMeets}
 use Rattle.guarded_reduction.proofs.Queued.{come_to_wait, comes_next, drop_held, drop_stale}
 use Rattle.guarded_reduction.proofs.looking.next_corner.Goals as goal
 
@@ -14,12 +11,12 @@ entries-preserved-then-not-is_current c = record {
   fewer = omega (arith, c.in-Some.ensures.len, c.entries.invariant.fewer);
 }
 
-pub returns-in_default-holder-clause-next : goal.returns-in_default-holder-clause-next
-returns-in_default-holder-clause-next c =
+pub returns-in_default-holder_of-clause-next : goal.returns-in_default-holder_of-clause-next
+returns-in_default-holder_of-clause-next c =
     let s = c.args.places.now in
     comes_next c.args.threshold s (heap_items c.entries.heap) (heap_items c.pop.new.self) c.entries.waiting c.in-Some.field-0.0 c.entries.invariant.queued c.in-Some.ensures.permutation (c.in-Some.ensures.heap_order c.entries.invariant.order).1
     (c.is_current.ensures.current c.if-not-is_current.false)
-    (λ f. subst (λ (q : Corner). NoneMeets s.positions s.left (is_blocked_by s.positions s.befores s.afters q)) c.corner.ensures (c.in_default-holder.ensures.none f))
+    c.in_default-holder_of.ensures.none
 
 pub entries-preserved : goal.entries-preserved
 entries-preserved c = record {

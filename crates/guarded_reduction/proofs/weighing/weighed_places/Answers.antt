@@ -25,6 +25,9 @@ corners-init c = record {
   weighing = weighing_begins (guarded_by c.args.no_crossings c.args.rings.now) c.args.arcs.now c.args.no_crossings c.in_ok-places.places c.len-n.result c.in_ok-levels.levels.items c.in_ok-places.ensures c.len-n.ensures;
 }
 
+pub next_going-requires-clause-chained : goal.next_going-requires-clause-chained
+next_going-requires-clause-chained c = chained c.args.arcs.now c.corners.places c.corners.invariant.showing
+
 pub next_going-requires-clause-owners : goal.next_going-requires-clause-owners
 next_going-requires-clause-owners c = owners_at c.args.arcs.now c.args.rings.now c.corners.places c.corners.kept c.corners.invariant.showing c.corners.invariant.keeping
 

@@ -1,0 +1,65 @@
+// What keeps the corner at a place from going.
+ghost use Rattle.std.specs.Prelude.{◌≡◌, ◌<◌, length, true};
+ghost use Rattle.std.specs.Option.{IfNone, IfSome};
+ghost use Rattle.guarded_reduction.specs.Blocking.{is_blocked_by, turned_corner};
+ghost use Rattle.guarded_reduction.specs.Indexes.{Meets, NoneMeets};
+ghost use Rattle.guarded_reduction.specs.Linking.{IsChained};
+ghost use Rattle.guarded_reduction.specs.States.{blocks};
+
+use crate::linked_places::LinkedPlaces;
+use crate::query::Corner;
+
+/// The corner as it is seen from its other side.
+fn turned(corner: &Corner) -> Corner
+    ensures { result ≡ turned_corner corner.now }
+{
+    Corner {
+        before: corner.after,
+        at: corner.at,
+        after: corner.before,
+        place: corner.place,
+    }
+}
+
+/// The place blocks the corner, or the one before it does, or the one after it, where it blocks the corner from the other side.
+fn from_other_side(places: &LinkedPlaces, corner: &Corner, holder: usize) -> usize
+    requires chained { IsChained places.now }
+    requires holder { Meets places.now.positions places.now.left (is_blocked_by places.now.positions places.now.befores places.now.afters (turned_corner corner.now)) holder }
+    ensures { Meets places.now.positions places.now.left (is_blocked_by places.now.positions places.now.befores places.now.afters corner.now) result }
+{
+    places.law();
+    if places.is_holder(corner, holder) {
+        return holder;
+    }
+    let before = places.before(holder);
+    if places.is_holder(corner, before) {
+        return before;
+    }
+    places.after(holder)
+}
+
+/// A place that is left and blocks the corner at a place, where crossings are to be avoided. The one that was found last is tried first, since one
+/// place often blocks many corners. A segment between the corner's ends is looked for from the end where fewer places lie.
+pub fn holder_of(places: &LinkedPlaces, place: usize, last: usize) -> Option<usize>
+    requires place { place < length places.now.positions }
+    requires chained { IsChained places.now }
+    ensures asked { IfSome result (λ _. places.now.no_crossings ≡ true) }
+    ensures some { IfSome result (λ z. Meets places.now.positions places.now.left (blocks places.now place) z) }
+    ensures none { IfNone result (places.now.no_crossings ≡ true → NoneMeets places.now.positions places.now.left (blocks places.now place)) }
+{
+    if !places.avoids_crossings() {
+        return None;
+    }
+    places.law();
+    let corner = places.corner(place);
+    if places.is_holder(&corner, last) {
+        return Some(last);
+    }
+    if !places.is_more_crowded(places.before(place), places.after(place)) {
+        return places.holder(places.corner(place));
+    }
+    match places.holder(turned(&corner)) {
+        Some(holder) => Some(from_other_side(places, &corner, holder)),
+        None => None,
+    }
+}

@@ -7,7 +7,8 @@
 //! all a `Blocked`, that is in a corner's triangle or begins a segment between the ends of its base. It sorts once, and goes up one path of a tree
 //! of boxes for each place that goes. `holding` asks it from the side of the corner where fewer places lie. `free_law` and `blocked_law` tie it to
 //! the guard. Rings are asked by how often their arcs move on from a position to another (`src/kept_rings.rt`). Each look is a search of the index
-//! and a step of the heap; how many there are, and how many boxes each goes through, is not promised. No code here calls `meets_badly`.
+//! and a step of the heap; how many there are, and how many boxes each goes through, is not promised. `crossing_count` counts by `meets_badly`, and
+//! by the boxes and the curve.
 #![tactic(auto)]
 
 mod blocking;

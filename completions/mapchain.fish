@@ -18,6 +18,7 @@ complete -c mapchain -n '__fish_seen_subcommand_from build' -l grid -x -d 'Snap 
 complete -c mapchain -n '__fish_seen_subcommand_from build' -l min-area -x -d 'Remove points whose triangle has less than the area A'
 complete -c mapchain -n '__fish_seen_subcommand_from build' -l keep -x -d 'Remove points, but keep at least the share P/Q of them'
 complete -c mapchain -n '__fish_seen_subcommand_from build' -l min-ring-area -x -d 'Leave out rings that enclose less than the area B'
+complete -c mapchain -n '__fish_seen_subcommand_from build' -l no-crossings -d 'Remove no point where lines would then cross'
 complete -c mapchain -n '__fish_seen_subcommand_from build' -l exact -d 'Refuse coordinates that would have to be rounded'
 complete -c mapchain -n '__fish_seen_subcommand_from build' -s o -l output -r -F -d 'Write the output to a file in place of standard output'
 complete -c mapchain -n '__fish_seen_subcommand_from build' -l report -r -F -d 'Write a report of the run to a file, as a JSON object'
@@ -25,6 +26,7 @@ complete -c mapchain -n '__fish_seen_subcommand_from build' -l explain -d 'Expla
 complete -c mapchain -n '__fish_seen_subcommand_from build' -s q -l quiet -d 'Leave out the report, where all is done'
 complete -c mapchain -n '__fish_seen_subcommand_from build' -a '(__mapchain_layers)' -d Layer
 complete -c mapchain -n '__fish_seen_subcommand_from simplify' -l min-area -x -d 'Remove points whose triangle has less than the area A'
+complete -c mapchain -n '__fish_seen_subcommand_from simplify' -l keep -x -d 'Remove points, but keep at least the share P/Q of them'
 complete -c mapchain -n '__fish_seen_subcommand_from simplify' -l min-ring-area -x -d 'Leave out rings that enclose less than the area B'
 complete -c mapchain -n '__fish_seen_subcommand_from simplify' -l no-crossings -d 'Remove no point where lines would then cross'
 complete -c mapchain -n '__fish_seen_subcommand_from simplify' -s o -l output -r -F -d 'Write the output to a file in place of standard output'
@@ -35,6 +37,7 @@ complete -c mapchain -n '__fish_seen_subcommand_from geo' -l object -x -d 'The n
 complete -c mapchain -n '__fish_seen_subcommand_from geo' -s o -l output -r -F -d 'Write the output to a file in place of standard output'
 complete -c mapchain -n '__fish_seen_subcommand_from geo' -l report -r -F -d 'Write a report of the run to a file, as a JSON object'
 complete -c mapchain -n '__fish_seen_subcommand_from geo' -l explain -d 'Explain in words what is wrong, or what was left out'
+complete -c mapchain -n '__fish_seen_subcommand_from stat' -l crossings -d 'Count the pairs of segments of arcs that cross'
 complete -c mapchain -n '__fish_seen_subcommand_from stat' -s o -l output -r -F -d 'Write the output to a file in place of standard output'
 complete -c mapchain -n '__fish_seen_subcommand_from stat' -l report -r -F -d 'Write a report of the run to a file, as a JSON object'
 complete -c mapchain -n '__fish_seen_subcommand_from stat' -l explain -d 'Explain in words what is wrong, or what was left out'

@@ -1,12 +1,14 @@
 #!/usr/bin/env python3
-"""Holds `simplify --no-crossings` to its definition, on random small topologies:
+"""Holds `simplify --no-crossings` and `stat --crossings` to their definitions, on random small topologies, and `build --no-crossings` to the first:
 
     scripts/crossings.py N [--program path/to/mapchain] [--seed N]
 
 N topologies are made, of few arcs between few places, so that lines cross, touch, lie on one another and go back, and so that corners wait for
 others. Each is simplified by the program, and here by the definition itself: of all corners under the threshold that may go the least goes, again
-and again, and each is looked at anew each time. It ends with status 1 where the arcs differ, or where more pairs of segments
-meet badly than before. The last line says how many were tried, and how often the option made a difference.
+and again, and each is looked at anew each time. And the pairs of its segments that meet badly are counted by both. Its lines are also built as a
+layer, without a grid or on one: what that writes is to be what `simplify --no-crossings` makes of the layer that is built in full. It ends with
+status 1 where the arcs, the counts or the texts differ, or where more pairs meet badly than before. The last line says how many were tried, and how
+often the option made a difference.
 """
 import argparse
 import json
@@ -117,6 +119,31 @@ def simplified(program, room, arcs, area, options):
     return [None if k is None else [tuple(p) for p in topology["arcs"][k]] for k in lines]
 
 
+def layer_of(arcs):
+    lines = [{"type": "Feature", "properties": None, "geometry": {"type": "LineString", "coordinates": arc}} for arc in arcs]
+    return json.dumps({"type": "FeatureCollection", "features": lines})
+
+
+def as_built(program, room, arcs, area, options):
+    """Whether building a layer of these lines without crossings writes what simplifying the full topology does."""
+    layer, full = os.path.join(room, "layer.json"), os.path.join(room, "full.topojson")
+    with open(layer, "w", encoding="utf-8") as file:
+        file.write(layer_of(arcs))
+    subprocess.run([program, "build", "-q", *options, "-o", full, f"a={layer}"], check=True)
+    asked = ["-q", "--no-crossings", "--min-area", str(area)]
+    built = subprocess.run([program, "build", *options, *asked, f"a={layer}"], capture_output=True, check=True)
+    less = subprocess.run([program, "simplify", *asked, full], capture_output=True, check=True)
+    return built.stdout == less.stdout
+
+
+def counted(program, room):
+    """How many pairs of segments of the topology that was simplified last meet badly, by the program."""
+    ran = subprocess.run([program, "stat", "--crossings", os.path.join(room, "map.topojson")], capture_output=True, check=True, text=True)
+    name, count = ran.stdout.splitlines()[-1].split()
+    assert name == "crossings"
+    return int(count)
+
+
 def is_small(arc):
     """Whether a line is left with one position, with equal neighbours as one."""
     return all(p == arc[0] for p in arc)
@@ -140,10 +167,17 @@ def main():
             if [None if is_small(arc) else arc for arc in wanted] != got:
                 wrong += 1
                 print(f"topology {number} at {area}: {text_of(arcs)}\n  wanted {wanted}\n  got    {got}")
+            if counted(program, room) != crossings(arcs):
+                wrong += 1
+                print(f"topology {number} has {crossings(arcs)} crossings, and {counted(program, room)} are counted: {text_of(arcs)}")
             left = [arc for arc in got if arc]
             if crossings(left) > crossings(arcs):
                 wrong += 1
                 print(f"topology {number} at {area} has more crossings: {text_of(arcs)}")
+            options = source.choice(([], ["--grid", "4"], ["--grid", "7"]))
+            if not as_built(program, room, arcs, area, options):
+                wrong += 1
+                print(f"layer {number} at {area}, {options}, isn't built as it is simplified: {layer_of(arcs)}")
             plain = simplified(program, room, arcs, area, [])
             differing += plain != got
             held += crossings([arc for arc in plain if arc]) > crossings(arcs)

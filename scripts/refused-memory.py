@@ -112,6 +112,7 @@ def topology(name, geometries, arcs, bbox, transform=""):
 LINE = '{"type":"LineString","coordinates":[[0,0],[1.5,0.25]]}'
 LINE_TOPOLOGY = topology("a", ['{"type":"LineString","arcs":[0]}'], "[[[0,0],[1.5,0.25]]]", "[0,0,1.5,0.25]")
 BEND = '{"type":"LineString","coordinates":[[0,0],[1,1],[2,3],[3,0]]}'
+BEND_TOPOLOGY = topology("b", ['{"type":"LineString","arcs":[0]}'], "[[[0,0],[1,1],[2,3],[3,0]]]", "[0,0,3,3]")
 BENT_TOPOLOGY = topology("b", ['{"type":"LineString","arcs":[0]}'], "[[[0,0],[2,3],[3,0]]]", "[0,0,3,3]")
 SQUARES = layer(
     ("Polygon", "[[[0,0],[1,0],[1,1],[0,1],[0,0]]]"), ("Polygon", "[[[1,0],[2,0],[2,1],[1,1],[1,0]]]")
@@ -158,10 +159,16 @@ ROOFS = ['{"type":"LineString","arcs":[0]}', '{"type":"LineString","arcs":[1]}',
 ROOF_ARCS = "[[[0,0],[2,2],[4,0]],[[2,1],[2,-5]],[[10,0],[11,1],[12,0]]]"
 ROOF_TOPOLOGY = topology("roofs", ROOFS, ROOF_ARCS, "[0,-5,12,2]")
 HELD_TOPOLOGY = topology("roofs", ROOFS, ROOF_ARCS.replace("[11,1],", ""), "[0,-5,12,2]")
+ROOF_LAYER = layer(
+    ("LineString", "[[0,0],[2,2],[4,0]]"),
+    ("LineString", "[[2,1],[2,-5]]"),
+    ("LineString", "[[10,0],[11,1],[12,0]]"),
+)
 FILES = {
     "line.json": LINE,
     "cut.json": LINE[:40],
     "bend.json": BEND,
+    "bend.topojson": BEND_TOPOLOGY,
     "line.topojson": LINE_TOPOLOGY,
     "squares.json": SQUARES,
     "west.json": WEST,
@@ -171,6 +178,7 @@ FILES = {
     "full.topojson": FULL_TOPOLOGY,
     "less.topojson": LAND_TOPOLOGY,
     "roofs.topojson": ROOF_TOPOLOGY,
+    "roofs.json": ROOF_LAYER,
 }
 
 # ---- the runs
@@ -231,16 +239,19 @@ RUNS = (
     Run("build --min-area 1 land=land.json", 0, LAND_TOPOLOGY, report(2, 7, SMALL), BUILD, 35),
     Run("build --min-ring-area 1 land=land.json", 0, LAND_TOPOLOGY, report(2, 7, SMALL), BUILD, 30),
     Run("build --keep 1/2 b=bend.json", 0, BENT_TOPOLOGY, report(1, 3, removed=1) + "chosen 9000000000000000000\n", BUILD, 25),
+    Run("build --no-crossings --min-area=5 roofs=roofs.json", 0, HELD_TOPOLOGY, report(3, 7, removed=1), BUILD, 40),
     Run("build a=line.json b=cut.json", 1, "", "error: layer 1 J2 Malformed\n", BUILD, 5),
     Run("build a=line.json b=line.json a=line.json", 2, "", "error: layer 2 B2 DuplicateName\n", BUILD, 0),
     Run("build --explain a=line.json", 0, LINE_TOPOLOGY, f"{report(1, 2)}  {KEPT_ALL}\n", BUILD, 20),
     Run("build --explain a=cut.json", 1, "", "".join(["error: layer 0 J2 Malformed\n", *(f"  {it}\n" for it in CUT_SHORT)]), BUILD, 1),
     Run("simplify --min-area 1 full.topojson", 0, LAND_TOPOLOGY, report(2, 7, SMALL), FILE, 25),
     Run("simplify --min-ring-area 1 full.topojson", 0, LAND_TOPOLOGY, report(2, 7, SMALL), FILE, 25),
+    Run("simplify --keep 1/2 bend.topojson", 0, BENT_TOPOLOGY, report(1, 3, removed=1) + "chosen 9000000000000000000\n", FILE, 20),
     Run("simplify --no-crossings --min-area=5 roofs.topojson", 0, HELD_TOPOLOGY, report(3, 7, removed=1), FILE, 30),
     Run("geo --object a line.topojson", 0, LINE_LAYER, "", FILE, 6),
     Run("stat less.topojson", 0, SUMMARY, "", FILE, 10),
     Run("stat --explain less.topojson", 0, SUMMARY, "".join(f"  {it}\n" for it in CONTENTS), FILE, 10),
+    Run("stat --crossings less.topojson", 0, SUMMARY + "crossings 0\n", "", FILE, 20),
     Run(f"build -o {OUTPUT} a=line.json", 0, LINE_TOPOLOGY, report(1, 2), BUILD, 20),
     Run(f"simplify --min-area=1 --output={OUTPUT} full.topojson", 0, LAND_TOPOLOGY, report(2, 7, SMALL), FILE, 25),
     Run(f"geo --object=a --output={OUTPUT} line.topojson", 0, LINE_LAYER, "", FILE, 6),

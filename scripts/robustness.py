@@ -332,6 +332,8 @@ FILES = (
     ("spikes over one base", MILLION // 10, lambda n: topology("", ",".join(f"[[0,0],[{n},{i + 1}],[{2 * n},0]]" for i in range(n))), UNCROSSED, 0),
     ("equal positions in a row", MILLION // 10, lambda n: topology("", "[[0,0],%s,[9,0]]" % ",".join(["[5,5]"] * n)), UNCROSSED, 0),
     ("equal roofs", MILLION // 10, lambda n: topology("", ",".join(["[[0,0],[5,5],[10,0]]"] * n)), UNCROSSED, 0),
+    ("lines from one position, counted", MILLION // 10, lambda n: topology("", star(n)), "stat --crossings file", 0),
+    ("equal roofs, counted", MILLION // 10, lambda n: topology("", ",".join(["[[0,0],[5,5],[10,0]]"] * n)), "stat --crossings file", 0),
     ("white space", 50 * MILLION, lambda n: " " * n + '{"type":"FeatureCollection","features":[]}', BUILD, 0),
     ("layers", OPEN_FILES, lambda n: '{"type":"FeatureCollection","features":[]}', "build LAYERS", 0),
     ("opening brackets", 50 * MILLION, lambda n: "[" * n, BUILD, 1),
@@ -558,7 +560,7 @@ PARTS = (
     (try_depths, 80, 80),
     (try_outputs, 31, 31),
     (try_inputs, 14, 14),
-    (try_sizes, 300, 100),
+    (try_sizes, 312, 104),
     (try_chosen, 41, 34),
 )
 

@@ -48,6 +48,10 @@ def area():
     return one_of(["0", "0.5", "0.01", "3", "30", "1e4", "1e6", "1e15", "1e18", "-0", "1.5e0", "0.000000000000000001", "-1", "1e19", "01"])
 
 
+def share():
+    return one_of(["0/1", "1/2", "1/3", "2/3", "9/10", "7/8", "1/1", "00/05", "999999999/1000000000", "3/2", "1/0"])
+
+
 def options():
     """Words of options for `build`."""
     words = []
@@ -56,7 +60,7 @@ def options():
     if rng.random() < 0.5:
         words += ["--min-area", area()]
     elif rng.random() < 0.4:
-        words += ["--keep", one_of(["0/1", "1/2", "1/3", "2/3", "9/10", "7/8", "1/1", "00/05", "999999999/1000000000", "3/2", "1/0"])]
+        words += ["--keep", share()]
     if rng.random() < 0.3:
         words += ["--min-ring-area", area()]
     if rng.random() < 0.1:
@@ -148,7 +152,7 @@ def main():
             compare(program, plain, ["build", *options(), "a=FILE"], paths[:1])
             compare(program, plain, ["build", *options(), "a=FILE", 'b"\n=OTHER'], paths)
             write(paths[0], topology(program, paths))
-            limits = one_of([[], ["--min-area", area()]]) + one_of([[], ["--min-ring-area", area()]])
+            limits = one_of([[], ["--min-area", area()], ["--keep", share()]]) + one_of([[], ["--min-ring-area", area()]])
             for words in (["geo", "--object", one_of("aaab"), "FILE"], ["stat", "FILE"], ["simplify", *limits, "FILE"]):
                 compare(program, plain, words, paths[:1])
     print("the same on", count, "layers, pairs of layers and topologies; runs by command and status:")

@@ -3,7 +3,7 @@
 //!
 //!     rustc --edition 2021 -O -C target-cpu=x86-64-v2 -C panic=abort -o plain scripts/plain/plain.rs
 //!     ./plain build [--grid N] [--min-area A | --keep P/Q] [--min-ring-area B] [--exact] NAME=PATH ..
-//!     ./plain simplify [--min-area A] [--min-ring-area B] FILE
+//!     ./plain simplify [--min-area A | --keep P/Q] [--min-ring-area B] FILE
 //!     ./plain geo --object NAME FILE
 //!     ./plain stat FILE
 //!
@@ -2238,7 +2238,7 @@ fn stat(bytes: &[u8]) -> Answer<Vec<u8>> {
 }
 
 const USAGE: Fault = "usage: plain build [--grid N] [--min-area A | --keep P/Q] [--min-ring-area B] [--exact] NAME=PATH .. | \
-simplify [--min-area A] [--min-ring-area B] FILE | geo --object NAME FILE | stat FILE";
+simplify [--min-area A | --keep P/Q] [--min-ring-area B] FILE | geo --object NAME FILE | stat FILE";
 
 /// Twice an area in square units, of the text of one in square units of the coordinates.
 fn doubled_area(text: &str) -> Answer<u128> {
@@ -2274,7 +2274,7 @@ fn run(words: Vec<String>) -> Answer<(Vec<u8>, Vec<u8>)> {
     let command = words.next().ok_or(USAGE)?;
     let known: &[&str] = match command.as_str() {
         "build" => &["--grid", "--min-area", "--keep", "--min-ring-area", "--exact"],
-        "simplify" => &["--min-area", "--min-ring-area"],
+        "simplify" => &["--min-area", "--keep", "--min-ring-area"],
         "geo" => &["--object"],
         "stat" => &[],
         _ => return Err(USAGE),

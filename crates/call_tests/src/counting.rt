@@ -27,6 +27,9 @@ fn steps_of_building(alloc: Global) -> Option<Steps> {
     let options = Options {
         seed: 0,
         grid: None,
+        guards: Guards {
+            no_crossings: false,
+        },
         level: Level::Fixed(THRESHOLD),
         ring_limit: 0,
         exact: false,
@@ -52,7 +55,7 @@ fn steps_of_simplifying(alloc: Global) -> Option<Steps> {
         Guards {
             no_crossings: false,
         },
-        THRESHOLD,
+        Level::Fixed(THRESHOLD),
         0,
         &mut sink,
     )

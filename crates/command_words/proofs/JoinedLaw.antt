@@ -48,44 +48,46 @@ same_output None words joined_words h = h
 same_output (Some file) words joined_words h = ap (λ ws. value_word (codes "output") file ∷ ws) h
 
 joined_same : (o : Ordered) → joined (written o) ≡ written o
-joined_same (build layers exact grid area keep ring_area, output) =
-    let rest = and_flag (codes "exact") exact (codes "--" ∷ map layer_word layers) in
-    let same = same_exact exact (map layer_word layers) in
+joined_same (build layers exact grid area keep ring_area no_crossings, output) =
+    let last = and_flag (codes "exact") exact (codes "--" ∷ map layer_word layers) in
+    let rest = and_flag (codes "no-crossings") no_crossings last in
+    let same = same_no_crossings no_crossings last (same_exact exact (map layer_word layers)) in
     let rings = ring_area_word ring_area ∷ rest in
     let levels = level_word area keep ∷ rings in
     let below = same_level rings rings (same_ring_area rest rest same ring_area) area keep in
     ap (λ ws. codes "build" ∷ ws) (same_output output (and_value (codes "grid") (option_map decimal grid) levels) (and_value (codes "grid") (option_map decimal grid) levels) (same_grid grid levels levels below))
-joined_same (simplify area ring_area no_crossings path, output) =
+joined_same (simplify area keep ring_area no_crossings path, output) =
     let last = codes "--" ∷ path ∷ [] in
     let rest = and_flag (codes "no-crossings") no_crossings last in
     let same = same_no_crossings no_crossings last (same_rest (path ∷ [])) in
     let rings = ring_area_word ring_area ∷ rest in
-    let levels = level_word area None ∷ rings in
+    let levels = level_word area keep ∷ rings in
     ap (λ ws. codes "simplify" ∷ ws)
-    (same_output output levels levels (same_level rings rings (same_ring_area rest rest same ring_area) area None))
+    (same_output output levels levels (same_level rings rings (same_ring_area rest rest same ring_area) area keep))
 joined_same (geo name path, output) = ap (λ ws. codes "geo" ∷ ws) (same_after (and_value (codes "output") output (value_word (codes "object") name ∷ codes "--" ∷ path ∷ [])))
-joined_same (stat path, output) = ap (λ ws. codes "stat" ∷ ws) (same_after (and_value (codes "output") output (codes "--" ∷ path ∷ [])))
+joined_same (stat crossings path, output) = ap (λ ws. codes "stat" ∷ ws) (same_after (and_value (codes "output") output (and_flag (codes "crossings") crossings (codes "--" ∷ path ∷ []))))
 
 joined_apart : (o : Ordered) → joined (written_apart o) ≡ written o
-joined_apart (build layers exact grid area keep ring_area, output) =
-    let rest = and_flag (codes "exact") exact (codes "--" ∷ map layer_word layers) in
-    let same = same_exact exact (map layer_word layers) in
+joined_apart (build layers exact grid area keep ring_area no_crossings, output) =
+    let last = and_flag (codes "exact") exact (codes "--" ∷ map layer_word layers) in
+    let rest = and_flag (codes "no-crossings") no_crossings last in
+    let same = same_no_crossings no_crossings last (same_exact exact (map layer_word layers)) in
     let rings = ring_area_word ring_area ∷ rest in
     let apart = level_apart area keep (ring_area_apart ring_area rest) in
     let levels = level_word area keep ∷ rings in
     let below = joined_level (ring_area_apart ring_area rest) rings (joined_ring_area rest rest same ring_area) area keep in
     ap (λ ws. codes "build" ∷ ws) (same_output output (and_value (codes "grid") (option_map decimal grid) apart) (and_value (codes "grid") (option_map decimal grid) levels) (same_grid grid apart levels below))
-joined_apart (simplify area ring_area no_crossings path, output) =
+joined_apart (simplify area keep ring_area no_crossings path, output) =
     let last = codes "--" ∷ path ∷ [] in
     let rest = and_flag (codes "no-crossings") no_crossings last in
     let same = same_no_crossings no_crossings last (same_rest (path ∷ [])) in
     let rings = ring_area_word ring_area ∷ rest in
     let apart = ring_area_apart ring_area rest in
     ap (λ ws. codes "simplify" ∷ ws)
-    (same_output output (level_apart area None apart) (level_word area None ∷ rings)
-    (joined_level apart rings (joined_ring_area rest rest same ring_area) area None))
+    (same_output output (level_apart area keep apart) (level_word area keep ∷ rings)
+    (joined_level apart rings (joined_ring_area rest rest same ring_area) area keep))
 joined_apart (geo name path, output) = joined_same (geo name path, output)
-joined_apart (stat path, output) = joined_same (stat path, output)
+joined_apart (stat crossings path, output) = joined_same (stat crossings path, output)
 
 -- the words that are written for a request, in each of the two spellings, ask for it once they are joined
 pub written_are_asked : (o : Ordered) → IsWritable o.0 → (order_of (joined (written o)) ≡ Some o) × (order_of (joined (written_apart o)) ≡ Some o)

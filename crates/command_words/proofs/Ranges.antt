@@ -1,27 +1,28 @@
--- The grid of what words ask for.
+-- The grid and the share of what words ask for.
 use Rattle.std.proofs.Common.{◌≡◌, ◌^◌, ℕ, List, [], ◌∷◌, Bool, true, false, Option, Some, None, arith, refl, subst}
-use Rattle.std.specs.Prelude.{IfSome, codes, option_and_then, option_map, if◌then◌else◌}
+use Rattle.std.specs.Borrow.{Bor}
+use Rattle.std.specs.Prelude.{◌&&◌, ◌||◌, IfSome, codes, is_some, option_and_then, option_map, if◌then◌else◌}
 use Rattle.std.specs.Str.{bytes_eq}
 use Rattle.std.specs.Str.Parse.{digits_value, without_leading_plus}
 use Rattle.clap.specs.Kinds.{Kinds}
 use Rattle.clap.specs.ValueTests.{is_unsigned_in}
 use Rattle.clap.specs.Simple.{subcommand_of}
-use Rattle.clap.specs.Walk.{Row, Text, one_of}
+use Rattle.clap.specs.Walk.{Row, Text, first_of, one_of}
 use Rattle.clap.specs.declared.builder.value_parser.ValueParser.TheVariants.{Unsigned}
 use Rattle.clap.proofs.ValueTestLemmas.{accepts-Accepts}
-use Rattle.command_words.specs.Asked.{Asked, Ordered, asked, asked_in, build, build_in, build_on, cells_of, geo, grid_at, grid_in, has_both, kinds_of, layers_in, order_of, ordered, ordered_in, output_in, simplify, simplify_in, stat, text_of, where_none}
+use Rattle.command_words.specs.Asked.{Asked, Ordered, area_in, asked, asked_in, build, build_in, build_on, cells_of, geo, grid_at, grid_in, has_both, keep_in, kinds_of, layers_in, no_crossings_in, order_of, ordered, ordered_in, output_in, ring_area_in, simplify, simplify_in, stat, stat_in, text_of, where_none}
 use Rattle.command_words.specs.CommandLine.{program_app}
-use Rattle.command_words.specs.Requests.{IsCells, IsGridInRange}
+use Rattle.command_words.specs.Requests.{IsCells, IsInRange}
 use Rattle.command_words.specs.declared.request.Order.{Order}
 use Rattle.command_words.specs.declared.request.Request.{Request}
 use Rattle.command_words.specs.declared.request.Request.TheVariants.{Build, Simplify, Geo, Stat}
 
--- its grid, if any, may have its number of cells
-abbrev IsInRange : Asked → Type 0
-IsInRange (build layers exact grid area keep ring_area) = IfSome grid IsCells
-IsInRange (simplify area ring_area no_crossings path) = Unit {0}
-IsInRange (geo name path) = Unit {0}
-IsInRange (stat path) = Unit {0}
+-- its grid, if any, may have its number of cells, and no share is asked for where no crossing may be made
+abbrev Fits : Asked → Type 0
+Fits (build layers exact grid area keep ring_area no_crossings) = IfSome grid IsCells × (no_crossings ≡ true → keep ≡ None)
+Fits (simplify area keep ring_area no_crossings path) = no_crossings ≡ true → keep ≡ None
+Fits (geo name path) = Unit {0}
+Fits (stat crossings path) = Unit {0}
 
 cells_in_range : (text : Text) → IfSome (cells_of text) IsCells
 cells_in_range text = go (is_unsigned_in 2 (10 ^ 9) text) refl
@@ -38,53 +39,84 @@ grid_in_range : (given : Option Text) → IfSome (grid_at given) (λ grid. IfSom
 grid_in_range None = tt
 grid_in_range (Some text) = some_cells (cells_of text) (cells_in_range text)
 
-build_in_range : (rows : List Row) (grid : Option (Option ℕ)) (layers : Option (List (Text × Text))) → IfSome grid (λ g. IfSome g IsCells)
-    → IfSome (option_and_then (λ g. option_map (build_on rows g) layers) grid) IsInRange
-build_in_range rows None layers h = tt
-build_in_range rows (Some g) None h = tt
-build_in_range rows (Some g) (Some ls) h = h
+-- beside what excludes a share there is none
+alone : (area no_crossings : Bool) (keep : Option Text) → ((area || no_crossings) && is_some keep) ≡ false → no_crossings ≡ true → keep ≡ None
+alone area no_crossings None h e = refl
+alone true no_crossings (Some keep) h e = absurd cc
+alone false true (Some keep) h e = absurd cc
+alone false false (Some keep) h e = absurd cc
 
-either : (b : Bool) (x y : Option Asked) → IfSome x IsInRange → IfSome y IsInRange → IfSome (if b then x else y) IsInRange
+build_in_range : (rows : List Row) (grid : Option (Option ℕ)) (layers : Option (List (Text × Text))) → IfSome grid (λ g. IfSome g IsCells) → (no_crossings_in rows ≡ true → keep_in rows ≡ None)
+    → IfSome (option_and_then (λ g. option_map (build_on rows g) layers) grid) Fits
+build_in_range rows None layers h k = tt
+build_in_range rows (Some g) None h k = tt
+build_in_range rows (Some g) (Some ls) h k = (h, k)
+
+built_in_range : (rows : List Row) → IfSome (build_in rows) Fits
+built_in_range rows = on (has_both rows) refl
+  where
+    on : (b : Bool) → has_both rows ≡ b → IfSome (if b then None else option_and_then (λ g. option_map (build_on rows g) (layers_in rows)) (grid_in rows)) Fits
+    on true e = tt
+    on false e =
+        build_in_range rows (grid_in rows) (layers_in rows) (grid_in_range (one_of (codes "grid") rows)) (alone (is_some (first_of (codes "min-area") rows)) (no_crossings_in rows) (keep_in rows) e)
+
+either : (b : Bool) (x y : Option Asked) → IfSome x Fits → IfSome y Fits → IfSome (if b then x else y) Fits
 either true x y h k = h
 either false x y h k = k
 
-command_in_range : (found : Text × List Row) → IfSome (asked_in found) IsInRange
+-- no share is asked for beside what excludes it
+without_crossings : (area flag : Bool) (keep : Option Text) (given ring_area path : Text)
+    → IfSome (if (area || flag) && is_some keep then None else Some (simplify given keep ring_area flag path)) Fits
+without_crossings true flag None given ring_area path = λ e. refl
+without_crossings true flag (Some k) given ring_area path = tt
+without_crossings false true None given ring_area path = λ e. refl
+without_crossings false true (Some k) given ring_area path = tt
+without_crossings false false None given ring_area path = λ e. refl
+without_crossings false false (Some k) given ring_area path = λ e. absurd cc
+
+simplify_in_range : (rows : List Row) → IfSome (simplify_in rows) Fits
+simplify_in_range rows =
+    without_crossings (is_some (first_of (codes "min-area") rows)) (no_crossings_in rows) (keep_in rows) (area_in rows) (ring_area_in rows) (text_of (codes "file") rows)
+
+command_in_range : (found : Text × List Row) → IfSome (asked_in found) Fits
 command_in_range found =
     let rows = found.1 in
-    let build_rows = build_in_range rows (grid_in rows) (layers_in rows) (grid_in_range (one_of (codes "grid") rows)) in
-    let built = either (has_both rows) None (option_and_then (λ g. option_map (build_on rows g) (layers_in rows)) (grid_in rows)) tt build_rows in
-    let simplified = simplify_in rows in
+    let built = built_in_range rows in
     let decoded = geo (text_of (codes "object") rows) (text_of (codes "file") rows) in
-    let counted = stat (text_of (codes "file") rows) in
+    let counted = stat_in rows in
     let is_simplify = bytes_eq found.0 (codes "simplify") in
     let is_geo = bytes_eq found.0 (codes "geo") in
     let is_stat = bytes_eq found.0 (codes "stat") in
     let last : Option Asked = if is_stat then Some counted else None in
     let third : Option Asked = if is_geo then Some decoded else last in
-    let second : Option Asked = if is_simplify then Some simplified else third in
+    let second : Option Asked = if is_simplify then simplify_in rows else third in
     either (bytes_eq found.0 (codes "build")) (build_in rows) second built
-    (either is_simplify (Some simplified) third tt (either is_geo (Some decoded) last tt (either is_stat (Some counted) None tt tt)))
+    (either is_simplify (simplify_in rows) third (simplify_in_range rows) (either is_geo (Some decoded) last tt (either is_stat (Some counted) None tt tt)))
 
-with_output : (output : Option Text) (o : Option Asked) → IfSome o IsInRange → IfSome (option_map (λ a. (a, output)) o) (λ (x : Ordered). IsInRange x.0)
+with_output : (output : Option Text) (o : Option Asked) → IfSome o Fits → IfSome (option_map (λ a. (a, output)) o) (λ (x : Ordered). Fits x.0)
 with_output output None h = tt
 with_output output (Some a) h = h
 
-found_in_range : (found : Option (Text × List Row)) → IfSome (option_and_then ordered_in found) (λ (o : Ordered). IsInRange o.0)
+found_in_range : (found : Option (Text × List Row)) → IfSome (option_and_then ordered_in found) (λ (o : Ordered). Fits o.0)
 found_in_range None = tt
 found_in_range (Some found) = with_output (output_in found.1) (asked_in found) (command_in_range found)
 
-unless_refused : (kinds : Kinds) (o : Option Ordered) → IfSome o (λ (x : Ordered). IsInRange x.0) → IfSome (where_none kinds o) (λ (x : Ordered). IsInRange x.0)
+unless_refused : (kinds : Kinds) (o : Option Ordered) → IfSome o (λ (x : Ordered). Fits x.0) → IfSome (where_none kinds o) (λ (x : Ordered). Fits x.0)
 unless_refused [] o h = h
 unless_refused (k ∷ ks) o h = tt
 
-of_request : (request : Request) → IsInRange (asked request) → IsGridInRange request
-of_request (Build layers exact grid area keep ring_area) h = h
-of_request (Simplify area ring_area no_crossings path) h = tt
-of_request (Geo name path) h = tt
-of_request (Stat path) h = tt
+none_of : (keep : Option (Bor Text)) → option_map (λ k. k.now) keep ≡ None → keep ≡ None
+none_of None e = refl
+none_of (Some k) e = absurd cc
 
--- the grid of a request that words ask for may have its number of cells
-pub asked_in_range : (words : List Text) (order : Order) → order_of words ≡ Some (ordered order) → IsGridInRange order.request
+of_request : (request : Request) → Fits (asked request) → IsInRange request
+of_request (Build layers exact grid area keep ring_area no_crossings) h = (h.0, λ e. none_of keep (h.1 e))
+of_request (Simplify area keep ring_area no_crossings path) h = λ e. none_of keep (h e)
+of_request (Geo name path) h = tt
+of_request (Stat crossings path) h = tt
+
+-- the grid of a request that words ask for may have its number of cells, and no share is asked for where no crossing may be made
+pub asked_in_range : (words : List Text) (order : Order) → order_of words ≡ Some (ordered order) → IsInRange order.request
 asked_in_range words order is =
-    of_request order.request (subst (λ (o : Option Ordered). IfSome o (λ (x : Ordered). IsInRange x.0)) is
+    of_request order.request (subst (λ (o : Option Ordered). IfSome o (λ (x : Ordered). Fits x.0)) is
     (unless_refused (kinds_of words) _ (found_in_range (subcommand_of program_app words))))

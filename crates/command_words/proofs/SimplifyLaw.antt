@@ -1,6 +1,6 @@
 -- What `simplify` asks for, whichever of its options are given.
-use Rattle.std.proofs.Common.{◌≡◌, ◌∙◌, ◌++◌, List, [], ◌∷◌, Bool, false, true, Option, Some, None, codes, refl, ap, ap₂}
-use Rattle.std.specs.Prelude.{find, fold, unwrap_or}
+use Rattle.std.proofs.Common.{◌≡◌, ◌∙◌, ◌++◌, ◌&&◌, ◌||◌, List, [], ◌∷◌, Bool, false, true, Option, Some, None, codes, cond, refl, ap, ap₂}
+use Rattle.std.specs.Prelude.{find, fold, is_some, option_map, unwrap_or, if◌then◌else◌}
 use Rattle.std.specs.Option.{option_or}
 use Rattle.std.specs.Str.{bytes_eq}
 use Rattle.clap.specs.Walk.{Row, Text, Walk, finished, first_of, has_row, idle, nothing_held, rows_after, walk_from, walked, with_default}
@@ -9,7 +9,7 @@ use Rattle.clap.specs.declared.builder.value_parser.Reading.TheVariants.{AsWritt
 use Rattle.clap.specs.declared.parser.matches.ValueSource.TheVariants.{CommandLine}
 use Rattle.clap.specs.Faults.{check_fault, level_fault, settle_fault, walk_fault}
 use Rattle.clap.proofs.OnLiterals.{clap_on_literals}
-use Rattle.command_words.specs.Asked.{Ordered, no_crossings_in, order_of, output_in, simplify, simplify_in, where_none}
+use Rattle.command_words.specs.Asked.{Asked, Ordered, keep_in, no_crossings_in, order_of, output_in, simplify, simplify_in, where_none}
 use Rattle.command_words.specs.Written.{flag_word, value_word}
 use Rattle.command_words.proofs.CommandLevels.{asked_at, first_text, flag_read, more_words, no_fault, no_level_fault, or_else_nil, shape_of, text_read}
 use Rattle.command_words.proofs.RowLemmas.{found_at_end, has_id, values_replace}
@@ -21,7 +21,7 @@ simplify_shape = shape_of (codes "simplify")
 
 -- what `simplify` and the file for its output are asked for
 abbrev order_in : List Row → Option Ordered
-order_in rows = Some (simplify_in rows, output_in rows)
+order_in rows = option_map (λ a. (a, output_in rows)) (simplify_in rows)
 
 simplify_level : (words : List Text) → order_of (codes "simplify" ∷ words)
     ≡ where_none (level_fault simplify_shape [] nothing_held words false []) (order_in (rows_after simplify_shape.rules [] words))
@@ -43,6 +43,10 @@ output_taken text = record { walks = λ rows new. ap between (values_replace (co
 area_taken : TakesText (codes "min-area")
 unfolding clap_on_literals
 area_taken text = record { walks = λ rows new. ap between (values_replace (codes "min-area") AsWritten CommandLine (text ∷ []) rows new); faultless = λ rows new. rw new refl }
+
+keep_taken : TakesText (codes "keep")
+unfolding clap_on_literals
+keep_taken text = record { walks = λ rows new. ap between (values_replace (codes "keep") AsWritten CommandLine (text ∷ []) rows new); faultless = λ rows new. rw new refl }
 
 ring_area_taken : TakesText (codes "min-ring-area")
 unfolding clap_on_literals
@@ -79,13 +83,19 @@ nothing_missing rows path found = rw found refl
 
 -- ---- the law
 
-module _ (output : Option Text) (area ring_area path : Text) (no_crossings : Bool) where
+-- what is asked for by these values of the options
+abbrev asked_by : Option Text → Option Text → Option Text → Bool → Option Text → Option Asked
+asked_by area keep ring_area no_crossings path =
+    if (is_some area || no_crossings) && is_some keep then None
+    else Some (simplify (unwrap_or area (codes "0")) keep (unwrap_or ring_area (codes "0")) no_crossings (unwrap_or path []))
+
+module _ (output area keep : Option Text) (ring_area path : Text) (no_crossings : Bool) where
   abbrev settings : List Setting
-  settings = value (codes "output") AsWritten output ∷ value (codes "min-area") AsWritten (Some area) ∷ value (codes "min-ring-area") AsWritten (Some ring_area)
-      ∷ flag (codes "no-crossings") no_crossings ∷ []
+  settings = value (codes "output") AsWritten output ∷ value (codes "min-area") AsWritten area ∷ value (codes "keep") AsWritten keep
+      ∷ value (codes "min-ring-area") AsWritten (Some ring_area) ∷ flag (codes "no-crossings") no_crossings ∷ []
 
   all_taken : TakesAll simplify_shape settings
-  all_taken = (any_given output _ output_taken, (area_taken area, (ring_area_taken ring_area, (no_crossings_taken, tt))))
+  all_taken = (any_given output _ output_taken, (any_given area _ area_taken, (any_given keep _ keep_taken, (ring_area_taken ring_area, (no_crossings_taken, tt)))))
 
   abbrev rows : List Row
   rows = rows_given settings
@@ -136,8 +146,11 @@ module _ (output : Option Text) (area ring_area path : Text) (no_crossings : Boo
   output_read : output_in rows_at_end ≡ output
   output_read = at_end (codes "output") ∙ text_read (codes "output") output
 
-  area_read : first_of (codes "min-area") rows_at_end ≡ Some area
-  area_read = at_end (codes "min-area")
+  area_read : first_of (codes "min-area") rows_at_end ≡ area
+  area_read = at_end (codes "min-area") ∙ text_read (codes "min-area") area
+
+  keep_read : keep_in rows_at_end ≡ keep
+  keep_read = at_end (codes "keep") ∙ text_read (codes "keep") keep
 
   ring_area_read : first_of (codes "min-ring-area") rows_at_end ≡ Some ring_area
   ring_area_read = at_end (codes "min-ring-area")
@@ -148,6 +161,9 @@ module _ (output : Option Text) (area ring_area path : Text) (no_crossings : Boo
   path_read : first_of (codes "file") rows_at_end ≡ Some path
   path_read = at_end (codes "file")
 
-  pub simplify_law : order_of (codes "simplify" ∷ given) ≡ Some (simplify area ring_area no_crossings path, output)
-  simplify_law =
-      asks ∙ (λ i. Some (simplify (unwrap_or (area_read i) (codes "0")) (unwrap_or (ring_area_read i) (codes "0")) (no_crossings_read i) (unwrap_or (path_read i) []), output_read i))
+  pub simplify_law : ((is_some area || no_crossings) && is_some keep) ≡ false
+      → order_of (codes "simplify" ∷ given) ≡ Some (simplify (unwrap_or area (codes "0")) keep ring_area no_crossings path, output)
+  simplify_law alone =
+      asks
+      ∙ (λ i. option_map (λ a. (a, output_read i)) (asked_by (area_read i) (keep_read i) (ring_area_read i) (no_crossings_read i) (path_read i)))
+      ∙ ap (λ (b : Bool). option_map (λ a. (a, output)) (cond b None (Some (simplify (unwrap_or area (codes "0")) keep ring_area no_crossings path)))) alone

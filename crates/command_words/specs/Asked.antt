@@ -1,5 +1,5 @@
 -- What the words after the program's name ask for.
-use Rattle.std.specs.Prelude.{◌≡◌, ◌⊎◌, ◌+◌, ◌^◌, ◌==◌, ℕ, Bool, is_some, ◌&&◌, List, [], ◌∷◌, map, take, drop, codes, Option, Some, None}
+use Rattle.std.specs.Prelude.{◌≡◌, ◌⊎◌, ◌+◌, ◌^◌, ◌==◌, ℕ, Bool, is_some, ◌&&◌, ◌||◌, List, [], ◌∷◌, map, take, drop, codes, Option, Some, None}
 use Rattle.std.specs.Prelude.{Result, Ok, Err, if◌then◌else◌, option_map, option_and_then, unwrap_or}
 use Rattle.std.specs.List.{position}
 use Rattle.std.specs.Str.{bytes_eq}
@@ -20,22 +20,23 @@ use Rattle.command_words.specs.declared.words_fault.WordsFault.{WordsFault}
 use Rattle.command_words.specs.declared.words_fault.WordsFault.TheVariants.{Memory}
 
 pub data Asked : Type 0 where
-  -- the names and paths of the layers, whether rounding is refused, the cells of the grid, the area, the share, the ring area
-  build : List (Text × Text) → Bool → Option ℕ → Text → Option Text → Text → Asked
-  -- the area, the ring area, whether no crossing may be made, and the file
-  simplify : Text → Text → Bool → Text → Asked
+  -- the names and paths of the layers, whether rounding is refused, the cells of the grid, the area, the share, the ring area, and whether no
+  -- crossing may be made
+  build : List (Text × Text) → Bool → Option ℕ → Text → Option Text → Text → Bool → Asked
+  -- the area, the share, the ring area, whether no crossing may be made, and the file
+  simplify : Text → Option Text → Text → Bool → Text → Asked
   -- the object and the file
   geo : Text → Text → Asked
-  -- the file
-  stat : Text → Asked
+  -- whether crossings are counted, and the file
+  stat : Bool → Text → Asked
 
 -- a request as what it asks for
 abbrev pub asked : Request → Asked
-asked (Build layers exact grid area keep ring_area) =
-    build (map (λ l. (l.0.now, l.1.now)) layers.items) exact grid area.now (option_map (λ k. k.now) keep) ring_area.now
-asked (Simplify area ring_area no_crossings path) = simplify area.now ring_area.now no_crossings path.now
+asked (Build layers exact grid area keep ring_area no_crossings) =
+    build (map (λ l. (l.0.now, l.1.now)) layers.items) exact grid area.now (option_map (λ k. k.now) keep) ring_area.now no_crossings
+asked (Simplify area keep ring_area no_crossings path) = simplify area.now (option_map (λ k. k.now) keep) ring_area.now no_crossings path.now
 asked (Geo name path) = geo name.now path.now
-asked (Stat path) = stat path.now
+asked (Stat crossings path) = stat crossings path.now
 
 -- what is asked for, and the file that the output goes to, if it isn't standard output
 abbrev pub Ordered : Type 0
@@ -78,10 +79,6 @@ area_in rows = unwrap_or (first_of (codes "min-area") rows) (codes "0")
 abbrev pub keep_in : List Row → Option Text
 keep_in rows = first_of (codes "keep") rows
 
--- an area and a share are given both
-abbrev pub has_both : List Row → Bool
-has_both rows = is_some (first_of (codes "min-area") rows) && is_some (keep_in rows)
-
 -- the ring area, which is 0 where none is given
 abbrev pub ring_area_in : List Row → Text
 ring_area_in rows = unwrap_or (first_of (codes "min-ring-area") rows) (codes "0")
@@ -89,6 +86,18 @@ ring_area_in rows = unwrap_or (first_of (codes "min-ring-area") rows) (codes "0"
 -- no crossing may be made
 abbrev pub no_crossings_in : List Row → Bool
 no_crossings_in rows = bytes_eq (text_of (codes "no-crossings") rows) (codes "true")
+
+-- what a share can't stand beside: an area, or that no crossing may be made
+abbrev pub excludes_share : List Row → Bool
+excludes_share rows = is_some (first_of (codes "min-area") rows) || no_crossings_in rows
+
+-- a share is given, and what it can't stand beside
+abbrev pub has_both : List Row → Bool
+has_both rows = excludes_share rows && is_some (keep_in rows)
+
+-- crossings are counted
+abbrev pub crossings_in : List Row → Bool
+crossings_in rows = bytes_eq (text_of (codes "crossings") rows) (codes "true")
 
 abbrev pub exact_in : List Row → Bool
 exact_in rows = bytes_eq (text_of (codes "exact") rows) (codes "true")
@@ -109,22 +118,27 @@ layers_in rows = layers_of (layer_words rows)
 
 -- a build of these layers on this grid
 abbrev pub build_on : List Row → Option ℕ → List (Text × Text) → Asked
-build_on rows grid layers = build layers (exact_in rows) grid (area_in rows) (keep_in rows) (ring_area_in rows)
+build_on rows grid layers = build layers (exact_in rows) grid (area_in rows) (keep_in rows) (ring_area_in rows) (no_crossings_in rows)
 
--- what `build` asks for, which takes no share beside an area
+-- what `build` asks for, which takes no share beside an area, nor where no crossing may be made
 abbrev pub build_in : List Row → Option Asked
 build_in rows = if has_both rows then None else option_and_then (λ grid. option_map (build_on rows grid) (layers_in rows)) (grid_in rows)
 
-abbrev pub simplify_in : List Row → Asked
-simplify_in rows = simplify (area_in rows) (ring_area_in rows) (no_crossings_in rows) (text_of (codes "file") rows)
+-- what `simplify` asks for, which takes none either
+abbrev pub simplify_in : List Row → Option Asked
+simplify_in rows = if has_both rows then None
+    else Some (simplify (area_in rows) (keep_in rows) (ring_area_in rows) (no_crossings_in rows) (text_of (codes "file") rows))
+
+abbrev pub stat_in : List Row → Asked
+stat_in rows = stat (crossings_in rows) (text_of (codes "file") rows)
 
 -- what a command of this name asks for
 abbrev pub asked_in : Text × List Row → Option Asked
 asked_in found =
     if bytes_eq found.0 (codes "build") then build_in found.1
-    else (if bytes_eq found.0 (codes "simplify") then Some (simplify_in found.1)
+    else (if bytes_eq found.0 (codes "simplify") then simplify_in found.1
     else (if bytes_eq found.0 (codes "geo") then Some (geo (text_of (codes "object") found.1) (text_of (codes "file") found.1))
-    else (if bytes_eq found.0 (codes "stat") then Some (stat (text_of (codes "file") found.1))
+    else (if bytes_eq found.0 (codes "stat") then Some (stat_in found.1)
     else None)))
 
 -- the file that the output goes to, if it isn't standard output

@@ -38,6 +38,10 @@ ring_area_rule = record (new_rule (codes "min-ring-area")) { long = Some (codes 
 abbrev pub no_crossings_rule : Rule
 no_crossings_rule = record (new_rule (codes "no-crossings")) { long = Some (codes "no-crossings"); action = Some SetTrue }
 
+-- the flag --crossings
+abbrev pub crossings_rule : Rule
+crossings_rule = record (new_rule (codes "crossings")) { long = Some (codes "crossings"); action = Some SetTrue }
+
 -- the option --grid N, for N from 2 to 10^9
 abbrev pub grid_rule : Rule
 grid_rule = record (new_rule (codes "grid")) {
@@ -86,25 +90,25 @@ layers_rule = record (new_rule (codes "layers")) {
   range = Some (record { start_inclusive = 1; end_inclusive = usize_max });
 }
 
--- build [--grid N] [--min-area A] [--keep P/Q] [--min-ring-area B] [--exact] [-q] NAME=PATH.., with the common options
+-- build [--grid N] [--min-area A] [--keep P/Q] [--min-ring-area B] [--no-crossings] [--exact] [-q] NAME=PATH.., with the common options
 abbrev pub build_app : App
 build_app = with_rule (with_rule
-    (with_common (with_rule (with_rule (with_rule (with_rule (with_rule (new_app (codes "build")) grid_rule) area_rule) keep_rule) ring_area_rule) exact_rule))
+    (with_common (with_rule (with_rule (with_rule (with_rule (with_rule (with_rule (new_app (codes "build")) grid_rule) area_rule) keep_rule) ring_area_rule) no_crossings_rule) exact_rule))
     quiet_rule) layers_rule
 
--- simplify [--min-area A] [--min-ring-area B] [--no-crossings] [-q] FILE, with the common options
+-- simplify [--min-area A] [--keep P/Q] [--min-ring-area B] [--no-crossings] [-q] FILE, with the common options
 abbrev pub simplify_app : App
 simplify_app = with_rule (with_rule
-    (with_common (with_rule (with_rule (with_rule (new_app (codes "simplify")) area_rule) ring_area_rule) no_crossings_rule))
+    (with_common (with_rule (with_rule (with_rule (with_rule (new_app (codes "simplify")) area_rule) keep_rule) ring_area_rule) no_crossings_rule))
     quiet_rule) file_rule
 
 -- geo --object NAME FILE, with the common options
 abbrev pub geo_app : App
 geo_app = with_rule (with_common (with_rule (new_app (codes "geo")) object_rule)) file_rule
 
--- stat FILE, with the common options
+-- stat [--crossings] FILE, with the common options
 abbrev pub stat_app : App
-stat_app = with_rule (with_common (new_app (codes "stat"))) file_rule
+stat_app = with_rule (with_common (with_rule (new_app (codes "stat")) crossings_rule)) file_rule
 
 -- the program, which has a version and to whose command the words after its name belong
 abbrev pub bare_app : App

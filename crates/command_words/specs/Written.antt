@@ -37,13 +37,13 @@ ring_area_word ring_area = value_word (codes "min-ring-area") ring_area
 
 -- the words of a request whose output goes to this file, or to standard output
 abbrev pub written : Ordered → List Text
-written (build layers exact grid area keep ring_area, output) =
+written (build layers exact grid area keep ring_area no_crossings, output) =
     codes "build" ∷ and_value (codes "output") output (and_value (codes "grid") (option_map decimal grid)
-    (level_word area keep ∷ ring_area_word ring_area ∷ and_flag (codes "exact") exact (codes "--" ∷ map layer_word layers)))
-written (simplify area ring_area no_crossings path, output) =
-    codes "simplify" ∷ and_value (codes "output") output (level_word area None ∷ ring_area_word ring_area ∷ and_flag (codes "no-crossings") no_crossings (codes "--" ∷ path ∷ []))
+    (level_word area keep ∷ ring_area_word ring_area ∷ and_flag (codes "no-crossings") no_crossings (and_flag (codes "exact") exact (codes "--" ∷ map layer_word layers))))
+written (simplify area keep ring_area no_crossings path, output) =
+    codes "simplify" ∷ and_value (codes "output") output (level_word area keep ∷ ring_area_word ring_area ∷ and_flag (codes "no-crossings") no_crossings (codes "--" ∷ path ∷ []))
 written (geo name path, output) = codes "geo" ∷ and_value (codes "output") output (value_word (codes "object") name ∷ codes "--" ∷ path ∷ [])
-written (stat path, output) = codes "stat" ∷ and_value (codes "output") output (codes "--" ∷ path ∷ [])
+written (stat crossings path, output) = codes "stat" ∷ and_value (codes "output") output (and_flag (codes "crossings") crossings (codes "--" ∷ path ∷ []))
 
 -- the words of a level, with a value that may be any text as a word of its own
 abbrev pub level_apart : Text → Option Text → List Text → List Text
@@ -54,23 +54,24 @@ abbrev pub ring_area_apart : Text → List Text → List Text
 ring_area_apart ring_area words = codes "--min-ring-area" ∷ ring_area ∷ words
 
 abbrev pub written_apart : Ordered → List Text
-written_apart (build layers exact grid area keep ring_area, output) =
+written_apart (build layers exact grid area keep ring_area no_crossings, output) =
     codes "build" ∷ and_value (codes "output") output (and_value (codes "grid") (option_map decimal grid)
-    (level_apart area keep (ring_area_apart ring_area (and_flag (codes "exact") exact (codes "--" ∷ map layer_word layers)))))
-written_apart (simplify area ring_area no_crossings path, output) =
-    codes "simplify" ∷ and_value (codes "output") output (level_apart area None (ring_area_apart ring_area (and_flag (codes "no-crossings") no_crossings (codes "--" ∷ path ∷ []))))
+    (level_apart area keep (ring_area_apart ring_area (and_flag (codes "no-crossings") no_crossings (and_flag (codes "exact") exact (codes "--" ∷ map layer_word layers))))))
+written_apart (simplify area keep ring_area no_crossings path, output) =
+    codes "simplify" ∷ and_value (codes "output") output (level_apart area keep (ring_area_apart ring_area (and_flag (codes "no-crossings") no_crossings (codes "--" ∷ path ∷ []))))
 written_apart (geo name path, output) = written (geo name path, output)
-written_apart (stat path, output) = written (stat path, output)
+written_apart (stat crossings path, output) = written (stat crossings path, output)
 
 -- no name has an `=`
 abbrev pub HasPlainNames : List (Text × Text) → Type 0
 HasPlainNames [] = Unit {0}
 HasPlainNames (layer ∷ layers) = (has_byte equals_sign layer.0 ≡ false) × HasPlainNames layers
 
--- a request that `written` writes: a build has a layer or more, a grid from 2 to 10^9 cells if any, and an area of 0 beside a share
+-- a request that `written` writes: a build has a layer or more, a grid from 2 to 10^9 cells if any, and beside a share
+-- an area of 0, where crossings may be made; so has simplifying
 abbrev pub IsWritable : Asked → Type 0
-IsWritable (build layers exact grid area keep ring_area) = IfSome grid IsCells × (0 < length layers) × (length layers < usize_max)
-    × HasPlainNames layers × IfSome keep (λ _. area ≡ codes "0")
-IsWritable (simplify area ring_area no_crossings path) = Unit {0}
+IsWritable (build layers exact grid area keep ring_area no_crossings) = IfSome grid IsCells × (0 < length layers) × (length layers < usize_max)
+    × HasPlainNames layers × IfSome keep (λ _. (area ≡ codes "0") × (no_crossings ≡ false))
+IsWritable (simplify area keep ring_area no_crossings path) = IfSome keep (λ _. (area ≡ codes "0") × (no_crossings ≡ false))
 IsWritable (geo name path) = Unit {0}
-IsWritable (stat path) = Unit {0}
+IsWritable (stat crossings path) = Unit {0}

@@ -1,10 +1,10 @@
 // The commands that take the file of a topology, and their help.
 ghost use Rattle.std.specs.Prelude.{IfOk};
-ghost use Rattle.command_words.specs.CommandLine.{IsApp, IsRule, file_rule, geo_app, object_rule, simplify_app, stat_app};
+ghost use Rattle.command_words.specs.CommandLine.{IsApp, IsRule, crossings_rule, file_rule, geo_app, keep_rule, object_rule, simplify_app, stat_app};
 
 use crate::commands::{Help, command};
 use crate::usage::{area, no_crossings, quiet, ring_area, with_common};
-use clap::{Arg, Command};
+use clap::{Arg, ArgAction, Command};
 use std::alloc::{AllocError, Global};
 
 /// The command that simplifies.
@@ -18,6 +18,9 @@ pub(crate) const STAT: &str = "stat";
 
 /// The option of `geo` that names the object.
 pub(crate) const OBJECT: &str = "object";
+
+/// The option of `stat` that counts crossings.
+pub(crate) const CROSSINGS: &str = "crossings";
 
 /// The file of the topology.
 pub(crate) const FILE: &str = "file";
@@ -36,8 +39,9 @@ that encloses less than '--min-ring-area'. Any other hole whose outer ring is dr
 is dropped as 'outer'.
 
 A topology that 'mapchain build' wrote without areas becomes, byte for byte, what
-'mapchain build' writes of the same files with the areas that are given here.
-'--no-crossings' is of this command alone.",
+'mapchain build' writes of the same files with the areas that are given here, and with
+'--no-crossings' where it is given; and so with '--keep', unless that topology has no
+arcs of a hole that was dropped as 'outer'.",
     after: "Example:
   mapchain simplify --min-area 0.0001 map.topojson > small.topojson",
     after_long: "Example:
@@ -72,6 +76,7 @@ Standard output takes a line each:
   arcs       arcs
   positions  positions in these arcs
   grid       whether positions are numbers of a grid: yes or no
+  crossings  pairs of segments of arcs that cross, a million at most ('--crossings')
 Where something is refused it takes nothing, and standard error says what.",
     after: "Example:
   mapchain stat map.topojson",
@@ -80,6 +85,14 @@ Where something is refused it takes nothing, and standard error says what.",
 
 'mapchain --help' lists the exit statuses, and says where faults are explained.",
 };
+
+const CROSSINGS_HELP: &str = "Count the pairs of segments of arcs that cross";
+
+const CROSSINGS_LONG_HELP: &str =
+    "Count the pairs of segments of arcs that meet badly: they cross, lie on one another, or
+touch but at ends of both. Each pair of places in the arcs counts once, also where two
+arcs run alike, and so do arcs that no line uses. It takes the positions of all arcs
+and an index of them";
 
 const FILE_HELP: &str = "A topology (TopoJSON 1.0)";
 
@@ -93,12 +106,13 @@ fn file<'a>(alloc: Global) -> Arg<'a>
         .help(FILE_HELP)
 }
 
-/// The command line of `simplify`.
-pub(crate) fn simplify<'a>(alloc: Global) -> Result<Command<'a>, AllocError>
-    ensures { IfOk result (λ c. IsApp c simplify_app) }
+/// The command line of `simplify`, with this option that keeps a share.
+pub(crate) fn simplify<'a>(alloc: Global, keep: Arg<'a>) -> Result<Command<'a>, AllocError>
+    ensures { IsRule keep.entry keep_rule → IfOk result (λ c. IsApp c simplify_app) }
 {
     let command = command(alloc, SIMPLIFY, SIMPLIFY_HELP)
         .arg(area(alloc))?
+        .arg(keep)?
         .arg(ring_area(alloc))?
         .arg(no_crossings(alloc))?;
     with_common(alloc, command)?
@@ -125,9 +139,21 @@ pub(crate) fn geo<'a>(alloc: Global) -> Result<Command<'a>, AllocError>
     with_common(alloc, command)?.arg(file(alloc))
 }
 
+/// The option of `stat` that counts crossings.
+fn crossings<'a>(alloc: Global) -> Arg<'a>
+    ensures { IsRule result crossings_rule }
+{
+    Arg::new(alloc, CROSSINGS)
+        .long("crossings")
+        .action(ArgAction::SetTrue)
+        .help(CROSSINGS_HELP)
+        .long_help(CROSSINGS_LONG_HELP)
+}
+
 /// The command line of `stat`.
 pub(crate) fn stat<'a>(alloc: Global) -> Result<Command<'a>, AllocError>
     ensures { IfOk result (λ c. IsApp c stat_app) }
 {
-    with_common(alloc, command(alloc, STAT, STAT_HELP))?.arg(file(alloc))
+    let command = command(alloc, STAT, STAT_HELP).arg(crossings(alloc))?;
+    with_common(alloc, command)?.arg(file(alloc))
 }

@@ -9,15 +9,15 @@ ghost use Rattle.clap.specs.declared.error.Error.{Error as ClapError};
 ghost use Rattle.clap.specs.declared.error.kind.ErrorKind.TheVariants.{OutOfMemory};
 ghost use Rattle.command_words.specs.declared.words_fault.WordsFault.TheVariants.{GridRange, Memory, Refused};
 ghost use Rattle.command_words.specs.Asked as spec;
-ghost use Rattle.command_words.specs.Asked.{Answers, area_in, asked, asked_in, build_in, entries_of, exact_in, grid_in};
+ghost use Rattle.command_words.specs.Asked.{Answers, area_in, asked, asked_in, build_in, crossings_in, entries_of, exact_in, grid_in};
 ghost use Rattle.command_words.specs.Asked.{Ordered, detail, detail_of, explains_in, keep_in, kinds_of, order_of, ordered};
-ghost use Rattle.command_words.specs.Asked.{no_crossings_in, output_in, quiet_in, report_in, ring_area_in, text_of};
+ghost use Rattle.command_words.specs.Asked.{no_crossings_in, output_in, quiet_in, report_in, ring_area_in, simplify_in, text_of};
 ghost use Rattle.command_words.specs.CommandLine.{IsApp, program_app};
 ghost use Rattle.command_words.specs.Faults as faults;
 ghost use Rattle.command_words.specs.Faults.{IsBuildFault, IsCommandFault, IsFaultBy, IsFaultOf};
 ghost use Rattle.command_words.specs.Written.{IsWritable, written};
 
-use crate::file_usage::{FILE, GEO, OBJECT, SIMPLIFY, STAT};
+use crate::file_usage::{CROSSINGS, FILE, GEO, OBJECT, SIMPLIFY, STAT};
 use crate::layer_words::names_and_paths;
 use crate::usage::{
     AREA, BUILD, EXACT, EXPLAIN, GRID, KEEP, LAYERS, NO_CROSSINGS, OUTPUT, QUIET, REPORT,
@@ -44,14 +44,18 @@ pub enum Request<'a> {
         keep: Option<&'a str>,
         /// Rings are left out that enclose less than the area of this text, in the same units.
         ring_area: &'a str,
+        /// No point is removed where lines would then cross. There is no share then.
+        no_crossings: bool,
     },
     /// What is left of the topology in the file of this path where its lines are reduced.
     Simplify {
         /// Points are removed whose triangle is smaller than the area of this text, in square units of the coordinates.
         area: &'a str,
+        /// The least share of the points between the ends of arcs that stay, a text `P/Q`, in place of an area, if any.
+        keep: Option<&'a str>,
         /// Rings are left out that enclose less than the area of this text, in the same units.
         ring_area: &'a str,
-        /// No point is removed where lines would then cross.
+        /// No point is removed where lines would then cross. Not beside a share.
         no_crossings: bool,
         path: &'a str,
     },
@@ -62,6 +66,8 @@ pub enum Request<'a> {
     },
     /// What is in the topology in the file of this path.
     Stat {
+        /// The pairs of segments of its arcs that meet badly are counted, too.
+        crossings: bool,
         path: &'a str,
     },
 }
@@ -113,13 +119,6 @@ fn keep_of<'a>(arguments: &ArgMatches<'a>) -> Option<&'a str>
     arguments.get_str(KEEP)
 }
 
-/// Whether an area and a share are given both.
-fn has_both(arguments: &ArgMatches<'_>) -> bool
-    ensures { result ≡ spec.has_both (entries_of arguments.now) }
-{
-    arguments.get_str(AREA).is_some() && keep_of(arguments).is_some()
-}
-
 /// The least area of a ring that is asked for.
 fn ring_area_of<'a>(arguments: &ArgMatches<'a>) -> &'a str
     ensures { result.now ≡ ring_area_in (entries_of arguments.now) }
@@ -162,6 +161,27 @@ fn has_no_crossings(arguments: &ArgMatches<'_>) -> bool
     text_of(arguments, NO_CROSSINGS) == "true"
 }
 
+/// Whether an area is given, or no crossing may be made: neither can stand beside a share.
+fn excludes_share(arguments: &ArgMatches<'_>) -> bool
+    ensures { result ≡ spec.excludes_share (entries_of arguments.now) }
+{
+    arguments.get_str(AREA).is_some() || has_no_crossings(arguments)
+}
+
+/// Whether a share is given, and what it can't stand beside.
+fn has_both(arguments: &ArgMatches<'_>) -> bool
+    ensures { result ≡ spec.has_both (entries_of arguments.now) }
+{
+    excludes_share(arguments) && keep_of(arguments).is_some()
+}
+
+/// Whether crossings are counted.
+fn has_crossings(arguments: &ArgMatches<'_>) -> bool
+    ensures { result ≡ crossings_in (entries_of arguments.now) }
+{
+    text_of(arguments, CROSSINGS) == "true"
+}
+
 /// Whether the run is explained in words.
 fn is_explained(arguments: &ArgMatches<'_>) -> bool
     ensures { result ≡ explains_in (entries_of arguments.now) }
@@ -176,7 +196,7 @@ fn is_quiet(arguments: &ArgMatches<'_>) -> bool
     text_of(arguments, QUIET) == "true"
 }
 
-/// What the command that builds a topology asks for, unless it is given an area and a share both.
+/// What the command that builds a topology asks for, unless it is given a share beside what excludes one.
 fn build_request<'a>(
     alloc: Global,
     arguments: &ArgMatches<'a>,
@@ -196,6 +216,7 @@ fn build_request<'a>(
     let area = area_of(arguments);
     let keep = keep_of(arguments);
     let ring_area = ring_area_of(arguments);
+    let no_crossings = has_no_crossings(arguments);
     Ok(Some(Request::Build {
         layers,
         exact,
@@ -203,7 +224,25 @@ fn build_request<'a>(
         area,
         keep,
         ring_area,
+        no_crossings,
     }))
+}
+
+/// What the command that simplifies a topology asks for, unless it is given a share beside what excludes one.
+fn simplify_request<'a>(arguments: &ArgMatches<'a>) -> Option<Request<'a>>
+    ensures asked { simplify_in (entries_of arguments.now) ≡ option_map asked result }
+    ensures both { result ≡ None → spec.has_both (entries_of arguments.now) ≡ true }
+{
+    if has_both(arguments) {
+        return None;
+    }
+    Some(Request::Simplify {
+        area: area_of(arguments),
+        keep: keep_of(arguments),
+        ring_area: ring_area_of(arguments),
+        no_crossings: has_no_crossings(arguments),
+        path: text_of(arguments, FILE),
+    })
 }
 
 /// What a command of this name asks for, if there is one.
@@ -221,16 +260,7 @@ fn request_in<'a>(
         return build_request(alloc, arguments);
     }
     if name == SIMPLIFY {
-        let area = area_of(arguments);
-        let ring_area = ring_area_of(arguments);
-        let no_crossings = has_no_crossings(arguments);
-        let path = text_of(arguments, FILE);
-        return Ok(Some(Request::Simplify {
-            area,
-            ring_area,
-            no_crossings,
-            path,
-        }));
+        return Ok(simplify_request(arguments));
     }
     if name == GEO {
         let name = text_of(arguments, OBJECT);
@@ -238,13 +268,14 @@ fn request_in<'a>(
         return Ok(Some(Request::Geo { name, path }));
     }
     if name == STAT {
+        let crossings = has_crossings(arguments);
         let path = text_of(arguments, FILE);
-        return Ok(Some(Request::Stat { path }));
+        return Ok(Some(Request::Stat { crossings, path }));
     }
     Ok(None)
 }
 
-/// What is said of refused words, by the command line in which a share can't stand beside an area.
+/// What is said of refused words, by the command line in which a share can't stand beside what excludes it.
 fn refusal(alloc: Global, words: &[String]) -> Result<WordsFault, AllocError>
     ensures { IfOk result (λ f. (f ≡ Memory) ⊎ ((e : ClapError) × (f ≡ Refused e))) }
 {

@@ -24,13 +24,13 @@ pub(crate) const GRID: &str = "grid";
 /// The option of `build` and `simplify` that removes points from lines.
 pub(crate) const AREA: &str = "min-area";
 
-/// The option of `build` that keeps a share of the points.
+/// The option of `build` and `simplify` that keeps a share of the points.
 pub(crate) const KEEP: &str = "keep";
 
 /// The option of `build` and `simplify` that leaves out small rings.
 pub(crate) const RING_AREA: &str = "min-ring-area";
 
-/// The option of `simplify` that keeps lines from crossing.
+/// The option of `build` and `simplify` that keeps lines from crossing.
 pub(crate) const NO_CROSSINGS: &str = "no-crossings";
 
 /// The option of `build` that refuses coordinates that would have to be rounded.
@@ -49,7 +49,7 @@ pub(crate) const EXPLAIN: &str = "explain";
 pub(crate) const QUIET: &str = "quiet";
 
 /// The version of the program.
-const VERSION: &str = "1.3.0";
+const VERSION: &str = "1.4.0";
 
 const PROGRAM_HELP: Help = Help {
     about: "Build TopoJSON topologies from GeoJSON files, simplify them, and decode them again",
@@ -120,7 +120,7 @@ const AREA_LONG_HELP: &str =
 neighbours, the least first. A is in square units of the coordinates, from 0 to
 10^18, with at most 18 decimal places. Without this option it is 0, and no point
 is removed. A shared border is reduced once, so it stays shared. Lines may
-cross afterwards, unless '--no-crossings' of 'mapchain simplify' is given";
+cross afterwards, unless '--no-crossings' is given";
 
 const KEEP_HELP: &str = "Remove points, but keep at least the share P/Q of them";
 
@@ -131,7 +131,7 @@ more where points go at the same area. P and Q are whole numbers, Q from 1 to
 1000000000 and P at most Q. The share is counted over all arcs, before small lines
 are dropped. The report gives the area in a line 'chosen T': T is twice the area, in
 square units of 10^-9; '--explain' says the area as '--min-area' takes it. This option
-can't stand beside '--min-area'";
+can't stand beside '--min-area' or '--no-crossings'";
 
 const RING_AREA_HELP: &str = "Leave out rings that enclose less than the area B";
 
@@ -148,8 +148,8 @@ const NO_CROSSINGS_LONG_HELP: &str =
     "Of the points that '--min-area' removes leave those where lines would then cross, lie on
 one another, or touch but at an end of both. A point that is left so goes later, once
 what holds it is gone. Where no lines crossed before, a ring that encloses something
-stays, as a triangle at least: small islands go by '--min-ring-area'. Lines that cross in
-the topology go on crossing: nothing is repaired";
+stays, as a triangle at least: small islands go by '--min-ring-area'. Lines that crossed
+before go on crossing: nothing is repaired";
 
 const OUTPUT_HELP: &str = "Write the output to a file in place of standard output";
 
@@ -200,28 +200,37 @@ fn bare<'a>(alloc: Global) -> Result<Command<'a>, AllocError>
         .bin_name("mapchain")
 }
 
-/// The command line of the program, with this option of `build` that keeps a share.
-fn program_with<'a>(alloc: Global, keep: Arg<'a>) -> Result<Command<'a>, AllocError>
-    ensures { IsRule keep.entry keep_rule → IfOk result (λ c. IsApp c program_app) }
+/// The command line of the program, with these options of `build` and of `simplify` that keep a share.
+fn program_with<'a>(
+    alloc: Global,
+    build_keep: Arg<'a>,
+    simplify_keep: Arg<'a>,
+) -> Result<Command<'a>, AllocError>
+    ensures { IsRule build_keep.entry keep_rule → IsRule simplify_keep.entry keep_rule → IfOk result (λ c. IsApp c program_app) }
 {
     bare(alloc)?
-        .subcommand(build(alloc, keep)?)?
-        .subcommand(simplify(alloc)?)?
+        .subcommand(build(alloc, build_keep)?)?
+        .subcommand(simplify(alloc, simplify_keep)?)?
         .subcommand(geo(alloc)?)?
         .subcommand(stat(alloc)?)
 }
 
-/// The command line of the program. It takes a share beside an area, which `build_request` refuses.
+/// The command line of the program. It takes a share beside what excludes it, which `build_request` and `simplify_request` refuse.
 pub(crate) fn program<'a>(alloc: Global) -> Result<Command<'a>, AllocError>
     ensures { IfOk result (λ c. IsApp c program_app) }
 {
-    program_with(alloc, keep(alloc))
+    program_with(alloc, keep(alloc), keep(alloc))
 }
 
-/// The command line of the program, which refuses a share beside an area. What is said of refused words is said by it.
+/// The command line of the program, which refuses a share beside an area or `--no-crossings`. What is said of refused words is said by it.
 pub(crate) fn telling_program<'a>(alloc: Global) -> Result<Command<'a>, AllocError> {
-    let keep = keep(alloc).conflicts_with(AREA)?;
-    program_with(alloc, keep)
+    let build_keep = keep(alloc)
+        .conflicts_with(AREA)?
+        .conflicts_with(NO_CROSSINGS)?;
+    let simplify_keep = keep(alloc)
+        .conflicts_with(AREA)?
+        .conflicts_with(NO_CROSSINGS)?;
+    program_with(alloc, build_keep, simplify_keep)
 }
 
 /// The numbers of cells that a grid may have along each axis.
@@ -254,7 +263,7 @@ pub(crate) fn area<'a>(alloc: Global) -> Arg<'a>
         .long_help(AREA_LONG_HELP)
 }
 
-/// The option of `build` that keeps a share of the points. It takes any text, as that of the area does.
+/// The option that keeps a share of the points. It takes any text, as that of the area does.
 fn keep<'a>(alloc: Global) -> Arg<'a>
     ensures { IsRule result keep_rule }
 {
@@ -378,6 +387,7 @@ fn build<'a>(alloc: Global, keep: Arg<'a>) -> Result<Command<'a>, AllocError>
         .arg(area(alloc))?
         .arg(keep)?
         .arg(ring_area(alloc))?
+        .arg(no_crossings(alloc))?
         .arg(exact(alloc))?;
     with_common(alloc, command)?
         .arg(quiet(alloc))?

@@ -28,7 +28,7 @@ pub fn bad_area(alloc: Global, option: &str, text: &str) -> Result<String, Alloc
     let option = shown(alloc, option)?;
     if text.ends_with("%") {
         return format!(in alloc;
-            "  {option} takes an area in square units of the coordinates, as a JSON number, such as 0.5\n  a share of the points is kept by build --keep, as in build --keep 1/10\n"
+            "  {option} takes an area in square units of the coordinates, as a JSON number, such as 0.5\n  a share of the points is kept by --keep, as in --keep 1/10\n"
         );
     }
     match NumText::read(alloc, text) {

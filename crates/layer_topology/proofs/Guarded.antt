@@ -1,23 +1,35 @@
 -- What is left of a topology where guards are asked for.
-use Rattle.std.proofs.Common.{◌≡◌, ◌∙◌, ℕ, Bool, true, false, cond, List, [], ◌∷◌, map, Option, refl, ap, subst, sym}
+use Rattle.std.proofs.Common.{◌≡◌, ◌∙◌, ℕ, ◌≤◌, Bool, true, false, cond, List, [], ◌∷◌, map, Option, refl, ap, arith, subst, sym}
+use Rattle.std.specs.List.{AllByRecursion}
 use Rattle.build_meaning.specs.Layers.{Named, names_of}
 use Rattle.geojson_types.specs.declared.id.Id.{Id}
+use Rattle.geojson_types.proofs.Nestings.{option_pruned_nests}
 use Rattle.json_value.specs.declared.json.Json.{Json}
 use Rattle.layer_topology.specs.Guarded.{CrossesNoMore}
 use Rattle.layer_topology.specs.GuardedLaws.{GuardedIsAssembledOf, SimplifiedUnderLaw, WrittenUnderLaw}
 use Rattle.layer_topology.specs.GuardedWritten.{written_under}
-use Rattle.layer_topology.specs.Laws.{HasNames, IsValid, SimplifiesToWritten}
+use Rattle.layer_topology.specs.Laws.{HasNames, IsValid, NestsNoDeeper, SimplifiesToWritten}
 use Rattle.layer_topology.specs.Written.{snapped_to, written, AreTaken}
 use Rattle.layer_topology.proofs.Laid.{snapped}
 use Rattle.simplified_topology.specs.GridLaws.{SnappedAreOn}
-use Rattle.simplified_topology.specs.Guarded.{guarded_contents}
+use Rattle.simplified_topology.specs.Guarded.{guarded_contents, guarded_indexes}
 use Rattle.simplified_topology.specs.GuardedLaws.{GuardedCrossingsNeverRise, GuardedIsAssembled, GuardedIsValid, GuardedKeeps, GuardedNoneStaysNone}
 use Rattle.simplified_topology.specs.Laws.{labels, ReducedIsValid, SimplifiedKeeps}
 use Rattle.simplified_topology.specs.Quantized.{named_grid}
+use Rattle.simplified_topology.specs.Simplified.{Refs, feature_pruned}
 use Rattle.simplified_topology.specs.Thresholds.{reduced_indexes, simplified_contents}
+use Rattle.simplified_topology.proofs.Left.{left_features}
+use Rattle.topojson_meaning.specs.Bounds as bounds
+use Rattle.topojson_types.specs.declared.feature.TopoFeature.{TopoFeature}
 use Rattle.topojson_types.specs.declared.object.TopoObject.{TopoObject}
 use Rattle.topojson_types.specs.Topologies.{Contents, object_features}
 use Rattle.topojson_types.specs.Validity.{IsTopology}
+
+abbrev NestsTo : ℕ → TopoFeature → Type 0
+NestsTo n f = bounds.feature_nesting f ≤ n
+
+nests_pruned : (n : ℕ) (refs : Refs) (f : TopoFeature) → NestsTo n f → NestsTo n (feature_pruned refs f)
+nests_pruned n refs f h = omega (arith, h, option_pruned_nests (λ p. p) refs f.shape)
 
 module _ (t limit : ℕ) (y : Contents) where
   abbrev under : Bool → Contents
@@ -37,6 +49,11 @@ module _ (t limit : ℕ) (y : Contents) where
   transform_under plain guarded true = (guarded true t limit y).1
   transform_under plain guarded false = (plain (reduced_indexes t y) limit y).1
 
+  nests_under : (n : ℕ) (b : Bool) → AllByRecursion (NestsTo n) (bounds.objects_features y.objects) → AllByRecursion (NestsTo n) (bounds.objects_features (under b).objects)
+  unfolding guarded_contents simplified_contents
+  nests_under n true h = left_features (NestsTo n) (nests_pruned n) (guarded_indexes true t y) limit y h
+  nests_under n false h = left_features (NestsTo n) (nests_pruned n) (reduced_indexes t y) limit y h
+
   crosses_under : GuardedCrossingsNeverRise → GuardedNoneStaysNone → (b : Bool) → b ≡ true → CrossesNoMore y (under b)
   crosses_under never none true e = record { fewer = never t limit y; none = none t limit y }
   crosses_under never none false e = absurd cc
@@ -46,6 +63,7 @@ simplified_under_law plain_valid plain_keeps valid keeps never none guards t lim
   valid = valid_under t limit y plain_valid valid guards.no_crossings;
   labels_stay = labels_under t limit y plain_keeps keeps guards.no_crossings;
   transform = transform_under t limit y plain_keeps keeps guards.no_crossings;
+  nests = λ n. nests_under t limit y n guards.no_crossings;
   crosses = crosses_under t limit y never none guards.no_crossings;
 }
 
@@ -71,8 +89,8 @@ module _ (count : Option ℕ) (t limit : ℕ) (ls : Named) (taken : AreTaken cou
   simplified_is true = refl
   simplified_is false = less count t limit ls taken
 
-pub written_under_law : SimplifiedUnderLaw → SimplifiesToWritten → IsValid → HasNames → WrittenUnderLaw
-written_under_law law less valid names guards count t limit ls taken =
+pub written_under_law : SimplifiedUnderLaw → SimplifiesToWritten → IsValid → HasNames → NestsNoDeeper → WrittenUnderLaw
+written_under_law law less valid names nests guards count t limit ls taken =
     let same = simplified_is count t limit ls taken less guards.no_crossings in
     let left = law guards t limit (written count 0 0 ls) in
     let labels_stay = subst (λ y. labels y ≡ labels (written count 0 0 ls)) same left.labels_stay in
@@ -80,6 +98,7 @@ written_under_law law less valid names guards count t limit ls taken =
       valid = subst IsTopology same (left.valid (valid count 0 0 ls taken));
       names = names_stay (written_under guards count t limit ls) (written count 0 0 ls) labels_stay ∙ names count 0 0 ls taken;
       labels_stay = labels_stay;
+      nests = λ n h. subst (λ y. AllByRecursion (NestsTo n) (bounds.objects_features y.objects)) same (left.nests n (nests count 0 0 n ls h));
       crosses = λ e. subst (CrossesNoMore (written count 0 0 ls)) same (left.crosses e);
       simplified = same;
     }

@@ -1,9 +1,13 @@
 pub mod Agreeing
+pub mod AtZero
 pub mod Chosen
 pub mod Covered
 pub mod Guarded
+pub mod GuardedArcs
+pub mod GuardedMade
 pub mod Kept
 pub mod Laid
 pub mod Made
 pub mod Snapping
+pub mod Split
 pub mod Unvisited

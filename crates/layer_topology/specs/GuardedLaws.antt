@@ -1,23 +1,29 @@
 -- What is true of what is left of a topology, and of what is written of layers, where guards are asked for.
-use Rattle.std.specs.Prelude.{◌≡◌, ℕ, true, Option, map}
+use Rattle.std.specs.Prelude.{◌≡◌, ℕ, ◌≤◌, true, Option, map}
+use Rattle.std.specs.List.{AllByRecursion}
 use Rattle.build_meaning.specs.Layers.{Named, names_of}
+use Rattle.geojson_types.specs.Nesting.{feature_nesting}
 use Rattle.layer_topology.specs.declared.guards.Guards.{Guards}
 use Rattle.layer_topology.specs.Guarded.{simplified_under, CrossesNoMore}
 use Rattle.layer_topology.specs.GuardedWritten.{written_under}
 use Rattle.layer_topology.specs.Written.{snapped_to, written, AreTaken}
 use Rattle.simplified_topology.specs.Assembled.{assembled}
+use Rattle.simplified_topology.specs.GridLaws.{EachFeature}
 use Rattle.simplified_topology.specs.Guarded.{guarded_arc_indexes}
 use Rattle.simplified_topology.specs.Laws.{labels}
 use Rattle.simplified_topology.specs.Quantized.{named_grid, quantized}
+use Rattle.topojson_meaning.specs.Bounds as bounds
 use Rattle.topojson_types.specs.Topologies.{Contents}
 use Rattle.topojson_types.specs.Validity.{IsTopology}
 
--- it is valid where the topology is, has the same names, identifiers, properties and transform, and where crossings may not be made has
--- no more of them
+-- it is valid where the topology is, has the same names, identifiers, properties and transform, its features nest no deeper, and where
+-- crossings may not be made it has no more of them
 pub record IsLeftOf (guards : Guards) (t limit : ℕ) (y : Contents) : Type 0 where
   pub valid : IsTopology y → IsTopology (simplified_under guards t limit y)
   pub labels_stay : labels (simplified_under guards t limit y) ≡ labels y
   pub transform : (simplified_under guards t limit y).transform ≡ y.transform
+  pub nests : (n : ℕ) → AllByRecursion (λ f. bounds.feature_nesting f ≤ n) (bounds.objects_features y.objects)
+      → AllByRecursion (λ f. bounds.feature_nesting f ≤ n) (bounds.objects_features (simplified_under guards t limit y).objects)
   pub crosses : guards.no_crossings ≡ true → CrossesNoMore y (simplified_under guards t limit y)
 
 abbrev pub SimplifiedUnderLaw : Type 0
@@ -25,18 +31,24 @@ SimplifiedUnderLaw = (guards : Guards) (t limit : ℕ) (y : Contents) → IsLeft
 
 -- ---- layers
 
--- What is written of layers is valid, with their names in order, and the identifiers and properties that are written of them without a guard; it
--- crosses no more than what is written at zero, where crossings may not be made; and it is what is left of that by the threshold and the
--- limit.
+-- What is written of layers is valid, with their names in order, and the identifiers and properties that are written of them without a guard; its
+-- features nest no deeper than those of the layers; it crosses no more than what is written at zero, where crossings may not be made; and it
+-- is what is left of that by the threshold and the limit.
 pub record IsWrittenUnder (guards : Guards) (count : Option ℕ) (t limit : ℕ) (ls : Named) : Type 0 where
   pub valid : IsTopology (written_under guards count t limit ls)
   pub names : map (λ o. o.0) (written_under guards count t limit ls).objects ≡ names_of ls
   pub labels_stay : labels (written_under guards count t limit ls) ≡ labels (written count 0 0 ls)
+  pub nests : (n : ℕ) → EachFeature (λ f. feature_nesting f ≤ n) ls
+      → AllByRecursion (λ f. bounds.feature_nesting f ≤ n) (bounds.objects_features (written_under guards count t limit ls).objects)
   pub crosses : guards.no_crossings ≡ true → CrossesNoMore (written count 0 0 ls) (written_under guards count t limit ls)
   pub simplified : simplified_under guards t limit (written count 0 0 ls) ≡ written_under guards count t limit ls
 
 abbrev pub WrittenUnderLaw : Type 0
 WrittenUnderLaw = (guards : Guards) (count : Option ℕ) (t limit : ℕ) (ls : Named) → AreTaken count ls → IsWrittenUnder guards count t limit ls
+
+-- at a threshold and a limit of zero nothing is removed, whatever guards are asked for
+abbrev pub GuardedAtZero : Type 0
+GuardedAtZero = (guards : Guards) (count : Option ℕ) (ls : Named) → AreTaken count ls → written_under guards count 0 0 ls ≡ written count 0 0 ls
 
 -- where crossings may not be made, it is assembled of the snapped layers, and put on the grid
 abbrev pub GuardedIsAssembledOf : Type 0

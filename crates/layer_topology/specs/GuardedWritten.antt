@@ -1,26 +1,56 @@
 -- The topology that is written of layers where guards are asked for.
-use Rattle.std.specs.Prelude.{ℕ, true, List, Option, if◌then◌else◌}
-use Rattle.build_meaning.specs.Built.{removed_count}
+use Rattle.std.specs.Prelude.{ℕ, Bool, true, ◌&&◌, not, List, [], Option, if◌then◌else◌}
+use Rattle.build_meaning.specs.Built.{built, removed_count}
 use Rattle.build_meaning.specs.Expected.{expected_dropped}
 use Rattle.build_meaning.specs.Layers.{Named}
+use Rattle.effective_area.specs.Calls.{Call}
 use Rattle.geometry.specs.declared.address.Dropped.{Dropped}
 use Rattle.layer_topology.specs.declared.guards.Guards.{Guards}
+use Rattle.layer_topology.specs.declared.level.Level.{Level}
+use Rattle.layer_topology.specs.declared.level.Level.TheVariants.{Fixed, Share}
+use Rattle.layer_topology.specs.Levels.{is_level, level_calls}
 use Rattle.layer_topology.specs.Written.{snapped_to, written}
-use Rattle.simplified_topology.specs.Assembled.{assembled_dropped, assembled_removed_count}
+use Rattle.simplified_topology.specs.Assembled.{assembled, assembled_dropped, assembled_removed_count}
 use Rattle.simplified_topology.specs.Guarded.{guarded_arc_indexes, guarded_contents}
 use Rattle.topojson_types.specs.Topologies.{Contents}
+
+-- ---- what is made of layers as they are
+
+-- where crossings may not be made, what is assembled of them over the arcs that they have at zero, reduced at once, and the others whole;
+-- otherwise what is built of them
+abbrev pub made_under : Guards → ℕ → ℕ → Named → Contents
+made_under guards t limit ls = if guards.no_crossings then assembled (guarded_arc_indexes true t ls) limit ls else built t limit ls
+
+-- their lines and rings that are then dropped, in reading order
+abbrev pub made_dropped_under : Guards → ℕ → ℕ → Named → List Dropped
+made_dropped_under guards t limit ls = if guards.no_crossings then assembled_dropped (guarded_arc_indexes true t ls) limit ls else expected_dropped t limit ls
+
+-- how many positions are then removed from the arcs that stay
+abbrev pub made_removed_under : Guards → ℕ → ℕ → Named → ℕ
+made_removed_under guards t limit ls = if guards.no_crossings then assembled_removed_count (guarded_arc_indexes true t ls) limit ls else removed_count t limit ls
+
+-- ---- what is written of them
 
 -- where crossings may not be made, what is left of the one that is written at zero with all its arcs reduced at once, and otherwise the one
 -- that is written at the threshold
 abbrev pub written_under : Guards → Option ℕ → ℕ → ℕ → Named → Contents
 written_under guards count t limit ls = if guards.no_crossings then guarded_contents true t limit (written count 0 0 ls) else written count t limit ls
 
--- the lines and rings of the layers that are then dropped, in reading order
+-- the lines and rings of the snapped layers that are then dropped, in reading order
 abbrev pub lines_dropped_under : Guards → Option ℕ → ℕ → ℕ → Named → List Dropped
-lines_dropped_under guards count t limit ls =
-    if guards.no_crossings then assembled_dropped (guarded_arc_indexes true t (snapped_to count ls)) limit (snapped_to count ls) else expected_dropped t limit (snapped_to count ls)
+lines_dropped_under guards count t limit ls = made_dropped_under guards t limit (snapped_to count ls)
 
 -- how many positions are then removed from the arcs that stay
 abbrev pub positions_removed_under : Guards → Option ℕ → ℕ → ℕ → Named → ℕ
-positions_removed_under guards count t limit ls =
-    if guards.no_crossings then assembled_removed_count (guarded_arc_indexes true t (snapped_to count ls)) limit (snapped_to count ls) else removed_count t limit (snapped_to count ls)
+positions_removed_under guards count t limit ls = made_removed_under guards t limit (snapped_to count ls)
+
+-- ---- levels
+
+-- the level may be asked for with these guards: a share only where crossings may be made
+abbrev pub is_level_under : Guards → Level → Bool
+is_level_under guards (Fixed t) = is_level (Fixed t)
+is_level_under guards (Share p q) = not guards.no_crossings && is_level (Share p q)
+
+-- what a reducer is asked for: nothing where crossings may not be made, as all arcs are then reduced at once
+abbrev pub calls_under : Guards → Option ℕ → Level → Named → List Call
+calls_under guards count level ls = if guards.no_crossings then [] else level_calls count level ls

@@ -1,13 +1,16 @@
 // Laws of the definitions. A function here changes nothing: its contract is the law.
-ghost use Rattle.layer_topology.specs.GuardedLaws.{GuardedIsAssembledOf, SimplifiedUnderLaw, WrittenUnderLaw};
+ghost use Rattle.layer_topology.specs.GuardedLaws.{GuardedAtZero, GuardedIsAssembledOf, SimplifiedUnderLaw, WrittenUnderLaw};
 
 use crate::laws::{simplifies_to_written, written_laws};
+use guarded_meaning::kept_by_weight;
 use simplified_topology::{
     guarded_crossings_never_rise, guarded_is_assembled, guarded_is_valid, guarded_keeps,
     guarded_none_stays_none, reduced_is_valid, simplified_keeps, snapped_are_on,
+    unguarded_is_simplified,
 };
 
-/// What is left of a valid topology is valid, with the same names, identifiers, properties and transform, whatever guards are asked for.
+/// What is left of a valid topology is valid, with the same names, identifiers, properties and transform, and nests no deeper, whatever guards
+/// are asked for.
 /// Where no crossing may be made, no more pairs of its segments meet badly than of the topology, and none where none of that did.
 pub fn simplified_under_law()
     ensures { SimplifiedUnderLaw }
@@ -28,6 +31,15 @@ pub fn written_under_law()
     simplified_under_law();
     simplifies_to_written();
     written_laws();
+}
+
+/// What is written of layers at a threshold and a limit of zero is the same whatever guards are asked for.
+pub fn guarded_at_zero()
+    ensures { GuardedAtZero }
+{
+    kept_by_weight();
+    unguarded_is_simplified();
+    simplifies_to_written();
 }
 
 /// Where no crossing may be made, it is assembled of the snapped layers: of the arcs that they have at zero, reduced at once, and of the others

@@ -8,17 +8,21 @@
 mod cells;
 mod choosing;
 mod guarded_laws;
+mod guarding;
 mod guards;
 mod laws;
 mod layers;
 mod level;
 mod making;
 mod objects;
+mod splitting;
 mod topology;
 mod transforms;
 
 pub use choosing::{reduced_line, weigh_arcs};
-pub use guarded_laws::{guarded_is_assembled_of, simplified_under_law, written_under_law};
+pub use guarded_laws::{
+    guarded_at_zero, guarded_is_assembled_of, simplified_under_law, written_under_law,
+};
 pub use guards::Guards;
 pub use laws::{simplifies_to_written, written_laws};
 pub use layers::snap_layers;

@@ -1,41 +1,53 @@
 // Making the topology of layers.
-ghost use Rattle.std.specs.Prelude.{◌≡◌, ◌<◌, ◌≤◌, ◌^◌, ◌++◌, IfOk, length, map, true};
+ghost use Rattle.std.specs.Prelude.{◌≡◌, ◌<◌, ◌≤◌, ◌^◌, ◌++◌, [], IfOk, if◌then◌else◌, length, map, true};
 ghost use Rattle.arc_table.specs.Arcs.{table_of};
 ghost use Rattle.build_meaning.specs.Built.{built, removed_count};
 ghost use Rattle.build_meaning.specs.Expected.{expected_dropped};
 ghost use Rattle.build_meaning.specs.Laws.{AreSound};
-ghost use Rattle.build_meaning.specs.Layers.{layers_of, names_of};
+ghost use Rattle.build_meaning.specs.Layers.{Named, layers_of, names_of};
 ghost use Rattle.byte_ends.specs.Ends.{saturated};
 ghost use Rattle.cutter.specs.Slices.{split_of};
 ghost use Rattle.elimination_meaning.specs.Elimination.{reduce};
 ghost use Rattle.geometry.specs.Units.{threshold_limit};
 ghost use Rattle.simplified_topology.specs.Quantized.{AreInputs, IsCount, named_grid};
-ghost use Rattle.layer_topology.specs.Levels.{calls_at, chosen_at, is_level, level_calls, level_chosen, level_threshold, threshold_at};
-ghost use Rattle.layer_topology.specs.Written.{AreTaken, snapped_to, written};
-ghost use Rattle.simplified_topology.specs.Assembled.{arcs_of_layers};
+ghost use Rattle.layer_topology.specs.GuardedWritten.{calls_under, is_level_under, lines_dropped_under, made_dropped_under, made_removed_under, made_under};
+ghost use Rattle.layer_topology.specs.GuardedWritten.{positions_removed_under, written_under};
+ghost use Rattle.layer_topology.specs.Levels.{calls_at, chosen_at, is_level, level_chosen, level_threshold, threshold_at};
+ghost use Rattle.layer_topology.specs.Written.{AreTaken, snapped_to};
+ghost use Rattle.simplified_topology.specs.Assembled.{arcs_of_layers, assembled, assembled_dropped, assembled_removed_count};
+ghost use Rattle.simplified_topology.specs.Guarded.{guarded_arc_indexes};
 ghost use Rattle.simplified_topology.specs.Simplified.{retained_arcs};
 ghost use Rattle.linework.specs.Linework.{linework};
 ghost use Rattle.topojson_types.specs.Validity.{AreDistinct};
+ghost use Rattle.topo_model.specs.Retaining.{IsDraftOf};
 
 use crate::choosing::left_of_arcs;
+use crate::guarded_laws::guarded_is_assembled_of;
+use crate::guarding::guarded_arcs;
+use crate::guards::Guards;
 use crate::layers::snap_layers;
 use crate::level::Level;
 use crate::topology::on_grid;
 use arc_table::Table;
 use cutter::{Pieces, cut};
 use effective_area::Reducer;
-use geojson_types::{Dropped, Layer};
+use elimination_meaning::zero_law;
+use geojson_types::{Dropped, Layer, Position};
 use grid_snap::Grid;
+use guarded_meaning::arcs_rise;
 use json_value::{Items, OwnText};
 use linework::{Lines, OfLayers, Vertices};
 use owned_values::Memory;
 use simplified_topology::{
     arc_indexes_reach, assembles_to_built, assembling_drops_expected, assembling_removes,
-    built_cells_are_on, snapped_are_on,
+    built_cells_are_on, guarded_arc_indexes_reach, guarded_is_assembled, snapped_are_on,
 };
 use std::alloc::Global;
-use topo_model::{assemble_retained, position_counts};
-use topojson_types::{ArcRef, Cell, Topology};
+use topo_model::{
+    assemble_draft, assemble_retained, draft_arcs, draft_uses_at_zero, drafted_objects,
+    position_counts,
+};
+use topojson_types::{ArcRef, Cell, TopoObject, Topology};
 
 /// The lines and rings of the layers, cut. What was known of their positions is given back.
 fn cut_lines(alloc: Global, seed: u64, layers: &[(OwnText, Layer)]) -> Result<Pieces, Memory>
@@ -135,6 +147,117 @@ fn reduced_topology<Q: Reducer>(
     }
 }
 
+/// Of each arc of layers the positions that stay where those that the draft of the layers uses are reduced at once, no crossing may be
+/// made, and the others stay whole.
+fn left_of_draft(
+    alloc: Global,
+    objects: &[(OwnText, TopoObject)],
+    arcs: Vec<Items<Position>>,
+    threshold: u128,
+) -> Result<Vec<Items<Cell>>, Memory>
+    ensures { IfOk result (λ left. (ls : Named) → IsDraftOf ls objects.now → arcs.items ≡ arcs_of_layers ls
+        → left.items ≡ retained_arcs (guarded_arc_indexes true threshold ls) (arcs_of_layers ls)) }
+{
+    draft_uses_at_zero();
+    zero_law();
+    arcs_rise();
+    let used = draft_arcs(alloc, objects, arcs.len())?;
+    guarded_arcs(alloc, arcs, &used, threshold)
+}
+
+/// The topology that is assembled of a draft of layers whose arcs are reduced at once, where no crossing may be made, without rings under
+/// the limit, the lines and rings that are dropped, in reading order, and how many positions were removed from the arcs that stay.
+fn assembled_topology(
+    alloc: Global,
+    objects: Vec<(OwnText, TopoObject)>,
+    arcs: Vec<Items<Position>>,
+    threshold: u128,
+    ring_limit: u128,
+) -> Result<(Topology, Vec<Dropped>, u64), Memory>
+    requires draft { (ls : Named) × IsDraftOf ls objects.items × (arcs.items ≡ arcs_of_layers ls) }
+    requires limit { ring_limit ≤ threshold_limit }
+    ensures topology { IfOk result (λ r. (ls : Named) → IsDraftOf ls objects.items → arcs.items ≡ arcs_of_layers ls
+        → r.0 ≡ assembled (guarded_arc_indexes true threshold ls) ring_limit ls) }
+    ensures dropped { IfOk result (λ r. (ls : Named) → IsDraftOf ls objects.items → arcs.items ≡ arcs_of_layers ls
+        → r.1.items ≡ assembled_dropped (guarded_arc_indexes true threshold ls) ring_limit ls) }
+    ensures removed_count { IfOk result (λ r. (ls : Named) → IsDraftOf ls objects.items → arcs.items ≡ arcs_of_layers ls
+        → r.2 ≡ saturated (assembled_removed_count (guarded_arc_indexes true threshold ls) ring_limit ls)) }
+    ensures few { IfOk result (λ r. length r.0.arcs < 2 ^ 63) }
+{
+    guarded_arc_indexes_reach();
+    let counts = position_counts(alloc, &arcs)?;
+    match left_of_draft(alloc, &objects, arcs, threshold) {
+        Ok(left) => assemble_draft(alloc, objects, left, &counts, ring_limit),
+        Err(fault) => {
+            drop(objects);
+            Err(fault)
+        }
+    }
+}
+
+/// The topology that is assembled of named layers whose arcs are reduced at once, where no crossing may be made, and what comes with it.
+/// The layers are freed before an arc is reduced.
+fn guarded_topology(
+    alloc: Global,
+    seed: u64,
+    layers: Vec<(OwnText, Layer)>,
+    threshold: u128,
+    ring_limit: u128,
+) -> Result<(Topology, Vec<Dropped>, u64), Memory>
+    requires sound { AreSound layers.items }
+    requires names { AreDistinct (names_of layers.items) }
+    requires limit { ring_limit ≤ threshold_limit }
+    ensures topology { IfOk result (λ r. r.0 ≡ assembled (guarded_arc_indexes true threshold layers.items) ring_limit layers.items) }
+    ensures dropped { IfOk result (λ r. r.1.items ≡ assembled_dropped (guarded_arc_indexes true threshold layers.items) ring_limit layers.items) }
+    ensures removed_count { IfOk result (λ r. r.2 ≡ saturated (assembled_removed_count (guarded_arc_indexes true threshold layers.items) ring_limit layers.items)) }
+    ensures few { IfOk result (λ r. length r.0.arcs < 2 ^ 63) }
+{
+    match shared_arcs(alloc, seed, &layers) {
+        Ok(table) => {
+            let (arcs, refs) = table.into_parts();
+            let objects = drafted_objects(alloc, layers, refs)?;
+            assembled_topology(alloc, objects, arcs, threshold, ring_limit)
+        }
+        Err(fault) => {
+            drop(layers);
+            Err(fault)
+        }
+    }
+}
+
+/// The topology that is made of named layers under these guards, without rings under the limit, the lines and rings that are dropped, in
+/// reading order, how many positions were removed from the arcs that stay, and the threshold, where it was chosen.
+fn topology_under<Q: Reducer>(
+    alloc: Global,
+    reducer: &mut Q,
+    seed: u64,
+    layers: Vec<(OwnText, Layer)>,
+    guards: Guards,
+    level: Level,
+    ring_limit: u128,
+) -> Result<(Topology, Vec<Dropped>, u64, Option<u128>), Memory>
+    requires level { is_level_under guards level ≡ true }
+    requires sound { AreSound layers.items }
+    requires names { AreDistinct (names_of layers.items) }
+    requires limit { ring_limit ≤ threshold_limit }
+    ensures topology { IfOk result (λ r. r.0 ≡ made_under guards (threshold_at level (arcs_of_layers layers.items)) ring_limit layers.items) }
+    ensures dropped { IfOk result (λ r. r.1.items ≡ made_dropped_under guards (threshold_at level (arcs_of_layers layers.items)) ring_limit layers.items) }
+    ensures removed_count { IfOk result (λ r. r.2 ≡ saturated (made_removed_under guards (threshold_at level (arcs_of_layers layers.items)) ring_limit layers.items)) }
+    ensures chosen { IfOk result (λ r. r.3 ≡ chosen_at level (arcs_of_layers layers.items)) }
+    ensures called { IfOk result (λ _. Q.calls reducer.new ≡ Q.calls reducer.old ++ (if guards.no_crossings then [] else calls_at level (arcs_of_layers layers.items))) }
+    ensures few { IfOk result (λ r. length r.0.arcs < 2 ^ 63) }
+{
+    match level {
+        Level::Fixed(threshold) if guards.no_crossings => {
+            let (topology, dropped, removed_count) = guarded_topology(
+                alloc, seed, layers, threshold, ring_limit,
+            )?;
+            Ok((topology, dropped, removed_count, None))
+        }
+        _ => reduced_topology(alloc, reducer, seed, layers, level, ring_limit),
+    }
+}
+
 /// The layers snapped to the grid that is asked for, if one is, and the grid.
 fn snapped_layers(
     layers: Vec<(OwnText, Layer)>,
@@ -152,7 +275,8 @@ fn snapped_layers(
 
 /// The topology of named layers: they are snapped to the grid that is asked for, if one is, the lines and rings are cut into the arcs
 /// that they share, each arc is reduced once at the threshold (twice an area, in square units) that the level gives or for which all arcs
-/// keep its share, rings that then enclose less than half the ring limit are left out, and positions on a grid become cells of it. With
+/// keep its share, rings that then enclose less than half the ring limit are left out, and positions on a grid become cells of it. Where
+/// the guards forbid crossings, the arcs that the topology has at zero are reduced at once in place of that, and the others stay whole. With
 /// it come the lines and rings that are dropped, in reading order, how many positions were removed from the arcs that stay, a count that
 /// stays at `u64::MAX` where it would pass it, and the threshold, where it was chosen.
 pub fn topology_of_layers<Q: Reducer>(
@@ -161,24 +285,27 @@ pub fn topology_of_layers<Q: Reducer>(
     seed: u64,
     layers: Vec<(OwnText, Layer)>,
     grid: Option<u32>,
+    guards: Guards,
     level: Level,
     ring_limit: u128,
 ) -> Result<(Topology, Vec<Dropped>, u64, Option<u128>), Memory>
-    requires level { is_level level ≡ true }
+    requires level { is_level_under guards level ≡ true }
     requires taken { AreTaken grid layers.items }
     requires limit { ring_limit ≤ threshold_limit }
-    ensures topology { IfOk result (λ r. r.0 ≡ written grid (level_threshold grid level layers.items) ring_limit layers.items) }
-    ensures dropped { IfOk result (λ r. r.1.items ≡ expected_dropped (level_threshold grid level layers.items) ring_limit (snapped_to grid layers.items)) }
-    ensures removed_count { IfOk result (λ r. r.2 ≡ saturated (removed_count (level_threshold grid level layers.items) ring_limit (snapped_to grid layers.items))) }
+    ensures topology { IfOk result (λ r. r.0 ≡ written_under guards grid (level_threshold grid level layers.items) ring_limit layers.items) }
+    ensures dropped { IfOk result (λ r. r.1.items ≡ lines_dropped_under guards grid (level_threshold grid level layers.items) ring_limit layers.items) }
+    ensures removed_count { IfOk result (λ r. r.2 ≡ saturated (positions_removed_under guards grid (level_threshold grid level layers.items) ring_limit layers.items)) }
     ensures chosen { IfOk result (λ r. r.3 ≡ level_chosen grid level layers.items) }
-    ensures called { IfOk result (λ _. Q.calls reducer.new ≡ Q.calls reducer.old ++ level_calls grid level layers.items) }
+    ensures called { IfOk result (λ _. Q.calls reducer.new ≡ Q.calls reducer.old ++ calls_under guards grid level layers.items) }
     ensures few { IfOk result (λ r. length r.0.arcs < 2 ^ 63) }
 {
     snapped_are_on();
     built_cells_are_on();
+    guarded_is_assembled();
+    guarded_is_assembled_of();
     let (snapped, grid) = snapped_layers(layers, grid);
-    let (topology, dropped, removed_count, chosen) = reduced_topology(
-        alloc, reducer, seed, snapped, level, ring_limit,
+    let (topology, dropped, removed_count, chosen) = topology_under(
+        alloc, reducer, seed, snapped, guards, level, ring_limit,
     )?;
     match on_grid(alloc, topology, grid) {
         Ok(topology) => Ok((topology, dropped, removed_count, chosen)),

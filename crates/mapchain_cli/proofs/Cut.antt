@@ -1,5 +1,5 @@
 -- Texts that weren't written whole, and summaries that there are none of.
-use Rattle.std.proofs.Common.{◌≡◌, inr, ℕ, List, Err, refl, ap, subst, ◌∙◌}
+use Rattle.std.proofs.Common.{◌≡◌, inr, ℕ, Bool, List, Err, refl, ap, subst, ◌∙◌}
 use Rattle.byte_ends.specs.Ends.{Drained, Fed}
 use Rattle.byte_ends.specs.Writes.{Sends}
 use Rattle.byte_ends.specs.declared.sink.WriteFault.{WriteFault}
@@ -13,7 +13,7 @@ use Rattle.inputs.specs.declared.file_fault.FileFault.{FileFault}
 use Rattle.inputs.specs.declared.file_fault.FileFault.TheVariants.{Read, Json, Topo, NoObject, Write, Memory}
 use Rattle.reports.specs.Summaries.{summary_text}
 use Rattle.reports.specs.declared.summary.Summary.{Summary}
-use Rattle.mapchain_engine.specs.Files.{FailsToGive, IsSummarised}
+use Rattle.mapchain_engine.specs.Files.{FailsToGive, IsReported}
 use Rattle.mapchain_engine.specs.Geo.{SendsText}
 use Rattle.mapchain_cli.specs.Endings.{IsSummaryFault}
 use Rattle.mapchain_cli.specs.Runs.{IsHelped}
@@ -26,20 +26,20 @@ help_cut old new err_old err_new text (write.Write sent) reported_as status is c
     (text, sent, inr (cut, subst (λ e. Prints err_old err_new (fault_text e)) is reported, at ∙ ap status_of is))
 
 -- no summary can be had of the source
-pub summary_fault : (sink : Drained) (s u : Fed) (e : FileFault) → FailsToGive s u e → IsSummaryFault sink sink s u e
-summary_fault sink s u (Write sent) h = absurd h.2
-summary_fault sink s u (Read fault) h = (refl, h)
-summary_fault sink s u (Json fault) h = (refl, h)
-summary_fault sink s u (Topo fault) h = (refl, h)
-summary_fault sink s u NoObject h = (refl, h)
-summary_fault sink s u Memory h = (refl, h)
+pub summary_fault : (crossings : Bool) (sink : Drained) (s u : Fed) (e : FileFault) → FailsToGive s u e → IsSummaryFault crossings sink sink s u e
+summary_fault crossings sink s u (Write sent) h = absurd h.2
+summary_fault crossings sink s u (Read fault) h = (refl, h)
+summary_fault crossings sink s u (Json fault) h = (refl, h)
+summary_fault crossings sink s u (Topo fault) h = (refl, h)
+summary_fault crossings sink s u NoObject h = (refl, h)
+summary_fault crossings sink s u Memory h = (refl, h)
 
 -- a summary that was cut short
-pub summary_cut : (old new : Drained) (s u : Fed) (summary : Summary) (e : FileFault) → IsSummarised s u summary
-    → SendsText old new (summary_text summary) (Err e) → IsSummaryFault old new s u e
-summary_cut old new s u summary (Write sent) is w = (summary, is, w)
-summary_cut old new s u summary (Read fault) is w = absurd w
-summary_cut old new s u summary (Json fault) is w = absurd w
-summary_cut old new s u summary (Topo fault) is w = absurd w
-summary_cut old new s u summary NoObject is w = absurd w
-summary_cut old new s u summary Memory is w = absurd w
+pub summary_cut : (crossings : Bool) (old new : Drained) (s u : Fed) (summary : Summary) (e : FileFault) → IsReported crossings s u summary
+    → SendsText old new (summary_text summary) (Err e) → IsSummaryFault crossings old new s u e
+summary_cut crossings old new s u summary (Write sent) is w = (summary, is, w)
+summary_cut crossings old new s u summary (Read fault) is w = absurd w
+summary_cut crossings old new s u summary (Json fault) is w = absurd w
+summary_cut crossings old new s u summary (Topo fault) is w = absurd w
+summary_cut crossings old new s u summary NoObject is w = absurd w
+summary_cut crossings old new s u summary Memory is w = absurd w

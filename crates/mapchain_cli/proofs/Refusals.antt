@@ -3,15 +3,16 @@ use Rattle.std.proofs.Common.{◌≡◌, ◌⊎◌, inl, inr, length, map, Some,
 use Rattle.byte_ends.specs.Ends.{Drained}
 use Rattle.command_words.specs.declared.request.Request.{Request}
 use Rattle.inputs.specs.declared.fault.BuildFault.{BuildFault}
+use Rattle.inputs.specs.declared.file_fault.FileFault.{FileFault}
 use Rattle.inputs.specs.Names.{name_fault}
 use Rattle.inputs.specs.Sources.{Sources}
 use Rattle.mapchain_engine.specs.Building.{IsLateFault}
 use Rattle.mapchain_engine.specs.declared.options.Options.{Options}
-use Rattle.mapchain_cli.specs.Asking.{IsRefused, OpensSome, RefusesBuild}
+use Rattle.mapchain_cli.specs.Asking.{HasBadArea, IsRefused, OpensSome, RefusesBuild}
 use Rattle.mapchain_cli.specs.Endings.{IsUnopened, RefusesLayers}
-use Rattle.mapchain_cli.specs.Files.{AreOpened, FileUse, Layers, OpensPrefix, ReadsAll}
+use Rattle.mapchain_cli.specs.Files.{AreOpened, FileState, FileUse, Layers, OpensPrefix, ReadsAll, used}
 use Rattle.mapchain_cli.specs.declared.ending.Ending.{Ending}
-use Rattle.mapchain_cli.specs.declared.ending.Ending.TheVariants.{Refused, Memory}
+use Rattle.mapchain_cli.specs.declared.ending.Ending.TheVariants.{BadArea, BadRingArea, BadShare, FileRefused, Refused, Memory}
 use Rattle.mapchain_cli.proofs.Opened.{names_of_opened}
 
 -- the engine refuses to build
@@ -48,3 +49,13 @@ pub layers_refuse : (files : FileUse) (request : Request) (options : Options) (l
     → (OpensPrefix (length layers) files → OpensSome files request) → EndsBuild files options layers old new e → IsRefused files request old new e
 layers_refuse files request options layers old new e asked prefix (inl h) = subst (IsRefused files request old new) (sym h.0) (h.1, prefix h.2)
 layers_refuse files request options layers old new e asked prefix (inr h) = subst (IsRefused files request old new) (sym h.1) (asked h.0 h.2)
+
+-- what is asked for is refused by its words, before a file is opened, or memory is wanting
+pub words_refuse : (s : FileState) (request : Request) (out : Drained) (e : Ending) → ((f : BuildFault) → HasBadArea request (Refused f) → ⊥) → ((f : FileFault) → HasBadArea request (FileRefused f) → ⊥)
+    → OpensSome (used s s) request → HasBadArea request e → IsRefused (used s s) request out out e
+words_refuse s request out BadArea build file opens h = (refl, refl, h)
+words_refuse s request out BadRingArea build file opens h = (refl, refl, h)
+words_refuse s request out BadShare build file opens h = (refl, refl, h)
+words_refuse s request out (Refused f) build file opens h = absurd (build f h)
+words_refuse s request out (FileRefused f) build file opens h = absurd (file f h)
+words_refuse s request out Memory build file opens h = (refl, opens)

@@ -37,22 +37,27 @@ level_of t (Some keep) = option_map (λ s. level.Share s.0 s.1) (share_of keep.n
 abbrev pub guards_of : Bool → Guards
 guards_of no_crossings = record { no_crossings = no_crossings }
 
--- whether coordinates may be rounded, the grid, and the texts of the area or the share whose level the options have, and of the least
--- ring area
-abbrev pub IsAskedFor : Bool → Option ℕ → List ℕ → Option (Bor (List ℕ)) → List ℕ → Options → Type 0
-IsAskedFor exact grid area keep ring_area options =
-    (options.exact ≡ exact) × (options.grid ≡ grid) × ((t : ℕ) × (threshold_of area ≡ Some t) × (level_of t keep ≡ Some options.level))
-    × (threshold_of ring_area ≡ Some options.ring_limit)
+-- this is the level of the texts of an area and of a share in its place
+abbrev pub IsLevelOf : List ℕ → Option (Bor (List ℕ)) → Level → Type 0
+IsLevelOf area keep level = (t : ℕ) × (threshold_of area ≡ Some t) × (level_of t keep ≡ Some level)
+
+-- whether coordinates may be rounded, the grid, the texts of the area or the share whose level the options have, and of the least ring
+-- area, and whether crossings may not be made
+abbrev pub IsAskedFor : Bool → Option ℕ → List ℕ → Option (Bor (List ℕ)) → List ℕ → Bool → Options → Type 0
+IsAskedFor exact grid area keep ring_area no_crossings options =
+    (options.exact ≡ exact) × (options.grid ≡ grid) × IsLevelOf area keep options.level
+    × (threshold_of ring_area ≡ Some options.ring_limit) × (options.guards ≡ guards_of no_crossings)
 
 -- what was asked for was written of these files: a build with its options, or what is left of a topology, which have a report; the
 -- features of an object; a summary
 abbrev pub IsAnswered : FileUse → Request → Drained → Drained → Option Report → Type 0
-IsAnswered files (Build layers exact grid area keep ring_area) old new (Some report) =
-    (options : Options) × IsAskedFor exact grid area.now keep ring_area.now options × BuildsOf files options (texts_of layers.items) old new report
-IsAnswered files (Simplify area ring_area no_crossings path) old new (Some report) =
-    (t : ℕ) × (limit : ℕ) × (threshold_of area.now ≡ Some t) × (threshold_of ring_area.now ≡ Some limit) × SimplifiesOf files (guards_of no_crossings) t limit path.now old new report
+IsAnswered files (Build layers exact grid area keep ring_area no_crossings) old new (Some report) =
+    (options : Options) × IsAskedFor exact grid area.now keep ring_area.now no_crossings options × BuildsOf files options (texts_of layers.items) old new report
+IsAnswered files (Simplify area keep ring_area no_crossings path) old new (Some report) =
+    (level : Level) × (limit : ℕ) × IsLevelOf area.now keep level × (threshold_of ring_area.now ≡ Some limit)
+    × SimplifiesOf files (guards_of no_crossings) level limit path.now old new report
 IsAnswered files (Geo name path) old new None = DecodesOf files name.now path.now old new
-IsAnswered files (Stat path) old new None = Summarises files path.now old new
+IsAnswered files (Stat crossings path) old new None = Summarises files crossings path.now old new
 IsAnswered files request old new report = ⊥
 
 -- the first of these areas has no threshold, or else the second hasn't, or memory was refused
@@ -67,46 +72,47 @@ abbrev pub IsShareRefused : List ℕ → List ℕ → Option (Bor (List ℕ)) �
 IsShareRefused area ring_area keep =
     ((t : ℕ) × (threshold_of area ≡ Some t) × (level_of t keep ≡ None)) × ((limit : ℕ) × (threshold_of ring_area ≡ Some limit))
 
--- what a build is asked for is refused in this way: by an area, or else by its share
-abbrev pub BuildIsRefused : List ℕ → Option (Bor (List ℕ)) → List ℕ → Ending → Type 0
-BuildIsRefused area keep ring_area BadShare = IsShareRefused area ring_area keep
-BuildIsRefused area keep ring_area e = AreRefused area ring_area e
+-- they are refused in this way: an area, or else the share
+abbrev pub LevelIsRefused : List ℕ → Option (Bor (List ℕ)) → List ℕ → Ending → Type 0
+LevelIsRefused area keep ring_area BadShare = IsShareRefused area ring_area keep
+LevelIsRefused area keep ring_area e = AreRefused area ring_area e
 
 -- the areas or the share that are asked for are refused in this way
 abbrev pub HasBadArea : Request → Ending → Type 0
-HasBadArea (Build layers exact grid area keep ring_area) e = BuildIsRefused area.now keep ring_area.now e
-HasBadArea (Simplify area ring_area no_crossings path) e = AreRefused area.now ring_area.now e
+HasBadArea (Build layers exact grid area keep ring_area no_crossings) e = LevelIsRefused area.now keep ring_area.now e
+HasBadArea (Simplify area keep ring_area no_crossings path) e = LevelIsRefused area.now keep ring_area.now e
 HasBadArea request e = ⊥
 
 -- why the build that is asked for isn't done
 abbrev pub RefusesBuild : FileUse → Request → Drained → Drained → BuildFault → Type 0
-RefusesBuild files (Build layers exact grid area keep ring_area) old new e =
-    (options : Options) × IsAskedFor exact grid area.now keep ring_area.now options × RefusesLayers files options (texts_of layers.items) old new e
+RefusesBuild files (Build layers exact grid area keep ring_area no_crossings) old new e =
+    (options : Options) × IsAskedFor exact grid area.now keep ring_area.now no_crossings options × RefusesLayers files options (texts_of layers.items) old new e
 RefusesBuild files request old new e = ⊥
 
 -- why the topology of a file isn't simplified, decoded or summarised as is asked for
 abbrev pub RefusesTopology : FileUse → Request → Drained → Drained → FileFault → Type 0
-RefusesTopology files (Simplify area ring_area no_crossings path) old new e =
-    (t : ℕ) × (limit : ℕ) × (threshold_of area.now ≡ Some t) × (threshold_of ring_area.now ≡ Some limit)
-    × RefusesFile files path.now old new (λ s u. IsSimplifyFault (guards_of no_crossings) t limit s u old new) e
+RefusesTopology files (Simplify area keep ring_area no_crossings path) old new e =
+    (level : Level) × (limit : ℕ) × IsLevelOf area.now keep level × (threshold_of ring_area.now ≡ Some limit)
+    × RefusesFile files path.now old new (λ s u. IsSimplifyFault (guards_of no_crossings) level limit s u old new) e
 RefusesTopology files (Geo name path) old new e = RefusesFile files path.now old new (λ s u. IsGeoFault name.now s u old new) e
-RefusesTopology files (Stat path) old new e = RefusesFile files path.now old new (IsSummaryFault old new) e
+RefusesTopology files (Stat crossings path) old new e = RefusesFile files path.now old new (IsSummaryFault crossings old new) e
 RefusesTopology files request old new e = ⊥
 
 -- a prefix of the files that the request names was opened
 abbrev pub OpensSome : FileUse → Request → Type 0
-OpensSome files (Build layers exact grid area keep ring_area) = OpensPrefix (length (texts_of layers.items)) files
+OpensSome files (Build layers exact grid area keep ring_area no_crossings) = OpensPrefix (length (texts_of layers.items)) files
 OpensSome files request = Opened 0 files
 
 -- a reducer that was asked for so much before was asked for this since: to reduce each arc of the layers, or of the topology that is simplified, as
--- the sources that are noted were read, at the threshold of the area, and for nothing else
+-- the sources that are noted were read, at the threshold of the area, or for nothing where a share takes its place or no crossing may be made,
+-- and for nothing else
 abbrev pub CallsFor : FileUse → Request → List Call → List Call → Type 0
-CallsFor files (Build layers exact grid area keep ring_area) before after =
-    (options : Options) × (olds : Sources) × (news : Sources) × IsAskedFor exact grid area.now keep ring_area.now options
+CallsFor files (Build layers exact grid area keep ring_area no_crossings) before after =
+    (options : Options) × (olds : Sources) × (news : Sources) × IsAskedFor exact grid area.now keep ring_area.now no_crossings options
     × AreOpened files.before.contents (texts_of layers.items) olds × (files.after.noted.sources ≡ Some news) × CallsForLayers options olds news before after
-CallsFor files (Simplify area ring_area no_crossings path) before after =
-    (t : ℕ) × (old : Fed) × (new : Fed) × (threshold_of area.now ≡ Some t) × IsOpened files.before.contents path.now old
-    × (files.after.noted.source ≡ Some new) × CallsForTopology (guards_of no_crossings) t old new before after
+CallsFor files (Simplify area keep ring_area no_crossings path) before after =
+    (level : Level) × (old : Fed) × (new : Fed) × IsLevelOf area.now keep level × IsOpened files.before.contents path.now old
+    × (files.after.noted.source ≡ Some new) × CallsForTopology (guards_of no_crossings) level old new before after
 CallsFor files request before after = after ≡ before
 
 -- why what was asked for isn't done

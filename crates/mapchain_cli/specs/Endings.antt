@@ -1,5 +1,5 @@
 -- What is written where a request is done, and why one isn't: of which files, in the words of the crates that read them.
-use Rattle.std.specs.Prelude.{◌≡◌, ◌⊎◌, ℕ, true, List, length, map, None, Some, slice_get}
+use Rattle.std.specs.Prelude.{◌≡◌, ◌⊎◌, ℕ, Bool, true, List, length, map, None, Some, slice_get}
 use Rattle.byte_ends.specs.Ends.{Fed, Drained, Takes}
 use Rattle.byte_ends.specs.Writes.{WritesPrefix}
 use Rattle.byte_ends.specs.declared.source.ReadFault.TheVariants as read
@@ -10,12 +10,13 @@ use Rattle.inputs.specs.declared.file_fault.FileFault.TheVariants as file
 use Rattle.inputs.specs.Names.{name_fault}
 use Rattle.inputs.specs.Sources.{Sources}
 use Rattle.layer_topology.specs.declared.guards.Guards.{Guards}
+use Rattle.layer_topology.specs.declared.level.Level.{Level}
 use Rattle.reports.specs.declared.report.Report.{Report}
 use Rattle.reports.specs.declared.summary.Summary.{Summary}
 use Rattle.reports.specs.Summaries.{summary_text}
 use Rattle.mapchain_engine.specs.Building.{IsBuilt, IsLateFault}
 use Rattle.mapchain_engine.specs.declared.options.Options.{Options}
-use Rattle.mapchain_engine.specs.Files.{FailsToGive, IsSummarised}
+use Rattle.mapchain_engine.specs.Files.{FailsToGive, IsReported}
 use Rattle.mapchain_engine.specs.Geo.{IsDecoded}
 use Rattle.mapchain_engine.specs.Simplified.{IsSimplified}
 use Rattle.mapchain_cli.specs.Files.{AreOpened, FileUse, IsOpened, Layers, ReadsAll, ReadsOne, RefusedAfter}
@@ -30,14 +31,14 @@ pub record BuildsOf (files : FileUse) (options : Options) (layers : Layers) (old
   pub each_once : ReadsAll (length layers) sources_new files
   pub built : IsBuilt options sources_old sources_new old new report
 
--- what is left of the topology of the file of this path was written, where it is reduced at this threshold under these guards, without
+-- what is left of the topology of the file of this path was written, where it is reduced at this level under these guards, without
 -- rings under this limit
-pub record SimplifiesOf (files : FileUse) (guards : Guards) (threshold ring_limit : ℕ) (path : List ℕ) (old new : Drained) (report : Report) : Type 0 where
+pub record SimplifiesOf (files : FileUse) (guards : Guards) (level : Level) (ring_limit : ℕ) (path : List ℕ) (old new : Drained) (report : Report) : Type 0 where
   pub source_old : Fed
   pub source_new : Fed
   pub opened : IsOpened files.before.contents path source_old
   pub once : ReadsOne source_new files
-  pub simplified : IsSimplified guards threshold ring_limit source_old source_new old new report
+  pub simplified : IsSimplified guards level ring_limit source_old source_new old new report
 
 -- the text of the features of an object of this name was written, of the topology of the file of this path
 pub record DecodesOf (files : FileUse) (name path : List ℕ) (old new : Drained) : Type 0 where
@@ -52,14 +53,14 @@ pub record DecodesOf (files : FileUse) (name path : List ℕ) (old new : Drained
 abbrev pub SendsSummary : Drained → Drained → Summary → Type 0
 SendsSummary old new summary = Takes old new (summary_text summary) (length (summary_text summary)) × (new.failures ≡ 0) × (new.flushed ≡ true)
 
--- the summary was written of the topology of the file of this path
-pub record Summarises (files : FileUse) (path : List ℕ) (old new : Drained) : Type 0 where
+-- the summary was written of the topology of the file of this path, with its crossings (true) or without
+pub record Summarises (files : FileUse) (crossings : Bool) (path : List ℕ) (old new : Drained) : Type 0 where
   pub source_old : Fed
   pub source_new : Fed
   pub opened : IsOpened files.before.contents path source_old
   pub once : ReadsOne source_new files
   pub summary : Summary
-  pub reported : IsSummarised source_old source_new summary
+  pub reported : IsReported crossings source_old source_new summary
   pub sent : SendsSummary old new summary
 
 -- ---- why nothing is written whole: nothing is written unless the device failed
@@ -105,7 +106,7 @@ RefusesFile files path old new Fails e =
     ((new ≡ old) × (files.before.contents path ≡ None) × RefusedAfter 0 files × (e ≡ file.Read read.Read)) ⊎ IsRefusedFile files path Fails e
 
 -- why no summary is written whole: the device failed when it had taken a prefix of its text, or there is none
-abbrev pub IsSummaryFault : Drained → Drained → Fed → Fed → FileFault → Type 0
-IsSummaryFault sink_old sink_new old new (file.Write sent) =
-    (summary : Summary) × IsSummarised old new summary × WritesPrefix sink_old sink_new 0 (summary_text summary) sent
-IsSummaryFault sink_old sink_new old new e = (sink_new ≡ sink_old) × FailsToGive old new e
+abbrev pub IsSummaryFault : Bool → Drained → Drained → Fed → Fed → FileFault → Type 0
+IsSummaryFault crossings sink_old sink_new old new (file.Write sent) =
+    (summary : Summary) × IsReported crossings old new summary × WritesPrefix sink_old sink_new 0 (summary_text summary) sent
+IsSummaryFault crossings sink_old sink_new old new e = (sink_new ≡ sink_old) × FailsToGive old new e

@@ -16,10 +16,10 @@ use Rattle.mapchain_cli.specs.declared.ending.Ending.{Ending}
 use Rattle.mapchain_cli.specs.declared.ending.Ending.TheVariants.{Refused, FileRefused}
 
 abbrev pub is_build : Request → Bool
-is_build (Build layers exact grid area keep ring_area) = true
-is_build (Simplify area ring_area no_crossings path) = false
+is_build (Build layers exact grid area keep ring_area no_crossings) = true
+is_build (Simplify area keep ring_area no_crossings path) = false
 is_build (Geo name path) = false
-is_build (Stat path) = false
+is_build (Stat crossings path) = false
 
 -- how a run ends whose output couldn't be begun or kept, once it had taken so many bytes: as where its device fails
 abbrev pub unkept : Bool → ℕ → Ending

@@ -1,6 +1,6 @@
 // Doing a request whose output takes the place of a file.
 ghost use Rattle.std.specs.Prelude.{◌≡◌, IfOk};
-ghost use Rattle.command_words.specs.Requests.{IsGridInRange};
+ghost use Rattle.command_words.specs.Requests.{IsInRange};
 ghost use Rattle.mapchain_cli.specs.Asking.{CallsFor};
 ghost use Rattle.mapchain_cli.specs.Files.{used};
 ghost use Rattle.mapchain_cli.specs.Outputs as spec;
@@ -41,7 +41,7 @@ pub(crate) fn deliver<F: Files>(
     path: &str,
     files: &mut F,
 ) -> Result<Option<Report>, Ending>
-    requires { IsGridInRange request.now }
+    requires { IsInRange request.now }
     ensures sent { IsSent (used (F.state files.old) (F.state files.new)) path.now request.now result }
     ensures reduced { IfOk result (λ _. CallsFor (used (F.state files.old) (F.state files.new)) request.now reducer.old.calls reducer.new.calls) }
 {

@@ -204,6 +204,10 @@ fn explain_words(
             Request::Build {
                 keep: Some(keep),
                 ..
+            }
+            | Request::Simplify {
+                keep: Some(keep),
+                ..
             },
             Ending::BadShare,
         ) => bad_share(alloc, keep),
@@ -237,7 +241,7 @@ fn explain_refused<F: Files>(
             explain_layer(alloc, layers.as_slice(), *exact, fault, files)
         }
         (
-            Request::Geo { path, .. } | Request::Simplify { path, .. } | Request::Stat { path },
+            Request::Geo { path, .. } | Request::Simplify { path, .. } | Request::Stat { path, .. },
             Ending::FileRefused(fault),
         ) => explain_file(alloc, path, fault, files),
         _ => explain_words(alloc, request, ending),

@@ -1,9 +1,11 @@
 // Running the commands that take the file of a topology.
-ghost use Rattle.std.specs.Prelude.{◌≡◌, ◌≤◌, None, Some, IfErr, IfOk, OnOk};
+ghost use Rattle.std.specs.Prelude.{◌≡◌, ◌≤◌, None, Some, IfErr, IfOk, OnOk, true};
 ghost use Rattle.byte_ends.specs.declared.source.ReadFault.TheVariants as read;
 ghost use Rattle.geometry.specs.Units.{threshold_limit};
 ghost use Rattle.inputs.specs.declared.file_fault.FileFault.TheVariants as file;
+ghost use Rattle.layer_topology.specs.Guarded.{is_simplifying_level};
 ghost use Rattle.reports.specs.Summaries as spec;
+ghost use Rattle.mapchain_engine.specs.Files.{FailsToGive, IsReported};
 ghost use Rattle.mapchain_engine.specs.Geo.{IsGeoFault, SendsText};
 ghost use Rattle.byte_ends.specs.Ends.{Fed};
 ghost use Rattle.mapchain_engine.specs.Simplified.{CallsForTopology, IsSimplifyFault};
@@ -11,10 +13,10 @@ ghost use Rattle.mapchain_cli.specs.Endings.{DecodesOf, IsSummaryFault, RefusesF
 ghost use Rattle.mapchain_cli.specs.Files.{IsOpened, Opened, RefusedAfter, used};
 
 use crate::files::Files;
-use byte_ends::{Drain, ReadFault, Sink, Source, flush_after};
+use byte_ends::{Drain, Feed, ReadFault, Sink, Source, flush_after};
 use effective_area::HeapLinks;
 use inputs::FileFault;
-use mapchain_engine::{Guards, simplify, stat, to_geo};
+use mapchain_engine::{Guards, Level, simplify, stat, stat_with_crossings, to_geo};
 use reports::{Report, Summary, summary_text};
 use std::alloc::Global;
 
@@ -50,34 +52,27 @@ pub(crate) fn decode_object<F: Files, V: Drain>(
     Ok(())
 }
 
-/// Simplifies a topology at this threshold under these guards, without rings under this limit, and gives the report.
+/// Simplifies a topology at this level under these guards, without rings under this limit, and gives the report.
 pub(crate) fn simplify_file<F: Files, V: Drain>(
     alloc: Global,
     reducer: &mut HeapLinks,
     guards: Guards,
-    threshold: u128,
+    level: Level,
     ring_limit: u128,
     path: &str,
     files: &mut F,
     out: &mut Sink<V>,
 ) -> Result<Report, FileFault>
-    requires { ring_limit ≤ threshold_limit }
-    ensures simplified { IfOk result (λ report. SimplifiesOf (used (F.state files.old) (F.state files.new)) guards threshold ring_limit path.now out.old out.new report) }
+    requires level { is_simplifying_level guards level ≡ true }
+    requires limit { ring_limit ≤ threshold_limit }
+    ensures simplified { IfOk result (λ report. SimplifiesOf (used (F.state files.old) (F.state files.new)) guards level ring_limit path.now out.old out.new report) }
     ensures reduced { IfOk result (λ _. (old : Fed) × (new : Fed) × IsOpened ((F.state files.old).contents) path.now old
-        × ((F.state files.new).noted.source ≡ Some new) × CallsForTopology guards threshold old new reducer.old.calls reducer.new.calls) }
+        × ((F.state files.new).noted.source ≡ Some new) × CallsForTopology guards level old new reducer.old.calls reducer.new.calls) }
     ensures refused { IfErr result (λ e. RefusesFile (used (F.state files.old) (F.state files.new)) path.now out.old out.new
-        (λ s u. IsSimplifyFault guards threshold ring_limit s u out.old out.new) e) }
+        (λ s u. IsSimplifyFault guards level ring_limit s u out.old out.new) e) }
 {
     let mut source = open_file(path, files)?;
-    let simplified = simplify(
-        alloc,
-        reducer,
-        &mut source,
-        guards,
-        threshold,
-        ring_limit,
-        out,
-    );
+    let simplified = simplify(alloc, reducer, &mut source, guards, level, ring_limit, out);
     files.done_with(&source);
     let report = simplified?;
     Ok(report)
@@ -92,18 +87,35 @@ fn send_summary<V: Drain>(summary: &Summary, out: &mut Sink<V>) -> Result<u64, F
     Ok(sent)
 }
 
-/// Counts what is in a topology.
+/// The summary of a topology, with its crossings or without.
+fn summary_of<R: Feed>(
+    alloc: Global,
+    crossings: bool,
+    source: &mut Source<R>,
+) -> Result<Summary, FileFault>
+    ensures reported { IfOk result (λ summary. IsReported crossings source.old source.new summary) }
+    ensures refused { IfErr result (λ e. FailsToGive source.old source.new e) }
+{
+    if crossings {
+        stat_with_crossings(alloc, source)
+    } else {
+        stat(alloc, source)
+    }
+}
+
+/// Counts what is in a topology, and its crossings, where they are asked for.
 pub(crate) fn summarise<F: Files, V: Drain>(
     alloc: Global,
+    crossings: bool,
     path: &str,
     files: &mut F,
     out: &mut Sink<V>,
 ) -> Result<(), FileFault>
-    ensures reported { IfOk result (λ _. Summarises (used (F.state files.old) (F.state files.new)) path.now out.old out.new) }
-    ensures refused { IfErr result (λ e. RefusesFile (used (F.state files.old) (F.state files.new)) path.now out.old out.new (IsSummaryFault out.old out.new) e) }
+    ensures reported { IfOk result (λ _. Summarises (used (F.state files.old) (F.state files.new)) crossings path.now out.old out.new) }
+    ensures refused { IfErr result (λ e. RefusesFile (used (F.state files.old) (F.state files.new)) path.now out.old out.new (IsSummaryFault crossings out.old out.new) e) }
 {
     let mut source = open_file(path, files)?;
-    let summarised = stat(alloc, &mut source);
+    let summarised = summary_of(alloc, crossings, &mut source);
     files.done_with(&source);
     let summary = summarised?;
     send_summary(&summary, out)?;

@@ -1,20 +1,20 @@
-// What a build is asked for.
+// What a build or simplifying is asked for.
 ghost use Rattle.std.specs.Prelude.{◌≡◌, ◌⊎◌, ◌≤◌, IfErr, IfOk, IfSome, None, Some, true};
 ghost use Rattle.effective_area.specs.Thresholds.{threshold_of};
 ghost use Rattle.geometry.specs.Units.{threshold_limit};
 ghost use Rattle.command_words.specs.Requests.{IsCells};
-ghost use Rattle.layer_topology.specs.Levels.{is_level};
-ghost use Rattle.mapchain_cli.specs.Asking.{AreRefused, BuildIsRefused, IsAskedFor, level_of};
+ghost use Rattle.layer_topology.specs.GuardedWritten.{is_level_under};
+ghost use Rattle.mapchain_cli.specs.Asking.{AreRefused, IsAskedFor, IsLevelOf, LevelIsRefused, level_of};
 ghost use Rattle.mapchain_cli.specs.declared.ending.Ending.TheVariants as ending;
 
 use crate::ending::Ending;
 use byte_ends::Memory;
 use effective_area::{read_share, read_threshold};
-use mapchain_engine::{Level, Options};
+use mapchain_engine::{Guards, Level, Options};
 use std::alloc::Global;
 
 /// The threshold of the area of this text, which is looked at here. An area that has none is refused in this way.
-pub(crate) fn threshold_asked(alloc: Global, area: &str, refused: Ending) -> Result<u128, Ending>
+fn threshold_asked(alloc: Global, area: &str, refused: Ending) -> Result<u128, Ending>
     ensures asked { IfOk result (λ t. threshold_of area.now ≡ Some t) }
     ensures within { IfOk result (λ t. t ≤ threshold_limit) }
     // An area that has no threshold is refused, and no other.
@@ -28,11 +28,7 @@ pub(crate) fn threshold_asked(alloc: Global, area: &str, refused: Ending) -> Res
 }
 
 /// The thresholds of the area and of the ring area of these texts, which are looked at in this order.
-pub(crate) fn thresholds_asked(
-    alloc: Global,
-    area: &str,
-    ring_area: &str,
-) -> Result<(u128, u128), Ending>
+fn thresholds_asked(alloc: Global, area: &str, ring_area: &str) -> Result<(u128, u128), Ending>
     ensures area { IfOk result (λ r. threshold_of area.now ≡ Some r.0) }
     ensures ring_area { IfOk result (λ r. threshold_of ring_area.now ≡ Some r.1) }
     ensures area_within { IfOk result (λ r. r.0 ≤ threshold_limit) }
@@ -44,11 +40,12 @@ pub(crate) fn thresholds_asked(
     Ok((threshold, ring_limit))
 }
 
-/// The level of this threshold, or of the share of this text in its place.
-fn level_asked(threshold: u128, keep: Option<&str>) -> Result<Level, Ending>
-    requires { threshold ≤ threshold_limit }
+/// The level of this threshold, or of the share of this text in its place, of which there is none where no crossing may be made.
+fn level_asked(threshold: u128, keep: Option<&str>, guards: Guards) -> Result<Level, Ending>
+    requires threshold { threshold ≤ threshold_limit }
+    requires alone { guards.no_crossings ≡ true → keep ≡ None }
     ensures asked { IfOk result (λ level. level_of threshold keep.entry ≡ Some level) }
-    ensures within { IfOk result (λ level. is_level level ≡ true) }
+    ensures within { IfOk result (λ level. is_level_under guards level ≡ true) }
     // A text that is no share is refused, and nothing else.
     ensures refused { IfErr result (λ e. (e ≡ ending.BadShare) × (level_of threshold keep.entry ≡ None)) }
 {
@@ -64,7 +61,29 @@ fn level_asked(threshold: u128, keep: Option<&str>) -> Result<Level, Ending>
     }
 }
 
-/// What is asked for with this grid and with the areas and the share of these texts, which are looked at in this order.
+/// The level and the ring limit of the areas and the share of these texts, which are looked at in this order, where no share is asked for beside
+/// these guards.
+pub(crate) fn level_and_limit(
+    alloc: Global,
+    area: &str,
+    keep: Option<&str>,
+    ring_area: &str,
+    guards: Guards,
+) -> Result<(Level, u128), Ending>
+    requires alone { guards.no_crossings ≡ true → keep ≡ None }
+    ensures level { IfOk result (λ r. IsLevelOf area.now keep.entry r.0) }
+    ensures level_within { IfOk result (λ r. is_level_under guards r.0 ≡ true) }
+    ensures ring_area { IfOk result (λ r. threshold_of ring_area.now ≡ Some r.1) }
+    ensures ring_area_within { IfOk result (λ r. r.1 ≤ threshold_limit) }
+    ensures refused { IfErr result (LevelIsRefused area.now keep.entry ring_area.now) }
+{
+    let (threshold, ring_limit) = thresholds_asked(alloc, area, ring_area)?;
+    let level = level_asked(threshold, keep, guards)?;
+    Ok((level, ring_limit))
+}
+
+/// What is asked for with this grid, with the areas and the share of these texts, which are looked at in this order, and whether crossings may
+/// not be made.
 pub(crate) fn options_of(
     alloc: Global,
     exact: bool,
@@ -73,15 +92,18 @@ pub(crate) fn options_of(
     area: &str,
     keep: Option<&str>,
     ring_area: &str,
+    no_crossings: bool,
 ) -> Result<Options, Ending>
-    requires { IfSome grid IsCells }
-    ensures asked { IfOk result (λ options. IsAskedFor exact grid area.now keep.entry ring_area.now options) }
-    ensures refused { IfErr result (BuildIsRefused area.now keep.entry ring_area.now) }
+    requires grid { IfSome grid IsCells }
+    requires alone { no_crossings ≡ true → keep ≡ None }
+    ensures asked { IfOk result (λ options. IsAskedFor exact grid area.now keep.entry ring_area.now no_crossings options) }
+    ensures refused { IfErr result (LevelIsRefused area.now keep.entry ring_area.now) }
 {
-    let (threshold, ring_limit) = thresholds_asked(alloc, area, ring_area)?;
-    let level = level_asked(threshold, keep)?;
+    let guards = Guards { no_crossings };
+    let (level, ring_limit) = level_and_limit(alloc, area, keep, ring_area, guards)?;
     Ok(Options {
         grid,
+        guards,
         level,
         ring_limit,
         exact,

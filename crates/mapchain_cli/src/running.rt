@@ -3,7 +3,7 @@ ghost use Rattle.std.specs.Prelude.{◌≡◌, ◌⊎◌, ◌<◌, ◌≤◌, If
 ghost use Rattle.std.specs.String.{string_bytes};
 ghost use Rattle.command_words.specs.Asked.{detail, output_of, report_of};
 ghost use Rattle.command_words.specs.Joined.{joined};
-ghost use Rattle.command_words.specs.Requests.{IsGridInRange};
+ghost use Rattle.command_words.specs.Requests.{IsInRange};
 ghost use Rattle.inputs.specs.declared.fault.BuildFault.{BuildFault as Fault};
 ghost use Rattle.inputs.specs.Sources.{Sources};
 ghost use Rattle.mapchain_engine.specs.Building.{CallsForLayers};
@@ -20,7 +20,7 @@ use crate::ending::Ending;
 use crate::file_running::{decode_object, simplify_file, summarise};
 use crate::files::Files;
 use crate::following::follow;
-use crate::options::{options_of, thresholds_asked};
+use crate::options::{level_and_limit, options_of};
 use crate::printing::{print_outcome, print_words_fault};
 use byte_ends::{Drain, ReadFault, Sink, Source};
 use command_words::{Order, Request, WordsFault, joined_words, read_words};
@@ -88,7 +88,7 @@ pub(crate) fn answer<F: Files, V: Drain>(
     files: &mut F,
     out: &mut Sink<V>,
 ) -> Result<Option<Report>, Ending>
-    requires { IsGridInRange request.now }
+    requires { IsInRange request.now }
     ensures answered { IfOk result (λ report. IsAnswered (used (F.state files.old) (F.state files.new)) request.now out.old out.new report) }
     ensures reduced { IfOk result (λ _. CallsFor (used (F.state files.old) (F.state files.new)) request.now reducer.old.calls reducer.new.calls) }
     ensures refused { IfErr result (λ e. IsRefused (used (F.state files.old) (F.state files.new)) request.now out.old out.new e) }
@@ -101,23 +101,34 @@ pub(crate) fn answer<F: Files, V: Drain>(
             area,
             keep,
             ring_area,
+            no_crossings,
         } => {
-            let options = options_of(alloc, *exact, files.seed(), *grid, area, *keep, ring_area)?;
+            let options = options_of(
+                alloc,
+                *exact,
+                files.seed(),
+                *grid,
+                area,
+                *keep,
+                ring_area,
+                *no_crossings,
+            )?;
             let report = build_layers(alloc, reducer, layers.as_slice(), &options, files, out)?;
             Ok(Some(report))
         }
         Request::Simplify {
             area,
+            keep,
             ring_area,
             no_crossings,
             path,
         } => {
-            let (threshold, ring_limit) = thresholds_asked(alloc, area, ring_area)?;
             let guards = Guards {
                 no_crossings: *no_crossings,
             };
+            let (level, ring_limit) = level_and_limit(alloc, area, *keep, ring_area, guards)?;
             let report = simplify_file(
-                alloc, reducer, guards, threshold, ring_limit, path, files, out,
+                alloc, reducer, guards, level, ring_limit, path, files, out,
             )?;
             Ok(Some(report))
         }
@@ -125,8 +136,8 @@ pub(crate) fn answer<F: Files, V: Drain>(
             decode_object(alloc, name, path, files, out)?;
             Ok(None)
         }
-        Request::Stat { path } => {
-            summarise(alloc, path, files, out)?;
+        Request::Stat { crossings, path } => {
+            summarise(alloc, *crossings, path, files, out)?;
             Ok(None)
         }
     }
@@ -142,7 +153,7 @@ pub fn perform<F: Files, V: Drain>(
     files: &mut F,
     out: &mut Sink<V>,
 ) -> Result<Option<Report>, Ending>
-    requires { IsGridInRange request.now }
+    requires { IsInRange request.now }
     ensures performed { IsPerformed (used (F.state files.old) (F.state files.new)) (option_map (λ o. o.now) output.entry) request.now out.old out.new result }
     ensures reduced { IfOk result (λ _. CallsFor (used (F.state files.old) (F.state files.new)) request.now reducer.old.calls reducer.new.calls) }
 {
@@ -161,7 +172,7 @@ fn carry_out<F: Files, V: Drain, W: Drain>(
     out: &mut Sink<V>,
     err: &mut Sink<W>,
 ) -> u8
-    requires { IsGridInRange order.now.request }
+    requires { IsInRange order.now.request }
     ensures { IsCarriedOut (used (F.state files.old) (F.state files.new)) (asked_output order.now) (detail order.now) order.now.request
         (record { out = out.old; err = err.old }) (record { out = out.new; err = err.new }) result }
 {

@@ -1,5 +1,5 @@
 -- The outcome of building layers.
-use Rattle.std.proofs.Common.{◌≡◌, inl, inr, ℕ, suc, ◌<◌, ◌^◌, Bool, true, List, ◌∷◌, length, map, Some, None, Ok, Err, arith, refl}
+use Rattle.std.proofs.Common.{◌≡◌, inl, inr, ℕ, suc, ◌<◌, ◌^◌, Bool, true, false, cond, List, ◌∷◌, length, map, Some, None, Ok, Err, ap, arith, refl, subst, sym}
 use Rattle.std.specs.List.{AllByRecursion}
 use Rattle.std.specs.Prelude.{IsUtf8}
 use Rattle.byte_ends.specs.Ends.{Fed, Drained}
@@ -9,15 +9,19 @@ use Rattle.byte_ends.specs.declared.sink.WriteFault.TheVariants as write
 use Rattle.json_value.specs.Limits.{layer_depth, topology_depth}
 use Rattle.json_value.specs.Text.{json_text}
 use Rattle.geojson_types.specs.declared.counts.Counts.{Counts}
+use Rattle.geojson_types.specs.declared.layer.FeatureSet.TheVariants as set
+use Rattle.simplified_topology.specs.Guarded.{guarded_contents}
+use Rattle.topojson_types.specs.Decoding.{decoded}
+use Rattle.topojson_types.specs.Topologies.{Contents}
 use Rattle.topojson_types.specs.Validity.{AreDistinct}
 use Rattle.topojson_types.specs.Values.{topology_value}
 use Rattle.build_meaning.specs.Layers.{names_of}
-use Rattle.layer_topology.specs.Written.{AreTaken}
+use Rattle.layer_topology.specs.Written.{AreTaken, written as written_on}
 use Rattle.topojson_meaning.specs.Laws.{IsStored}
 use Rattle.inputs.specs.declared.fault.BuildFault.{BuildFault}
 use Rattle.inputs.specs.declared.fault.BuildFault.TheVariants.{EmptyName, DuplicateName, Read, Json, Geo, Write, Memory}
 use Rattle.reports.specs.declared.report.Report.{Report}
-use Rattle.mapchain_engine.specs.Building.{threshold_for, written_for, BuildingLaws, SaysTopology, Builds, IsBuilt, IsLateFault, Sends, report_of}
+use Rattle.mapchain_engine.specs.Building.{expected_for, threshold_for, whole_for, written_for, BuildingLaws, IsGuarded, SaysTopology, Builds, IsBuilt, IsLateFault, Sends, report_of}
 use Rattle.mapchain_engine.specs.BuildLaws.{LayerLaws}
 use Rattle.mapchain_engine.specs.declared.options.Options.{Options}
 use Rattle.inputs.specs.Sent.{build_fault_of}
@@ -26,6 +30,7 @@ use Rattle.inputs.specs.Reading.{FailsToRead}
 use Rattle.inputs.specs.Sources.{Sources, Named, AllRead, FailsAt, FailsToReadAll}
 use Rattle.mapchain_engine.proofs.SoundLayers.{AllTaken, all_taken, are_taken, layers_nest, layers_number, layers_texts, names_read}
 use Rattle.mapchain_engine.proofs.NamesDistinct.{distinct_names}
+use Rattle.mapchain_engine.proofs.SimplifiedTexts.{numbers_kept, texts_kept}
 use Rattle.inputs.proofs.SourcesRead.{untroubled_all}
 
 -- the text of the topology of layers
@@ -35,22 +40,33 @@ text_for o ls = json_text (topology_value (written_for o ls))
 -- ---- what is written
 
 module _ (laws : BuildingLaws) (o : Options) where
+  -- where crossings may be made it is what is written without a guard
+  plainly : (ls : Named) → o.guards.no_crossings ≡ false → written_on o.grid (threshold_for o ls) o.ring_limit ls ≡ written_for o ls
+  plainly ls e = sym (ap (λ b. cond b (guarded_contents true (threshold_for o ls) o.ring_limit (whole_for o ls)) (written_on o.grid (threshold_for o ls) o.ring_limit ls)) e)
+
+  guarded : (ls : Named) → AreTaken o.grid ls → o.guards.no_crossings ≡ true → IsGuarded o ls (written_for o ls)
+  guarded ls are e =
+      let under = laws.under o.guards o.grid (threshold_for o ls) o.ring_limit ls are in
+      record { valid = under.valid; whole = laws.written.back o.grid 0 0 ls are; labels_stay = under.labels_stay; crosses = under.crosses e; left = sym under.simplified }
+
   says : (ls : Named) → AllTaken ls → AreDistinct (names_of ls) → AllByRecursion (λ n. IsUtf8 n) (names_of ls) → length (written_for o ls).arcs < 2 ^ 63 → SaysTopology o ls (text_for o ls)
   says ls taken distinct texts few =
       let are = are_taken o ls taken distinct in
       let t = written_for o ls in
-      let valid = laws.written.valid o.grid (threshold_for o ls) o.ring_limit ls are in
+      let under = laws.under o.guards o.grid (threshold_for o ls) o.ring_limit ls are in
+      let valid = under.valid in
       let stored : IsStored t = (valid, few) in
-      let numbers = laws.written.numbers o.grid (threshold_for o ls) o.ring_limit ls (layers_number ls taken) in
+      let numbers = numbers_kept (whole_for o ls) t under.labels_stay (laws.written.numbers o.grid 0 0 ls (layers_number ls taken)) in
       record {
-        utf8 = laws.utf8 t valid.transform numbers (laws.written.texts o.grid (threshold_for o ls) o.ring_limit ls are texts (layers_texts ls taken));
+        utf8 = laws.utf8 t valid.transform numbers (texts_kept (whole_for o ls) t under.labels_stay (laws.written.texts o.grid 0 0 ls are texts (layers_texts ls taken)));
         value = topology_value t;
-        spelled = laws.spelled t layer_depth topology_depth stored numbers (laws.written.nests o.grid (threshold_for o ls) o.ring_limit layer_depth ls (layers_nest ls taken))
+        spelled = laws.spelled t layer_depth topology_depth stored numbers (under.nests layer_depth (layers_nest ls taken))
             (omega arith);
         contents = t;
         stands = laws.read t stored;
-        names = laws.written.names o.grid (threshold_for o ls) o.ring_limit ls are;
-        features = laws.written.back o.grid (threshold_for o ls) o.ring_limit ls are;
+        names = under.names;
+        features = λ e. subst (λ (y : Contents). AllByRecursion (λ l. decoded y l.0 ≡ Some (set.Many l.1.features)) (expected_for o ls)) (plainly ls e) (laws.written.back o.grid (threshold_for o ls) o.ring_limit ls are);
+        guarded = guarded ls are;
         shared = refl;
         written = refl;
         once = laws.written.once o.grid ls are;

@@ -1,5 +1,5 @@
 -- What was built is read again as what was built.
-use Rattle.std.proofs.Common.{◌≡◌, ℕ, List, [], ◌∷◌, ◌++◌, ◌∙◌, ap, subst, sym, length, Option, Some, Result, Ok}
+use Rattle.std.proofs.Common.{◌≡◌, ℕ, false, cond, List, [], ◌∷◌, ◌++◌, ◌∙◌, ap, refl, subst, sym, length, Option, Some, Result, Ok}
 use Rattle.std.proofs.Math.Seq.{take-length}
 use Rattle.std.proofs.lemmas.List.{append_cancel_left}
 use Rattle.std.specs.Io.KnownBytes.{Appends}
@@ -17,16 +17,22 @@ use Rattle.topojson_meaning.specs.declared.fault.TopoFault.{TopoFault}
 use Rattle.topojson_meaning.specs.Topologies.{topology}
 use Rattle.reports.specs.declared.report.Report.{Report}
 use Rattle.reports.specs.declared.summary.Summary.{Summary}
-use Rattle.layer_topology.specs.Guarded.{no_guards}
-use Rattle.mapchain_engine.specs.Building.{expected_for, threshold_for, written_for, IsBuilt}
+use Rattle.layer_topology.specs.declared.guards.Guards.{Guards}
+use Rattle.layer_topology.specs.declared.level.Level.{Level}
+use Rattle.layer_topology.specs.declared.level.Level.TheVariants.{Fixed}
+use Rattle.layer_topology.specs.Guarded.{simplified_under}
+use Rattle.layer_topology.specs.GuardedLaws.{GuardedAtZero, WrittenUnderLaw}
+use Rattle.layer_topology.specs.GuardedWritten.{written_under}
+use Rattle.layer_topology.specs.Levels.{chosen_at, threshold_at}
+use Rattle.mapchain_engine.specs.Building.{expected_for, snapped_for, threshold_for, written_for, IsBuilt}
 use Rattle.mapchain_engine.specs.BuildLaws.{ReadAreTaken}
 use Rattle.mapchain_engine.specs.declared.options.Options.{Options}
 use Rattle.json_value.specs.Limits.{topology_depth}
 use Rattle.mapchain_engine.specs.Files.{IsTopologyRead, IsSummarised}
-use Rattle.mapchain_engine.specs.Simplified.{simplified_contents_text, IsSimplified}
-use Rattle.layer_topology.specs.Laws.{SimplifiesToWritten}
-use Rattle.layer_topology.specs.Written.{written as written_on, AreTaken}
-use Rattle.simplified_topology.specs.Thresholds.{simplified_contents}
+use Rattle.mapchain_engine.specs.Simplified.{simplified_contents_text, topology_chosen, topology_threshold, IsSimplified}
+use Rattle.layer_topology.specs.Written.{snapped_to, written as written_on, AreTaken}
+use Rattle.simplified_topology.specs.Assembled.{arcs_of_layers}
+use Rattle.simplified_topology.specs.Guarded.{arc_positions}
 use Rattle.build_meaning.specs.Layers.{names_of}
 use Rattle.json_value.specs.declared.json.Json.{Json}
 use Rattle.json_value.specs.Grammar.{Reads}
@@ -35,7 +41,7 @@ use Rattle.topojson_types.specs.Validity.{AreDistinct}
 use Rattle.topojson_types.specs.Values.{topology_value}
 use Rattle.topojson_meaning.specs.Laws.{ReadsValid}
 use Rattle.mapchain_engine.specs.Geo.{features_text, IsDecoded}
-use Rattle.mapchain_engine.specs.Laws.{IsWrittenTo, WritesEach, DecodesBack, SimplifiesToBuilt, SummarisesBack}
+use Rattle.mapchain_engine.specs.Laws.{HasEachArc, IsWrittenTo, WritesEach, DecodesBack, SimplifiesByLevel, SimplifiesToBuilt, SummarisesBack}
 use Rattle.inputs.specs.Sources.{Sources, Named}
 use Rattle.reports.specs.Summaries.{summary_of}
 
@@ -93,39 +99,80 @@ module _ (one_value : OneValue) (o : Options) (olds news : Sources) (sink_old si
           let e = some_same d.features (Many l.1.features) (decoded d.given.contents l.0) d.given.found (rw contents h.0) in
           subst (λ fs. WritesAll out_old out_new 0 (features_text fs) sent) e d.written
 
-  writes_expected : WritesEach (expected_for o is.layers) source
-  writes_expected = writes_each (expected_for o is.layers) is.builds.topology.features
+  writes_expected : o.guards.no_crossings ≡ false → WritesEach (expected_for o is.layers) source
+  writes_expected e = writes_each (expected_for o is.layers) (is.builds.topology.features e)
 
   summary_same : (after : Fed) (summary : Summary) → IsSummarised source after summary → summary ≡ summary_of (written_for o is.layers)
   summary_same after summary s = s.reported ∙ ap summary_of (same_contents after s.contents s.counts s.read ∙ is.builds.topology.shared)
 
-  -- what is left of it by a threshold and a limit, where it was built at zero, is what is written of the layers by both
-  simplified_is : SimplifiesToWritten → ReadsValid → ReadAreTaken → (t limit : ℕ) → threshold_for o is.layers ≡ 0 → o.ring_limit ≡ 0
-      → simplified_contents t limit is.builds.topology.contents ≡ written_on o.grid t limit is.layers
-  simplified_is less valid may t limit zero none =
-      ap (simplified_contents t limit) (is.builds.topology.shared ∙ ap (λ z. written_on o.grid z o.ring_limit is.layers) zero ∙ ap (λ z. written_on o.grid 0 z is.layers) none) ∙ less o.grid t limit is.layers (taken valid may o olds news sink_old sink_new report is)
+  -- where it was built at zero it is what is written at zero, whatever guards were asked for
+  zero_is : GuardedAtZero → AreTaken o.grid is.layers → threshold_for o is.layers ≡ 0 → o.ring_limit ≡ 0 → is.builds.topology.contents ≡ written_on o.grid 0 0 is.layers
+  zero_is at_zero are zero none =
+      is.builds.topology.shared ∙ ap (λ z. written_under o.guards o.grid z o.ring_limit is.layers) zero ∙ ap (λ z. written_under o.guards o.grid 0 z is.layers) none
+      ∙ at_zero o.guards o.grid is.layers are
 
-  simplified_text : SimplifiesToWritten → ReadsValid → ReadAreTaken → (t limit : ℕ) → threshold_for o is.layers ≡ 0 → o.ring_limit ≡ 0 → (after : Fed) (out_old out_new : Drained) (simplified : Report)
-      → IsSimplified no_guards t limit source after out_old out_new simplified
-      → Takes out_old out_new (json_text (topology_value (written_on o.grid t limit is.layers))) (length (json_text (topology_value (written_on o.grid t limit is.layers))))
-  simplified_text less valid may t limit zero none after out_old out_new simplified s =
-      let e : simplified_contents_text no_guards t limit s.contents ≡ json_text (topology_value (written_on o.grid t limit is.layers)) =
-      ap (simplified_contents_text no_guards t limit) (same_contents after s.contents s.counts s.read) ∙ ap (λ y. json_text (topology_value y)) (simplified_is less valid may t limit zero none) in
+  -- what is left of it by a threshold and a limit under guards is what is then written of the layers by both under them
+  simplified_is : GuardedAtZero → WrittenUnderLaw → AreTaken o.grid is.layers → (guards : Guards) (t limit : ℕ) → threshold_for o is.layers ≡ 0 → o.ring_limit ≡ 0
+      → simplified_under guards t limit is.builds.topology.contents ≡ written_under guards o.grid t limit is.layers
+  simplified_is at_zero law are guards t limit zero none = ap (simplified_under guards t limit) (zero_is at_zero are zero none) ∙ (law guards o.grid t limit is.layers are).simplified
+
+  -- at a level by which its arcs are reduced at this threshold
+  simplified_text : GuardedAtZero → WrittenUnderLaw → AreTaken o.grid is.layers → (guards : Guards) (level : Level) (t limit : ℕ)
+      → topology_threshold level is.builds.topology.contents ≡ t → threshold_for o is.layers ≡ 0 → o.ring_limit ≡ 0
+      → (after : Fed) (out_old out_new : Drained) (simplified : Report) → IsSimplified guards level limit source after out_old out_new simplified
+      → Takes out_old out_new (json_text (topology_value (written_under guards o.grid t limit is.layers))) (length (json_text (topology_value (written_under guards o.grid t limit is.layers))))
+  simplified_text at_zero law are guards level t limit at zero none after out_old out_new simplified s =
+      let e : simplified_contents_text guards level limit s.contents ≡ json_text (topology_value (written_under guards o.grid t limit is.layers)) =
+      ap (simplified_contents_text guards level limit) (same_contents after s.contents s.counts s.read)
+      ∙ ap (λ z. json_text (topology_value (simplified_under guards z limit is.builds.topology.contents))) at
+      ∙ ap (λ y. json_text (topology_value y)) (simplified_is at_zero law are guards t limit zero none) in
       subst (λ text. Takes out_old out_new text (length text)) e s.written
 
-pub simplifies_to_built : OneValue → SimplifiesToWritten → ReadsValid → ReadAreTaken → SimplifiesToBuilt
-simplifies_to_built one_value less valid may o p olds news sink_old sink_new report full more_olds more_news more_old more_new more_report small zero none grid same source after out_old out_new simplified from s =
-    let says = small.builds.topology in
-    let t = threshold_for p small.layers in
-    let e : json_text (topology_value (written_on o.grid t p.ring_limit full.layers)) ≡ small.text =
-    ap (λ g. json_text (topology_value (written_on g t p.ring_limit full.layers))) (sym grid)
-    ∙ ap (λ ls. json_text (topology_value (written_on p.grid t p.ring_limit ls))) (sym same)
-    ∙ ap (λ y. json_text (topology_value y)) (sym says.shared) ∙ sym says.written in
-    subst (λ text. Takes out_old out_new text (length text)) e
-    (simplified_text one_value o olds news sink_old sink_new report full source from less valid may t p.ring_limit zero none after out_old out_new simplified s)
+module _ (one_value : OneValue) (valid : ReadsValid) (may : ReadAreTaken) (o p : Options) (olds news : Sources) (sink_old sink_new : Drained) (report : Report)
+    (full : IsBuilt o olds news sink_old sink_new report)
+    (more_olds more_news : Sources) (more_old more_new : Drained) (more_report : Report) (small : IsBuilt p more_olds more_news more_old more_new more_report)
+    (zero : threshold_for o full.layers ≡ 0) (none : o.ring_limit ≡ 0) (grid : p.grid ≡ o.grid) (same : small.layers ≡ full.layers)
+    (source after : Fed) (out_old out_new : Drained) (simplified : Report) (from : IsWrittenTo sink_old sink_new source) where
+  -- at a level by which the arcs of the first are reduced at the threshold of the second
+  built_at : GuardedAtZero → WrittenUnderLaw → (level : Level) → topology_threshold level full.builds.topology.contents ≡ threshold_for p small.layers
+      → IsSimplified p.guards level p.ring_limit source after out_old out_new simplified → Takes out_old out_new small.text (length small.text)
+  built_at at_zero law level at s =
+      let says = small.builds.topology in
+      let t = threshold_for p small.layers in
+      let are = taken valid may o olds news sink_old sink_new report full in
+      let e : json_text (topology_value (written_under p.guards o.grid t p.ring_limit full.layers)) ≡ small.text =
+      ap (λ g. json_text (topology_value (written_under p.guards g t p.ring_limit full.layers))) (sym grid)
+      ∙ ap (λ ls. json_text (topology_value (written_under p.guards p.grid t p.ring_limit ls))) (sym same)
+      ∙ ap (λ y. json_text (topology_value y)) (sym says.shared) ∙ sym says.written in
+      subst (λ text. Takes out_old out_new text (length text)) e
+      (simplified_text one_value o olds news sink_old sink_new report full source from at_zero law are p.guards level t p.ring_limit at zero none after out_old out_new simplified s)
+
+  -- where each arc of the layers is in the first, its arcs are those of the second before any is reduced
+  same_arcs : HasEachArc o full.layers → arc_positions full.builds.topology.contents ≡ arcs_of_layers (snapped_for p small.layers)
+  same_arcs has =
+      ap arc_positions full.builds.topology.shared ∙ has ∙ ap (λ g. arcs_of_layers (snapped_to g full.layers)) (sym grid)
+      ∙ ap (λ ls. arcs_of_layers (snapped_to p.grid ls)) (sym same)
+
+  same_chosen : HasEachArc o full.layers → IsSimplified p.guards p.level p.ring_limit source after out_old out_new simplified → simplified.chosen ≡ more_report.chosen
+  same_chosen has s =
+      ap (λ (r : Report). r.chosen) s.reported
+      ∙ ap (topology_chosen p.level) (same_contents one_value o olds news sink_old sink_new report full source from after s.contents s.counts s.read)
+      ∙ ap (chosen_at p.level) (same_arcs has) ∙ sym (ap (λ (r : Report). r.chosen) small.reported)
+
+pub simplifies_to_built : OneValue → GuardedAtZero → WrittenUnderLaw → ReadsValid → ReadAreTaken → SimplifiesToBuilt
+simplifies_to_built one_value at_zero law valid may o p olds news sink_old sink_new report full more_olds more_news more_old more_new more_report small zero none grid same source after out_old out_new simplified from =
+    built_at one_value valid may o p olds news sink_old sink_new report full more_olds more_news more_old more_new more_report small zero none grid same source after out_old out_new simplified from at_zero law
+    (Fixed (threshold_for p small.layers)) refl
+
+pub simplifies_by_level : OneValue → GuardedAtZero → WrittenUnderLaw → ReadsValid → ReadAreTaken → SimplifiesByLevel
+simplifies_by_level one_value at_zero law valid may o p olds news sink_old sink_new report full more_olds more_news more_old more_new more_report small zero none grid same has source after out_old out_new simplified from s = (
+  built_at one_value valid may o p olds news sink_old sink_new report full more_olds more_news more_old more_new more_report small zero none grid same source after out_old out_new simplified from at_zero law p.level
+      (ap (threshold_at p.level) (same_arcs one_value valid may o p olds news sink_old sink_new report full more_olds more_news more_old more_new more_report small zero none grid same source after out_old out_new simplified from has)) s,
+  same_chosen one_value valid may o p olds news sink_old sink_new report full more_olds more_news more_old more_new more_report small zero none grid same source after out_old out_new simplified from has s,
+)
 
 pub decodes_back : OneValue → DecodesBack
-decodes_back one_value o olds news sink_old sink_new report is source from = writes_expected one_value o olds news sink_old sink_new report is source from
+decodes_back one_value o olds news sink_old sink_new report is source plain from = writes_expected one_value o olds news sink_old sink_new report is source from plain
 
 pub summarises_back : OneValue → SummarisesBack
 summarises_back one_value o olds news sink_old sink_new report is source after summary from s =

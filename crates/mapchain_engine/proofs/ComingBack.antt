@@ -1,5 +1,5 @@
 -- What was built comes back.
-use Rattle.std.proofs.Common.{◌≡◌, ◌≤◌, [], ◌∷◌, ap, inr, length, subst, sym, Some, Result, Ok}
+use Rattle.std.proofs.Common.{◌≡◌, ◌≤◌, false, [], ◌∷◌, ap, inr, length, subst, sym, Some, Result, Ok}
 use Rattle.std.specs.Prelude.{IsUtf8}
 use Rattle.std.specs.List.{AllByRecursion}
 use Rattle.byte_ends.specs.Ends.{Fed, Drained}
@@ -41,8 +41,8 @@ module _ (o : Options) (olds news : Sources) (sink_old sink_new : Drained) (repo
   each [] h = tt
   each (l ∷ ls) h = (subst (FileHasOutcome (object_text l.0) from.bytes) (ap text_if_any h.0) (comes (object_text l.0)), each ls h.1)
 
-  all_come : AllByRecursion (λ l. FileHasOutcome (object_text l.0) from.bytes (Ok (features_text (Many l.1.features)))) (expected_for o is.layers)
-  all_come = each (expected_for o is.layers) is.builds.topology.features
+  all_come : o.guards.no_crossings ≡ false → AllByRecursion (λ l. FileHasOutcome (object_text l.0) from.bytes (Ok (features_text (Many l.1.features)))) (expected_for o is.layers)
+  all_come plain = each (expected_for o is.layers) (is.builds.topology.features plain)
 
   of_written : {A : Type 0} (asked : Contents → Counts → Result A FileFault) → FileHasOutcome asked from.bytes (asked (written_for o is.layers) no_counts)
   of_written asked = subst (λ c. FileHasOutcome asked from.bytes (asked c no_counts)) is.builds.topology.shared (comes asked)
@@ -50,6 +50,7 @@ module _ (o : Options) (olds news : Sources) (sink_old sink_new : Drained) (repo
 pub comes_back : ComesBack
 comes_back o olds news sink_old sink_new report is source from short = (
   all_come o olds news sink_old sink_new report is source from short,
+  λ name. of_written o olds news sink_old sink_new report is source from short (object_text name),
   of_written o olds news sink_old sink_new report is source from short summarised,
-  λ guards t limit. of_written o olds news sink_old sink_new report is source from short (simplified guards t limit),
+  λ guards level limit. of_written o olds news sink_old sink_new report is source from short (simplified guards level limit),
 )

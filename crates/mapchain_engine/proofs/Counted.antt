@@ -1,5 +1,5 @@
 -- What is counted in a topology is counted in what is kept of it.
-use Rattle.std.proofs.Common.{◌≡◌, ℕ, List, [], ◌∷◌, length, refl, ap, ◌∙◌}
+use Rattle.std.proofs.Common.{◌≡◌, ℕ, None, List, [], ◌∷◌, length, refl, ap, ◌∙◌}
 use Rattle.std.specs.Prelude.{is_some, map}
 use Rattle.std.proofs.lemmas.List.{length-map}
 use Rattle.topojson_types.specs.Topologies.{Contents, object_features}
@@ -24,7 +24,7 @@ module _ (k : Keeping) where
   all_counted (o ∷ os) = rw (counted_same o, all_counted os) refl
 
   summary_kept : (t : Contents) → summary_of (of_contents k t) ≡ summary_of t
-  summary_kept t = ap (λ z. record { objects = z; arcs = length t.arcs; positions = positions_in t.arcs; grid = has_grid t }) (all_counted t.objects)
+  summary_kept t = ap (λ z. record { objects = z; arcs = length t.arcs; positions = positions_in t.arcs; grid = has_grid t; crossings = None }) (all_counted t.objects)
 
   -- the summary of parts that are what is kept of a topology is the topology's
   pub reported_of : (parts : Parts) (t : Contents) → parts_contents parts ≡ of_contents k t → summary_with parts.objects parts.arcs (is_some parts.transform) ≡ summary_of t

@@ -13,12 +13,11 @@ use Rattle.topojson_types.specs.Topologies.{Contents}
 use Rattle.inputs.specs.declared.file_fault.FileFault.{FileFault}
 use Rattle.inputs.specs.declared.file_fault.FileFault.TheVariants.{Read, Json, Topo, NoObject, Write, Memory}
 use Rattle.reports.specs.declared.summary.Summary.{Summary}
-use Rattle.mapchain_engine.specs.FileOutcomes.{summarised, text_if_any, object_text, of_topology, of_file, FileHasOutcome, plain_file_outcome, IsOutsideGiven, IsOutsideFile, FollowsSummary, FollowsText}
+use Rattle.mapchain_engine.specs.FileOutcomes.{text_if_any, object_text, of_topology, of_file, FileHasOutcome, plain_file_outcome, IsOutsideGiven, IsOutsideFile, FollowsSummary, FollowsText}
 use Rattle.json_value.specs.Limits.{topology_depth}
 use Rattle.mapchain_engine.specs.Files.{IsTopologyRead, FailsToGive}
 use Rattle.mapchain_engine.specs.Geo.{features_text, FailsToDecode, GivesFeatures, SendsText}
 use Rattle.inputs.specs.Texts.{max_input}
-use Rattle.reports.specs.Summaries.{summary_of}
 use Rattle.inputs.proofs.BytesDecided.{plain_text, one_outcome, text_comes}
 
 -- ---- one outcome
@@ -65,18 +64,22 @@ summary_reported : (outcome : Result Summary FileFault) (s summary : Summary) �
 summary_reported (Ok r) s summary h reported = let e : s ≡ r = cc in reported ∙ e
 summary_reported (Err f) s summary h reported = absurd cc
 
-module _ (old new : Fed) (b : List ℕ) (left : old.left ≡ Some b) (outcome : Result Summary FileFault) (comes : FileHasOutcome summarised b outcome) where
+-- what is counted of a topology
+abbrev pub counting : (Contents → Summary) → Contents → Counts → Result Summary FileFault
+counting of t counts = Ok (of t)
+
+module _ (of : Contents → Summary) (old new : Fed) (b : List ℕ) (left : old.left ≡ Some b) (outcome : Result Summary FileFault) (comes : FileHasOutcome (counting of) b outcome) where
   -- the summary of the topology that was read
-  pub summary_decides : (t : Contents) (counts : Counts) (summary : Summary) → IsTopologyRead old new t counts → summary ≡ summary_of t → FollowsSummary outcome (Ok summary)
-  summary_decides t counts summary is reported = summary_reported outcome (summary_of t) summary (one_file summarised b (Ok (summary_of t)) outcome (topology_comes summarised old new b t counts left is) comes) reported
+  pub summary_decides : (t : Contents) (counts : Counts) (summary : Summary) → IsTopologyRead old new t counts → summary ≡ of t → FollowsSummary outcome (Ok summary)
+  summary_decides t counts summary is reported = summary_reported outcome (of t) summary (one_file (counting of) b (Ok (of t)) outcome (topology_comes (counting of) old new b t counts left is) comes) reported
 
   -- why there is none
   pub summary_fails : (e : FileFault) → FailsToGive old new e → FollowsSummary outcome (Err e)
-  summary_fails e fails = on (fails_come summarised old new b e left fails)
+  summary_fails e fails = on (fails_come (counting of) old new b e left fails)
     where
-      on : IsOutsideGiven e ⊎ FileHasOutcome summarised b (Err e) → FollowsSummary outcome (Err e)
+      on : IsOutsideGiven e ⊎ FileHasOutcome (counting of) b (Err e) → FollowsSummary outcome (Err e)
       on (inl out) = summary_outside outcome e out
-      on (inr all) = summary_fault outcome e (one_file summarised b (Err e) outcome all comes)
+      on (inr all) = summary_fault outcome e (one_file (counting of) b (Err e) outcome all comes)
 
 -- ---- the text follows
 

@@ -5,6 +5,7 @@ use Rattle.inputs.specs.declared.file_fault.FileFault.{FileFault}
 use Rattle.inputs.specs.declared.file_fault.FileFault.TheVariants.{Read, Json, Topo, NoObject, Write, Memory}
 use Rattle.reports.specs.declared.report.Report.{Report}
 use Rattle.layer_topology.specs.declared.guards.Guards.{Guards}
+use Rattle.layer_topology.specs.declared.level.Level.{Level}
 use Rattle.mapchain_engine.specs.FileOutcomes.{FileHasOutcome, plain_file_outcome, IsOutsideGiven}
 use Rattle.mapchain_engine.specs.Files.{FailsToGive}
 use Rattle.mapchain_engine.proofs.FilesDecided.{one_file, topology_comes, fails_come, is_outside}
@@ -35,23 +36,23 @@ module _ (sink_old sink_new : Drained) where
   follows_cut (Ok s) r sent h = tt
   follows_cut (Err f) r sent h = absurd cc
 
-  module _ (guards : Guards) (t limit : ℕ) (old new : Fed) (b : List ℕ) (left : old.left ≡ Some b) (outcome : Result Made FileFault) (comes : FileHasOutcome (simplified guards t limit) b outcome) where
+  module _ (guards : Guards) (level : Level) (limit : ℕ) (old new : Fed) (b : List ℕ) (left : old.left ≡ Some b) (outcome : Result Made FileFault) (comes : FileHasOutcome (simplified guards level limit) b outcome) where
     failed : (e : FileFault) → FailsToGive old new e → FollowsSimplified sink_old sink_new outcome (Err e)
-    failed e fails = on (fails_come (simplified guards t limit) old new b e left fails)
+    failed e fails = on (fails_come (simplified guards level limit) old new b e left fails)
       where
-        on : IsOutsideGiven e ⊎ FileHasOutcome (simplified guards t limit) b (Err e) → FollowsSimplified sink_old sink_new outcome (Err e)
+        on : IsOutsideGiven e ⊎ FileHasOutcome (simplified guards level limit) b (Err e) → FollowsSimplified sink_old sink_new outcome (Err e)
         on (inl out) = follows_outside outcome e out
-        on (inr all) = follows_fault outcome e (one_file (simplified guards t limit) b (Err e) outcome all comes)
+        on (inr all) = follows_fault outcome e (one_file (simplified guards level limit) b (Err e) outcome all comes)
 
-    pub simplified_follows : (report : Report) → IsSimplified guards t limit old new sink_old sink_new report → FollowsSimplified sink_old sink_new outcome (Ok report)
+    pub simplified_follows : (report : Report) → IsSimplified guards level limit old new sink_old sink_new report → FollowsSimplified sink_old sink_new outcome (Ok report)
     simplified_follows report is =
-        follows_written outcome (simplified_contents_text guards t limit is.contents, report_of guards t limit is.contents is.counts) report
-        (one_file (simplified guards t limit) b (simplified guards t limit is.contents is.counts) outcome (topology_comes (simplified guards t limit) old new b is.contents is.counts left is.read) comes) is.written is.sound is.reported
+        follows_written outcome (simplified_contents_text guards level limit is.contents, report_of guards level limit is.contents is.counts) report
+        (one_file (simplified guards level limit) b (simplified guards level limit is.contents is.counts) outcome (topology_comes (simplified guards level limit) old new b is.contents is.counts left is.read) comes) is.written is.sound is.reported
 
-    pub fault_follows : (e : FileFault) → IsSimplifyFault guards t limit old new sink_old sink_new e → FollowsSimplified sink_old sink_new outcome (Err e)
+    pub fault_follows : (e : FileFault) → IsSimplifyFault guards level limit old new sink_old sink_new e → FollowsSimplified sink_old sink_new outcome (Err e)
     fault_follows (Write sent) is =
-        follows_cut outcome (simplified_contents_text guards t limit is.contents, report_of guards t limit is.contents is.counts) sent
-        (one_file (simplified guards t limit) b (simplified guards t limit is.contents is.counts) outcome (topology_comes (simplified guards t limit) old new b is.contents is.counts left is.read) comes)
+        follows_cut outcome (simplified_contents_text guards level limit is.contents, report_of guards level limit is.contents is.counts) sent
+        (one_file (simplified guards level limit) b (simplified guards level limit is.contents is.counts) outcome (topology_comes (simplified guards level limit) old new b is.contents is.counts left is.read) comes)
     fault_follows NoObject is = failed NoObject is.1
     fault_follows Memory is = failed Memory is.1
     fault_follows (Read r) is = failed (Read r) is.1

@@ -15,10 +15,11 @@ use Rattle.topojson_types.specs.Transforms.{place}
 use Rattle.topojson_types.specs.Values.{topology_value}
 use Rattle.layer_topology.specs.GuardedLaws.{SimplifiedUnderLaw}
 use Rattle.layer_topology.specs.declared.guards.Guards.{Guards}
+use Rattle.layer_topology.specs.declared.level.Level.{Level}
 use Rattle.mapchain_engine.specs.Files.{FailsToGive}
 use Rattle.mapchain_engine.specs.Geo.{SendsText}
 use Rattle.mapchain_engine.specs.SimplifyLaws.{SimplifiedIsUtf8}
-use Rattle.mapchain_engine.specs.Simplified.{IsReadAndSimplified, IsSimplified, IsSimplifyFault}
+use Rattle.mapchain_engine.specs.Simplified.{IsReadAndSimplified, IsSimplified, IsSimplifyFault, topology_threshold}
 
 -- ---- positions of cells
 
@@ -28,24 +29,24 @@ placed (Some t) cells = refl
 
 -- ---- nothing is written
 
-pub not_given : (guards : Guards) (t limit : ℕ) (old new : Fed) (sink : Drained) (e : FileFault) → FailsToGive old new e → IsSimplifyFault guards t limit old new sink sink e
-not_given guards t limit old new sink (Read r) f = (refl, f)
-not_given guards t limit old new sink (Json r) f = (refl, f)
-not_given guards t limit old new sink (Topo r) f = (refl, f)
-not_given guards t limit old new sink NoObject f = (refl, f)
-not_given guards t limit old new sink Memory f = (refl, f)
-not_given guards t limit old new sink (Write sent) f = absurd f.2
+pub not_given : (guards : Guards) (level : Level) (limit : ℕ) (old new : Fed) (sink : Drained) (e : FileFault) → FailsToGive old new e → IsSimplifyFault guards level limit old new sink sink e
+not_given guards level limit old new sink (Read r) f = (refl, f)
+not_given guards level limit old new sink (Json r) f = (refl, f)
+not_given guards level limit old new sink (Topo r) f = (refl, f)
+not_given guards level limit old new sink NoObject f = (refl, f)
+not_given guards level limit old new sink Memory f = (refl, f)
+not_given guards level limit old new sink (Write sent) f = absurd f.2
 
 -- ---- the text of what is left is sent
 
-module _ (guards : Guards) (t limit : ℕ) (old new : Fed) (sink_old sink_new : Drained) (less : Contents) (report : Report) (is : IsReadAndSimplified guards t limit old new less report) where
-  pub sent_whole : SimplifiedIsUtf8 → SimplifiedUnderLaw → (sent : ℕ) → SendsText sink_old sink_new (json_text (topology_value less)) (Ok sent) → IsSimplified guards t limit old new sink_old sink_new report
+module _ (guards : Guards) (level : Level) (limit : ℕ) (old new : Fed) (sink_old sink_new : Drained) (less : Contents) (report : Report) (is : IsReadAndSimplified guards level limit old new less report) where
+  pub sent_whole : SimplifiedIsUtf8 → SimplifiedUnderLaw → (sent : ℕ) → SendsText sink_old sink_new (json_text (topology_value less)) (Ok sent) → IsSimplified guards level limit old new sink_old sink_new report
   sent_whole utf8 law sent w =
       let all = subst (λ z. WritesAll sink_old sink_new 0 (json_text (topology_value z)) sent) is.left w.0 in
       let read = is.read in
-      record { contents = is.contents; counts = is.counts; read = is.read; utf8 = utf8 guards t limit read.bytes is.contents is.counts read.spells; written = all.took; sound = all.sound; flushed = w.1; reported = is.reported; crosses = (law guards t limit is.contents).crosses }
+      record { contents = is.contents; counts = is.counts; read = is.read; utf8 = utf8 guards level limit read.bytes is.contents is.counts read.spells; written = all.took; sound = all.sound; flushed = w.1; reported = is.reported; crosses = (law guards (topology_threshold level is.contents) limit is.contents).crosses }
 
-  pub cut_short : (e : FileFault) → SendsText sink_old sink_new (json_text (topology_value less)) (Err e) → IsSimplifyFault guards t limit old new sink_old sink_new e
+  pub cut_short : (e : FileFault) → SendsText sink_old sink_new (json_text (topology_value less)) (Err e) → IsSimplifyFault guards level limit old new sink_old sink_new e
   cut_short (Write sent) w =
       record { contents = is.contents; counts = is.counts; read = is.read; written = rw is.left at w }
   cut_short (Read r) w = absurd w

@@ -1,5 +1,5 @@
 -- The outcome of the bytes that a build wrote, and what is answered of them.
-use Rattle.std.specs.Prelude.{◌≡◌, ℕ, ◌≤◌, List, Some, Result, Ok, Err, IfErr, length}
+use Rattle.std.specs.Prelude.{◌≡◌, ℕ, ◌≤◌, false, List, Some, Result, Ok, Err, IfErr, length}
 use Rattle.std.specs.List.{AllByRecursion}
 use Rattle.byte_ends.specs.Ends.{Fed, Drained, Takes}
 use Rattle.byte_ends.specs.Writes.{WritesAll}
@@ -10,6 +10,7 @@ use Rattle.inputs.specs.declared.file_fault.FileFault.TheVariants.{Memory}
 use Rattle.inputs.specs.Texts.{max_input}
 use Rattle.inputs.specs.Sources.{Sources}
 use Rattle.layer_topology.specs.declared.guards.Guards.{Guards}
+use Rattle.layer_topology.specs.declared.level.Level.{Level}
 use Rattle.mapchain_engine.specs.Laws.{IsWrittenTo}
 use Rattle.reports.specs.declared.report.Report.{Report}
 use Rattle.reports.specs.declared.summary.Summary.{Summary}
@@ -23,14 +24,16 @@ use Rattle.mapchain_engine.specs.SimplifyOutcomes.{simplified, FollowsSimplified
 use Rattle.mapchain_engine.specs.Simplified.{simplified_contents_text, report_of, IsSimplifyFault}
 
 -- Where they are no more than an input may have, what a build wrote comes, with the name of each layer, to the text of the features that
--- are expected of it, to the summary of the topology that is built, and at each threshold and ring limit to what is left of that topology. So `to_geo`,
+-- are expected of it, where crossings might be made; with any name to the text of the features that its object of this name decodes to; to
+-- the summary of the topology that is built, and at each level and ring limit to what is left of that topology. So `to_geo`,
 -- `stat` and `simplify`, which answer the outcome of the bytes, refuse it only for memory or a device.
 abbrev pub ComesBack : Type 0
 ComesBack = (o : Options) (olds news : Sources) (sink_old sink_new : Drained) (report : Report) (is : IsBuilt o olds news sink_old sink_new report)
     (source : Fed) (from : IsWrittenTo sink_old sink_new source) → length from.bytes ≤ max_input
-    → AllByRecursion (λ l. FileHasOutcome (object_text l.0) from.bytes (Ok (features_text (Many l.1.features)))) (expected_for o is.layers)
+    → (o.guards.no_crossings ≡ false → AllByRecursion (λ l. FileHasOutcome (object_text l.0) from.bytes (Ok (features_text (Many l.1.features)))) (expected_for o is.layers))
+    × ((name : List ℕ) → FileHasOutcome (object_text name) from.bytes (object_text name (written_for o is.layers) no_counts))
     × FileHasOutcome summarised from.bytes (Ok (summary_of (written_for o is.layers)))
-    × ((guards : Guards) (t limit : ℕ) → FileHasOutcome (simplified guards t limit) from.bytes (simplified guards t limit (written_for o is.layers) no_counts))
+    × ((guards : Guards) (level : Level) (limit : ℕ) → FileHasOutcome (simplified guards level limit) from.bytes (simplified guards level limit (written_for o is.layers) no_counts))
 
 -- ---- what is answered of them
 
@@ -44,9 +47,9 @@ pub record AnswersStat (old new : Fed) (result : Result Summary FileFault) : Typ
   pub refused : IfErr result (λ e. FailsToGive old new e)
   pub decided : (bytes : List ℕ) (outcome : Result Summary FileFault) → old.left ≡ Some bytes → FileHasOutcome summarised bytes outcome → FollowsSummary outcome result
 
-pub record AnswersSimplify (guards : Guards) (t limit : ℕ) (old new : Fed) (out_old out_new : Drained) (result : Result Report FileFault) : Type 0 where
-  pub refused : IfErr result (λ e. IsSimplifyFault guards t limit old new out_old out_new e)
-  pub decided : (bytes : List ℕ) (outcome : Result (List ℕ × Report) FileFault) → old.left ≡ Some bytes → FileHasOutcome (simplified guards t limit) bytes outcome
+pub record AnswersSimplify (guards : Guards) (level : Level) (limit : ℕ) (old new : Fed) (out_old out_new : Drained) (result : Result Report FileFault) : Type 0 where
+  pub refused : IfErr result (λ e. IsSimplifyFault guards level limit old new out_old out_new e)
+  pub decided : (bytes : List ℕ) (outcome : Result (List ℕ × Report) FileFault) → old.left ≡ Some bytes → FileHasOutcome (simplified guards level limit) bytes outcome
       → FollowsSimplified out_old out_new outcome result
 
 -- an answer of which this holds, or want of memory
@@ -55,11 +58,11 @@ OrMemory P (Ok a) = P a
 OrMemory P (Err e) = e ≡ Memory
 
 -- Where they are no more than an input may have, and no device has failed, `to_geo` with the name of a layer writes, of what a build
--- wrote, the text of the features that are expected of that layer,
+-- wrote for which crossings might be made, the text of the features that are expected of that layer,
 abbrev pub GeoIsNeverRefused : Type 0
 GeoIsNeverRefused = (o : Options) (olds news : Sources) (sink_old sink_new : Drained) (report : Report) (is : IsBuilt o olds news sink_old sink_new report)
     (source after : Fed) (out_old out_new : Drained) (result : Result ℕ FileFault) (from : IsWrittenTo sink_old sink_new source) → length from.bytes ≤ max_input
-    → after.failures ≡ 0 → out_new.failures ≡ 0
+    → after.failures ≡ 0 → out_new.failures ≡ 0 → o.guards.no_crossings ≡ false
     → AllByRecursion (λ l. AnswersGeo l.0 source after out_old out_new result → OrMemory (λ sent. WritesAll out_old out_new 0 (features_text (Many l.1.features)) sent) result)
     (expected_for o is.layers)
 
@@ -69,10 +72,10 @@ StatIsNeverRefused = (o : Options) (olds news : Sources) (sink_old sink_new : Dr
     (source after : Fed) (result : Result Summary FileFault) (from : IsWrittenTo sink_old sink_new source) → length from.bytes ≤ max_input
     → after.failures ≡ 0 → AnswersStat source after result → OrMemory (λ summary. summary ≡ summary_of (written_for o is.layers)) result
 
--- `simplify` writes at each threshold and ring limit the text of what is left of the topology that was built, with its report; or there is no memory.
+-- `simplify` writes at each level and ring limit the text of what is left of the topology that was built, with its report; or there is no memory.
 abbrev pub SimplifyIsNeverRefused : Type 0
 SimplifyIsNeverRefused = (o : Options) (olds news : Sources) (sink_old sink_new : Drained) (report : Report) (is : IsBuilt o olds news sink_old sink_new report)
-    (guards : Guards) (t limit : ℕ) (source after : Fed) (out_old out_new : Drained) (result : Result Report FileFault) (from : IsWrittenTo sink_old sink_new source) → length from.bytes ≤ max_input
-    → after.failures ≡ 0 → out_new.failures ≡ 0 → AnswersSimplify guards t limit source after out_old out_new result
-    → OrMemory (λ reported. Takes out_old out_new (simplified_contents_text guards t limit (written_for o is.layers)) (length (simplified_contents_text guards t limit (written_for o is.layers)))
-    × (reported ≡ report_of guards t limit (written_for o is.layers) no_counts)) result
+    (guards : Guards) (level : Level) (limit : ℕ) (source after : Fed) (out_old out_new : Drained) (result : Result Report FileFault) (from : IsWrittenTo sink_old sink_new source) → length from.bytes ≤ max_input
+    → after.failures ≡ 0 → out_new.failures ≡ 0 → AnswersSimplify guards level limit source after out_old out_new result
+    → OrMemory (λ reported. Takes out_old out_new (simplified_contents_text guards level limit (written_for o is.layers)) (length (simplified_contents_text guards level limit (written_for o is.layers)))
+    × (reported ≡ report_of guards level limit (written_for o is.layers) no_counts)) result

@@ -1,5 +1,5 @@
 -- What `build` answers, reads and writes.
-use Rattle.std.specs.Prelude.{◌≡◌, ℕ, ◌++◌, ◌<◌, true, List, length, map, Option, Some, Result, Ok, Err, IsUtf8}
+use Rattle.std.specs.Prelude.{◌≡◌, ℕ, ◌++◌, ◌<◌, true, false, List, length, map, Option, Some, Result, Ok, Err, IsUtf8}
 use Rattle.std.specs.List.{AllByRecursion}
 use Rattle.byte_ends.specs.Ends.{Drained, Takes, saturated}
 use Rattle.byte_ends.specs.Writes.{WritesAll, WritesPrefix}
@@ -12,17 +12,22 @@ use Rattle.geojson_types.specs.Counting.{no_counts}
 use Rattle.json_value.specs.Text.{json_text}
 use Rattle.topojson_types.specs.Decoding.{decoded}
 use Rattle.topojson_types.specs.Topologies.{Contents}
+use Rattle.topojson_types.specs.Validity.{IsTopology}
 use Rattle.topojson_types.specs.Values.{topology_value}
 use Rattle.arc_table.specs.Laws.{AreOnceIn}
-use Rattle.build_meaning.specs.Built.{all_arcs, removed_count}
-use Rattle.build_meaning.specs.Expected.{expected, expected_dropped}
+use Rattle.build_meaning.specs.Built.{all_arcs}
+use Rattle.build_meaning.specs.Expected.{expected}
 use Rattle.build_meaning.specs.Layers.{layers_of, names_of}
 use Rattle.cutter.specs.Segments.{line_segments}
 use Rattle.effective_area.specs.Calls.{Call}
 use Rattle.linework.specs.Linework.{linework}
+use Rattle.layer_topology.specs.Guarded.{simplified_under, CrossesNoMore}
+use Rattle.layer_topology.specs.GuardedLaws.{WrittenUnderLaw}
+use Rattle.layer_topology.specs.GuardedWritten.{calls_under, lines_dropped_under, positions_removed_under, written_under}
 use Rattle.layer_topology.specs.Laws.{WrittenLaws}
-use Rattle.layer_topology.specs.Levels.{level_calls, level_chosen, level_threshold}
+use Rattle.layer_topology.specs.Levels.{level_chosen, level_threshold}
 use Rattle.layer_topology.specs.Written.{snapped_to, written as written_on}
+use Rattle.simplified_topology.specs.Laws.{labels}
 use Rattle.topojson_meaning.specs.Laws.{ReadsBack, TextIsRead}
 use Rattle.topojson_meaning.specs.Texts.{TextIsUtf8}
 use Rattle.topojson_meaning.specs.Topologies.{topology}
@@ -48,15 +53,20 @@ threshold_for o layers = level_threshold o.grid o.level layers
 abbrev pub chosen_for : Options → Named → Option ℕ
 chosen_for o layers = level_chosen o.grid o.level layers
 
--- what a reducer is asked for: to reduce each of their arcs at the threshold that is given, in order, and nothing for a share
+-- what a reducer is asked for: to reduce each of their arcs at the threshold that is given, in order, and nothing for a share, nor where no
+-- crossing may be made
 abbrev pub calls_for : Options → Named → List Call
-calls_for o layers = level_calls o.grid o.level layers
+calls_for o layers = calls_under o.guards o.grid o.level layers
 
 -- the topology that is written of layers
 abbrev pub written_for : Options → Named → Contents
-written_for o layers = written_on o.grid (threshold_for o layers) o.ring_limit layers
+written_for o layers = written_under o.guards o.grid (threshold_for o layers) o.ring_limit layers
 
--- the features that are expected of it, by layers
+-- the one that is written of them on the same grid at a threshold and a limit of zero
+abbrev pub whole_for : Options → Named → Contents
+whole_for o layers = written_on o.grid 0 0 layers
+
+-- the features that are expected of what is written where crossings may be made, by layers
 abbrev pub expected_for : Options → Named → Named
 expected_for o layers = expected (threshold_for o layers) o.ring_limit (snapped_for o layers)
 
@@ -65,6 +75,7 @@ expected_for o layers = expected (threshold_for o layers) o.ring_limit (snapped_
 -- what is written of layers is valid, decodes back and has each segment once; what is written is read again
 pub record BuildingLaws : Type 0 where
   pub written : WrittenLaws
+  pub under : WrittenUnderLaw
   pub read : ReadsBack
   pub spelled : TextIsRead
   pub utf8 : TextIsUtf8
@@ -72,10 +83,20 @@ pub record BuildingLaws : Type 0 where
 
 -- ---- what is written
 
+-- Where no crossing may be made, the topology is valid, and it is what is left of the one that is written of the layers at zero where this is simplified
+-- under the same guards. Decoding that one gives each layer's features whole; the topology has the same names, identifiers and properties, and
+-- no more of its segments cross, lie on one another, or touch but at an end of both, and none where none of that one's do.
+pub record IsGuarded (o : Options) (layers : Named) (contents : Contents) : Type 0 where
+  pub valid : IsTopology contents
+  pub whole : AllByRecursion (λ l. decoded (whole_for o layers) l.0 ≡ Some (set.Many l.1.features)) (expected 0 0 (snapped_for o layers))
+  pub labels_stay : labels contents ≡ labels (whole_for o layers)
+  pub crosses : CrossesNoMore (whole_for o layers) contents
+  pub left : contents ≡ simplified_under o.guards (threshold_for o layers) o.ring_limit (whole_for o layers)
+
 -- The text is UTF-8, and JSON (RFC 8259) of a topology (TopoJSON 1.0) whose objects have the names of the layers, in order. Decoding each gives
--- the features that are expected of its layer, snapped to the grid that is asked for, at the threshold and the least ring area. The
--- topology is the one that is written of the layers, the text is its text, and before reduction each segment of the layers' lines lies
--- once, in exactly one arc.
+-- the features that are expected of its layer, snapped to the grid that is asked for, at the threshold and the least ring area, unless no
+-- crossing may be made; then it is what is left of the whole topology. The topology is the one that is written of the layers, the text is
+-- its text, and before reduction each segment of the layers' lines lies once, in exactly one arc.
 pub record SaysTopology (o : Options) (layers : Named) (text : List ℕ) : Type 0 where
   pub utf8 : IsUtf8 text
   pub value : Json
@@ -83,7 +104,8 @@ pub record SaysTopology (o : Options) (layers : Named) (text : List ℕ) : Type 
   pub contents : Contents
   pub stands : topology value ≡ Ok (contents, no_counts)
   pub names : map (λ b. b.0) contents.objects ≡ names_of layers
-  pub features : AllByRecursion (λ l. decoded contents l.0 ≡ Some (set.Many l.1.features)) (expected_for o layers)
+  pub features : o.guards.no_crossings ≡ false → AllByRecursion (λ l. decoded contents l.0 ≡ Some (set.Many l.1.features)) (expected_for o layers)
+  pub guarded : o.guards.no_crossings ≡ true → IsGuarded o layers contents
   pub shared : contents ≡ written_for o layers
   pub written : text ≡ json_text (topology_value contents)
   pub once : AreOnceIn (all_arcs (linework (layers_of (snapped_for o layers)))) (line_segments (linework (layers_of (snapped_for o layers))))
@@ -92,15 +114,16 @@ pub record SaysTopology (o : Options) (layers : Named) (text : List ℕ) : Type 
 -- threshold, where it was chosen
 abbrev pub report_of : Options → Named → List Counts → Report
 report_of o layers counts =
-    report_with (added counts) (expected_dropped (threshold_for o layers) o.ring_limit (snapped_for o layers)) (written_for o layers).arcs
-    (saturated (removed_count (threshold_for o layers) o.ring_limit (snapped_for o layers))) (chosen_for o layers)
+    report_with (added counts) (lines_dropped_under o.guards o.grid (threshold_for o layers) o.ring_limit layers) (written_for o layers).arcs
+    (saturated (positions_removed_under o.guards o.grid (threshold_for o layers) o.ring_limit layers)) (chosen_for o layers)
 
 -- all sources spell layers, and the text is their topology
 pub record Builds (o : Options) (olds news : Sources) (layers : Named) (counts : List Counts) (text : List ℕ) : Type 0 where
   pub read : AllRead o.exact olds news layers counts
   pub topology : SaysTopology o layers text
 
--- all sources spell layers, and a reducer that was asked for so much before was asked to reduce their arcs since, and for nothing else
+-- all sources spell layers, and a reducer that was asked for so much before was asked to reduce their arcs since, unless all
+-- are reduced at once, and for nothing else
 pub record CallsForLayers (o : Options) (olds news : Sources) (before after : List Call) : Type 0 where
   pub layers : Named
   pub counts : List Counts

@@ -17,13 +17,18 @@ use Rattle.reports.specs.declared.summary.Summary.{Summary}
 use Rattle.json_value.specs.Limits.{topology_depth}
 use Rattle.mapchain_engine.specs.Geo.{features_text}
 use Rattle.inputs.specs.Texts.{BytesHaveOutcome, plain_text_fault}
-use Rattle.reports.specs.Summaries.{summary_of}
+use Rattle.reports.specs.Summaries.{summary_of, with_crossings}
+use Rattle.simplified_topology.specs.Guarded.{crossings_of}
 
 -- ---- what is asked of a topology and of what is counted in reading it
 
 -- the summary of a topology
 abbrev pub summarised : Contents → Counts → Result Summary FileFault
 summarised t counts = Ok (summary_of t)
+
+-- with its crossings
+abbrev pub summarised_with_crossings : Contents → Counts → Result Summary FileFault
+summarised_with_crossings t counts = Ok (with_crossings (crossings_of t) (summary_of t))
 
 abbrev pub text_if_any : Option FeatureSet → Result (List ℕ) FileFault
 text_if_any None = Err NoObject

@@ -1,5 +1,5 @@
 -- The topology that a file's bytes spell, or why they spell none.
-use Rattle.std.specs.Prelude.{◌≡◌, ◌≢◌, ℕ, List, Result, Ok, Err, IsUtf8}
+use Rattle.std.specs.Prelude.{◌≡◌, ◌≢◌, ℕ, Bool, true, false, List, Result, Ok, Err, IsUtf8}
 use Rattle.byte_ends.specs.Ends.{Fed}
 use Rattle.json_value.specs.declared.json.Json.{Json as Value}
 use Rattle.json_value.specs.Grammar.{Reads}
@@ -16,7 +16,8 @@ use Rattle.inputs.specs.declared.file_fault.FileFault.{FileFault}
 use Rattle.inputs.specs.declared.file_fault.FileFault.TheVariants.{Read, Json, Topo, NoObject, Write, Memory}
 use Rattle.inputs.specs.Texts.{IsNoText, IsRead, IsUntroubled, FailsToEnd}
 use Rattle.reports.specs.declared.summary.Summary.{Summary}
-use Rattle.reports.specs.Summaries.{summary_of}
+use Rattle.reports.specs.Summaries.{summary_of, with_crossings}
+use Rattle.simplified_topology.specs.Guarded.{crossings_of}
 
 -- the bytes are UTF-8 and spell a JSON value (RFC 8259) that stands for this topology (TopoJSON 1.0), with what is counted in
 -- reading it
@@ -81,3 +82,15 @@ pub record IsSummarised (old new : Fed) (summary : Summary) : Type 0 where
   pub counts : Counts
   pub read : IsTopologyRead old new contents counts
   pub reported : summary ≡ summary_of contents
+
+-- the same, with the crossings of the topology
+pub record IsCounted (old new : Fed) (summary : Summary) : Type 0 where
+  pub contents : Contents
+  pub counts : Counts
+  pub read : IsTopologyRead old new contents counts
+  pub reported : summary ≡ with_crossings (crossings_of contents) (summary_of contents)
+
+-- with crossings (true), or without
+abbrev pub IsReported : Bool → Fed → Fed → Summary → Type 0
+IsReported true old new summary = IsCounted old new summary
+IsReported false old new summary = IsSummarised old new summary

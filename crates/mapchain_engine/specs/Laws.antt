@@ -1,5 +1,5 @@
 -- What is true of a topology that was built and is read again.
-use Rattle.std.specs.Prelude.{◌≡◌, ℕ, List, ◌++◌, Some, length}
+use Rattle.std.specs.Prelude.{◌≡◌, ℕ, false, List, ◌++◌, Some, length}
 use Rattle.std.specs.List.{AllByRecursion}
 use Rattle.byte_ends.specs.Ends.{Fed, Drained, Takes}
 use Rattle.byte_ends.specs.Writes.{WritesAll}
@@ -7,7 +7,7 @@ use Rattle.geojson_types.specs.declared.layer.FeatureSet.TheVariants.{Many}
 use Rattle.build_meaning.specs.Expected.{kept_line}
 use Rattle.build_meaning.specs.Laws.{whole_line}
 use Rattle.build_meaning.specs.Layers.{layers_of, named_lines_and_rings}
-use Rattle.layer_topology.specs.Guarded.{no_guards}
+use Rattle.layer_topology.specs.declared.level.Level.TheVariants.{Fixed}
 use Rattle.linework.specs.Linework.{linework}
 use Rattle.reports.specs.declared.report.Report.{Report}
 use Rattle.reports.specs.declared.summary.Summary.{Summary}
@@ -17,6 +17,8 @@ use Rattle.mapchain_engine.specs.Geo.{features_text, IsDecoded}
 use Rattle.inputs.specs.Outcomes.{Texts, HaveBytes}
 use Rattle.inputs.specs.Sources.{Sources, Named}
 use Rattle.reports.specs.Summaries.{summary_of}
+use Rattle.simplified_topology.specs.Assembled.{arcs_of_layers}
+use Rattle.simplified_topology.specs.Guarded.{arc_positions}
 use Rattle.mapchain_engine.specs.Files.{IsSummarised}
 use Rattle.mapchain_engine.specs.Simplified.{IsSimplified}
 
@@ -34,10 +36,10 @@ WritesEach layers source =
     AllByRecursion (λ l. (after : Fed) (out_old out_new : Drained) (sent : ℕ) → IsDecoded l.0 source after out_old out_new sent
     → WritesAll out_old out_new 0 (features_text (Many l.1.features)) sent) layers
 
--- what a build wrote is decoded to the features that are expected of each layer
+-- what a build wrote for which crossings might be made is decoded to the features that are expected of each layer
 abbrev pub DecodesBack : Type 0
 DecodesBack = (o : Options) (olds news : Sources) (sink_old sink_new : Drained) (report : Report) (is : IsBuilt o olds news sink_old sink_new report)
-    (source : Fed) → IsWrittenTo sink_old sink_new source → WritesEach (expected_for o is.layers) source
+    (source : Fed) → o.guards.no_crossings ≡ false → IsWrittenTo sink_old sink_new source → WritesEach (expected_for o is.layers) source
 
 -- at a threshold and a ring limit of zero each line of the layers, snapped to the grid that is asked for, is expected as it is, with
 -- equal neighbours as one position, a ring from its start, unless it has too few positions
@@ -53,14 +55,28 @@ SummarisesBack = (o : Options) (olds news : Sources) (sink_old sink_new : Draine
     (source after : Fed) (summary : Summary) → IsWrittenTo sink_old sink_new source → IsSummarised source after summary → summary ≡ summary_of (written_for o is.layers)
 
 -- The topology that a build at a threshold and a ring limit of zero wrote, simplified by the ring limit of another build of the same layers
--- on the same grid and by its threshold, given or chosen, is byte for byte what that one writes.
+-- on the same grid, by its threshold, given or chosen, and under its guards, is byte for byte what that one writes.
 abbrev pub SimplifiesToBuilt : Type 0
 SimplifiesToBuilt = (o p : Options) (olds news : Sources) (sink_old sink_new : Drained) (report : Report) (full : IsBuilt o olds news sink_old sink_new report)
     (more_olds more_news : Sources) (more_old more_new : Drained) (more_report : Report) (small : IsBuilt p more_olds more_news more_old more_new more_report)
     → threshold_for o full.layers ≡ 0 → o.ring_limit ≡ 0 → p.grid ≡ o.grid → small.layers ≡ full.layers
     → (source after : Fed) (out_old out_new : Drained) (simplified : Report) → IsWrittenTo sink_old sink_new source
-    → IsSimplified no_guards (threshold_for p small.layers) p.ring_limit source after out_old out_new simplified
+    → IsSimplified p.guards (Fixed (threshold_for p small.layers)) p.ring_limit source after out_old out_new simplified
     → Takes out_old out_new small.text (length small.text)
+
+-- each arc of the layers is in the topology that is written of them
+abbrev pub HasEachArc : Options → Named → Type 0
+HasEachArc o layers = arc_positions (written_for o layers) ≡ arcs_of_layers (snapped_for o layers)
+
+-- The topology that a build at a threshold and a ring limit of zero wrote, where each arc of the layers is in it, simplified by the level and the
+-- ring limit of another build of the same layers on the same grid, and under its guards, is byte for byte what that one writes, and both choose the same threshold.
+abbrev pub SimplifiesByLevel : Type 0
+SimplifiesByLevel = (o p : Options) (olds news : Sources) (sink_old sink_new : Drained) (report : Report) (full : IsBuilt o olds news sink_old sink_new report)
+    (more_olds more_news : Sources) (more_old more_new : Drained) (more_report : Report) (small : IsBuilt p more_olds more_news more_old more_new more_report)
+    → threshold_for o full.layers ≡ 0 → o.ring_limit ≡ 0 → p.grid ≡ o.grid → small.layers ≡ full.layers → HasEachArc o full.layers
+    → (source after : Fed) (out_old out_new : Drained) (simplified : Report) → IsWrittenTo sink_old sink_new source
+    → IsSimplified p.guards p.level p.ring_limit source after out_old out_new simplified
+    → Takes out_old out_new small.text (length small.text) × (simplified.chosen ≡ more_report.chosen)
 
 -- ---- the same bytes
 
@@ -83,5 +99,5 @@ SimplifiesToBuiltOfSame = (o p : Options) (olds news : Sources) (sink_old sink_n
     (more_olds more_news : Sources) (more_old more_new : Drained) (more_report : Report) (small : IsBuilt p more_olds more_news more_old more_new more_report)
     → threshold_for o full.layers ≡ 0 → o.ring_limit ≡ 0 → p.grid ≡ o.grid → p.exact ≡ o.exact → HaveSameBytes olds more_olds
     → (source after : Fed) (out_old out_new : Drained) (simplified : Report) → IsWrittenTo sink_old sink_new source
-    → IsSimplified no_guards (threshold_for p small.layers) p.ring_limit source after out_old out_new simplified
+    → IsSimplified p.guards (Fixed (threshold_for p small.layers)) p.ring_limit source after out_old out_new simplified
     → Takes out_old out_new small.text (length small.text)

@@ -1,14 +1,17 @@
 -- What `simplify` answers, reads and writes.
-use Rattle.std.specs.Prelude.{◌≡◌, ℕ, ◌++◌, true, List, [], length, map, None, if◌then◌else◌, IsUtf8}
+use Rattle.std.specs.Prelude.{◌≡◌, ℕ, ◌++◌, true, List, [], length, map, Option, if◌then◌else◌, IsUtf8}
 use Rattle.byte_ends.specs.Ends.{Fed, Drained, Takes, saturated}
 use Rattle.byte_ends.specs.Writes.{WritesPrefix}
-use Rattle.effective_area.specs.Calls.{Call, calls_for}
+use Rattle.effective_area.specs.Calls.{Call}
 use Rattle.geojson_types.specs.declared.counts.Counts.{Counts}
 use Rattle.inputs.specs.declared.file_fault.FileFault.{FileFault}
 use Rattle.inputs.specs.declared.file_fault.FileFault.TheVariants.{Write}
 use Rattle.json_value.specs.Text.{json_text}
 use Rattle.layer_topology.specs.Guarded.{simplified_under, dropped_under, removed_count_under, CrossesNoMore}
+use Rattle.layer_topology.specs.Levels.{calls_at, chosen_at, threshold_at}
 use Rattle.layer_topology.specs.declared.guards.Guards.{Guards}
+use Rattle.layer_topology.specs.declared.level.Level.{Level}
+use Rattle.simplified_topology.specs.Guarded.{arc_positions}
 use Rattle.simplified_topology.specs.Thresholds.{placed_cells}
 use Rattle.reports.specs.declared.report.Report.{Report}
 use Rattle.reports.specs.Summaries.{report_with}
@@ -18,59 +21,70 @@ use Rattle.mapchain_engine.specs.Files.{IsTopologyRead, FailsToGive}
 
 -- ---- what is left of a topology
 
--- the text (TopoJSON 1.0) of what is left of a topology where its arcs are reduced at the threshold, under the guards that are asked for
-abbrev pub simplified_contents_text : Guards → ℕ → ℕ → Contents → List ℕ
-simplified_contents_text guards t limit y = json_text (topology_value (simplified_under guards t limit y))
+-- the threshold at which its arcs are reduced: the one that is given, or the greatest that keeps the share that is asked for. The share is of
+-- the positions between the ends of all its arcs as they stand, also of those that no line uses, by the positions that the cells stand for
+abbrev pub topology_threshold : Level → Contents → ℕ
+topology_threshold level y = threshold_at level (arc_positions y)
 
--- what was counted in reading the topology, the lines and rings that are dropped, the arcs that are left, their positions, and
--- those that were removed from these arcs
-abbrev pub report_of : Guards → ℕ → ℕ → Contents → Counts → Report
-report_of guards t limit y counts = report_with counts (dropped_under guards t limit y) (simplified_under guards t limit y).arcs (saturated (removed_count_under guards t limit y)) None
+-- this threshold, where it is chosen for a share
+abbrev pub topology_chosen : Level → Contents → Option ℕ
+topology_chosen level y = chosen_at level (arc_positions y)
+
+-- the text (TopoJSON 1.0) of what is left of a topology where its arcs are reduced at the threshold, under the guards that are asked for
+abbrev pub simplified_contents_text : Guards → Level → ℕ → Contents → List ℕ
+simplified_contents_text guards level limit y = json_text (topology_value (simplified_under guards (topology_threshold level y) limit y))
+
+-- what was counted in reading the topology, the lines and rings that are dropped, the arcs that are left, their positions, those that were
+-- removed from these arcs, and the threshold, where it was chosen
+abbrev pub report_of : Guards → Level → ℕ → Contents → Counts → Report
+report_of guards level limit y counts =
+    report_with counts (dropped_under guards (topology_threshold level y) limit y) (simplified_under guards (topology_threshold level y) limit y).arcs
+    (saturated (removed_count_under guards (topology_threshold level y) limit y)) (topology_chosen level y)
 
 -- ---- reading and writing
 
 -- the source was read to its end, its bytes spell a topology, and this is left of it, with this report
-pub record IsReadAndSimplified (guards : Guards) (t limit : ℕ) (old new : Fed) (less : Contents) (report : Report) : Type 0 where
+pub record IsReadAndSimplified (guards : Guards) (level : Level) (limit : ℕ) (old new : Fed) (less : Contents) (report : Report) : Type 0 where
   pub contents : Contents
   pub counts : Counts
   pub read : IsTopologyRead old new contents counts
-  pub left : less ≡ simplified_under guards t limit contents
-  pub reported : report ≡ report_of guards t limit contents counts
+  pub left : less ≡ simplified_under guards (topology_threshold level contents) limit contents
+  pub reported : report ≡ report_of guards level limit contents counts
 
 -- what a reducer is asked for: to reduce each arc at a threshold, by the positions that it stands for, in order, but nothing where all are
--- reduced at once
-abbrev pub calls_of : Guards → ℕ → Contents → List Call
-calls_of guards t y = if guards.no_crossings then [] else calls_for t (map (placed_cells y.transform) y.arcs)
+-- reduced at once, nor at a share, for which each arc is weighed once in place of that
+abbrev pub calls_of : Guards → Level → Contents → List Call
+calls_of guards level y = if guards.no_crossings then [] else calls_at level (map (placed_cells y.transform) y.arcs)
 
 -- the source was read to its end, its bytes spell a topology, and a reducer that was asked for so much before was asked to reduce each of its
--- arcs at this threshold since, unless all are reduced at once, and for nothing else
-pub record CallsForTopology (guards : Guards) (t : ℕ) (old new : Fed) (before after : List Call) : Type 0 where
+-- arcs at this level since, unless all are reduced at once, and for nothing else
+pub record CallsForTopology (guards : Guards) (level : Level) (old new : Fed) (before after : List Call) : Type 0 where
   pub contents : Contents
   pub counts : Counts
   pub read : IsTopologyRead old new contents counts
-  pub called : after ≡ before ++ calls_of guards t contents
+  pub called : after ≡ before ++ calls_of guards level contents
 
 -- the source was read to its end, its bytes spell a topology, the text of what is left of it is UTF-8, the sink took the whole of
 -- it and passed it on, and this is its report; where crossings may not be made, what is left crosses no more than the topology
-pub record IsSimplified (guards : Guards) (t limit : ℕ) (old new : Fed) (sink_old sink_new : Drained) (report : Report) : Type 0 where
+pub record IsSimplified (guards : Guards) (level : Level) (limit : ℕ) (old new : Fed) (sink_old sink_new : Drained) (report : Report) : Type 0 where
   pub contents : Contents
   pub counts : Counts
   pub read : IsTopologyRead old new contents counts
-  pub utf8 : IsUtf8 (simplified_contents_text guards t limit contents)
-  pub written : Takes sink_old sink_new (simplified_contents_text guards t limit contents) (length (simplified_contents_text guards t limit contents))
+  pub utf8 : IsUtf8 (simplified_contents_text guards level limit contents)
+  pub written : Takes sink_old sink_new (simplified_contents_text guards level limit contents) (length (simplified_contents_text guards level limit contents))
   pub sound : sink_new.failures ≡ 0
   pub flushed : sink_new.flushed ≡ true
-  pub reported : report ≡ report_of guards t limit contents counts
-  pub crosses : guards.no_crossings ≡ true → CrossesNoMore contents (simplified_under guards t limit contents)
+  pub reported : report ≡ report_of guards level limit contents counts
+  pub crosses : guards.no_crossings ≡ true → CrossesNoMore contents (simplified_under guards (topology_threshold level contents) limit contents)
 
 -- the device failed when it had taken a prefix of that text
-pub record IsSimplifiedInPart (guards : Guards) (t limit : ℕ) (old new : Fed) (sink_old sink_new : Drained) (sent : ℕ) : Type 0 where
+pub record IsSimplifiedInPart (guards : Guards) (level : Level) (limit : ℕ) (old new : Fed) (sink_old sink_new : Drained) (sent : ℕ) : Type 0 where
   pub contents : Contents
   pub counts : Counts
   pub read : IsTopologyRead old new contents counts
-  pub written : WritesPrefix sink_old sink_new 0 (simplified_contents_text guards t limit contents) sent
+  pub written : WritesPrefix sink_old sink_new 0 (simplified_contents_text guards level limit contents) sent
 
 -- why nothing is written whole: nothing is written unless the device failed
-abbrev pub IsSimplifyFault : Guards → ℕ → ℕ → Fed → Fed → Drained → Drained → FileFault → Type 0
-IsSimplifyFault guards t limit old new sink_old sink_new (Write sent) = IsSimplifiedInPart guards t limit old new sink_old sink_new sent
-IsSimplifyFault guards t limit old new sink_old sink_new e = (sink_new ≡ sink_old) × FailsToGive old new e
+abbrev pub IsSimplifyFault : Guards → Level → ℕ → Fed → Fed → Drained → Drained → FileFault → Type 0
+IsSimplifyFault guards level limit old new sink_old sink_new (Write sent) = IsSimplifiedInPart guards level limit old new sink_old sink_new sent
+IsSimplifyFault guards level limit old new sink_old sink_new e = (sink_new ≡ sink_old) × FailsToGive old new e

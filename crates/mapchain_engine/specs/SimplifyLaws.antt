@@ -5,6 +5,7 @@ use Rattle.geojson_types.specs.declared.counts.Counts.{Counts}
 use Rattle.json_value.specs.declared.json.Json.{Json}
 use Rattle.json_value.specs.Grammar.{Reads}
 use Rattle.layer_topology.specs.declared.guards.Guards.{Guards}
+use Rattle.layer_topology.specs.declared.level.Level.{Level}
 use Rattle.reports.specs.declared.report.Report.{Report}
 use Rattle.topojson_meaning.specs.Topologies.{topology}
 use Rattle.topojson_types.specs.Topologies.{Contents}
@@ -21,10 +22,10 @@ pub record StandsFor (bytes : List ℕ) (contents : Contents) (counts : Counts) 
 -- where a source has left bytes that spell a topology, a simplifying that answers wrote the text of what is left of that topology,
 -- and its report is that of it
 abbrev pub WrittenIsSimplified : Type 0
-WrittenIsSimplified = (guards : Guards) (t limit : ℕ) (bytes : List ℕ) (contents : Contents) (counts : Counts) (source after : Fed) (sink_old sink_new : Drained) (report : Report)
-    → StandsFor bytes contents counts → source.left ≡ Some bytes → IsSimplified guards t limit source after sink_old sink_new report
-    → Takes sink_old sink_new (simplified_contents_text guards t limit contents) (length (simplified_contents_text guards t limit contents)) × (report ≡ report_of guards t limit contents counts)
+WrittenIsSimplified = (guards : Guards) (level : Level) (limit : ℕ) (bytes : List ℕ) (contents : Contents) (counts : Counts) (source after : Fed) (sink_old sink_new : Drained) (report : Report)
+    → StandsFor bytes contents counts → source.left ≡ Some bytes → IsSimplified guards level limit source after sink_old sink_new report
+    → Takes sink_old sink_new (simplified_contents_text guards level limit contents) (length (simplified_contents_text guards level limit contents)) × (report ≡ report_of guards level limit contents counts)
 
 -- where bytes spell a topology, the text of what is left of it is UTF-8
 abbrev pub SimplifiedIsUtf8 : Type 0
-SimplifiedIsUtf8 = (guards : Guards) (t limit : ℕ) (bytes : List ℕ) (contents : Contents) (counts : Counts) → SpellsTopology bytes contents counts → IsUtf8 (simplified_contents_text guards t limit contents)
+SimplifiedIsUtf8 = (guards : Guards) (level : Level) (limit : ℕ) (bytes : List ℕ) (contents : Contents) (counts : Counts) → SpellsTopology bytes contents counts → IsUtf8 (simplified_contents_text guards level limit contents)

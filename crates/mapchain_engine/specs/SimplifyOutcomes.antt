@@ -4,14 +4,15 @@ use Rattle.byte_ends.specs.Ends.{Drained, Takes}
 use Rattle.geojson_types.specs.declared.counts.Counts.{Counts}
 use Rattle.inputs.specs.declared.file_fault.FileFault.{FileFault}
 use Rattle.layer_topology.specs.declared.guards.Guards.{Guards}
+use Rattle.layer_topology.specs.declared.level.Level.{Level}
 use Rattle.reports.specs.declared.report.Report.{Report}
 use Rattle.topojson_types.specs.Topologies.{Contents}
 use Rattle.mapchain_engine.specs.FileOutcomes.{plain_file_fault, IsOutsideGiven, IsOutsideFile}
 use Rattle.mapchain_engine.specs.Simplified.{simplified_contents_text, report_of}
 
--- the text of what is left of a topology at the threshold, and the report
-abbrev pub simplified : Guards → ℕ → ℕ → Contents → Counts → Result (List ℕ × Report) FileFault
-simplified guards t limit y counts = Ok (simplified_contents_text guards t limit y, report_of guards t limit y counts)
+-- the text of what is left of a topology at the level, and the report
+abbrev pub simplified : Guards → Level → ℕ → Contents → Counts → Result (List ℕ × Report) FileFault
+simplified guards level limit y counts = Ok (simplified_contents_text guards level limit y, report_of guards level limit y counts)
 
 -- the text of the outcome was written, and the answer is its report, unless memory, the source or the sink failed, or its fault is
 -- answered

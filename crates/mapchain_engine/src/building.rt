@@ -15,7 +15,7 @@ use byte_ends::{Drain, Feed, Sink, Source, flush_after};
 use effective_area::Reducer;
 use inputs::{BuildFault, check_names, read_layers};
 use json_value::OwnText;
-use layer_topology::{topology_of_layers, written_laws};
+use layer_topology::{topology_of_layers, written_laws, written_under_law};
 use reports::{Report, report_of};
 use std::alloc::Global;
 use topojson_meaning::{reads_back, topology_text_is_read, topology_text_is_utf8};
@@ -36,6 +36,7 @@ fn building_laws()
     ensures { BuildingLaws }
 {
     written_laws();
+    written_under_law();
     reads_back();
     topology_text_is_read();
     topology_text_is_utf8();
@@ -64,6 +65,7 @@ fn build_layers<Q: Reducer, R: Feed, W: Drain>(
         options.seed,
         layers,
         options.grid,
+        options.guards,
         options.level,
         options.ring_limit,
     )?;
@@ -81,7 +83,8 @@ fn build_layers<Q: Reducer, R: Feed, W: Drain>(
 
 /// Builds the topology (TopoJSON 1.0) of named layers (RFC 7946), each read from its source to the end, and writes it.
 ///
-/// A border that lines and rings of the layers share is one arc, which the reducer reduces once. Names are looked at first, in order:
+/// A border that lines and rings of the layers share is one arc, which the reducer reduces once. Where no crossing may be made, all arcs
+/// are reduced at once in place of that. Names are looked at first, in order:
 /// up to there nothing is read. Then each layer is read, parsed and modelled before the next. Nothing is written before all layers
 /// are taken, so on each fault but `Write` the sink is as it was. On `Write` it took a prefix of the topology's text, of the length
 /// that is reported. At `Ok` the sink is flushed.
@@ -99,10 +102,11 @@ pub fn build<Q: Reducer, R: Feed, W: Drain>(
     // that are expected of its layer, snapped to the grid that is asked for: identifiers and properties unchanged, each line cut at
     // the junctions of all lines, each piece reduced at the threshold in the line's own direction and joined again, rings from their
     // starts, without what is dropped, as rings that enclose less than is asked for. The report says exactly what is dropped, and before
-    // reduction each segment of the lines lies once, in exactly one arc.
+    // reduction each segment of the lines lies once, in exactly one arc. Where no crossing may be made, what was written is in place of that what is
+    // left of the topology that is written at zero, whose features decode whole: no more pairs of segments of it meet badly.
     ensures built { IfOk result (λ report. IsBuilt options.now sources.old sources.new sink.old sink.new report) }
     // The reducer was asked to reduce each arc of all lines at the threshold, in order, or nothing where a share is asked for: each arc is
-    // weighed once in place of that.
+    // weighed once in place of that; and nothing where no crossing may be made.
     ensures reduced { IfOk result (λ _. CallsForLayers options.now sources.old sources.new (Q.calls reducer.old) (Q.calls reducer.new)) }
     // Every other fault is one that the sources or their bytes have, or a prefix of that text was written.
     ensures refused { IfErr result (λ e. (name_fault (map (λ s. s.0) sources.old) ≡ Some e)

@@ -19,7 +19,7 @@ use topojson_features::positions;
 use topojson_types::{Cell, Topology, Transform};
 
 /// The positions that each of these arcs stands for.
-fn arc_positions(
+pub(crate) fn arc_positions(
     alloc: Global,
     transform: Option<&Transform>,
     arcs: &[Items<Cell>],

@@ -5,6 +5,7 @@ ghost use Rattle.mapchain_engine.specs.Laws.{
   BuildsOneText,
   DecodesBack,
   LosesNothing,
+  SimplifiesByLevel,
   SimplifiesToBuilt,
   SimplifiesToBuiltOfSame,
   SummarisesBack,
@@ -14,11 +15,11 @@ use crate::build_laws::read_layers_are_taken;
 use build_meaning::zero_loses_nothing;
 use inputs::{layers_have_one_outcome, read_layers_are_the_outcome};
 use json_reading::one_value;
-use layer_topology::simplifies_to_written;
+use layer_topology::{guarded_at_zero, written_under_law};
 use simplified_topology::snapped_are_on;
 use topojson_meaning::topology_is_valid;
 
-/// What `build` wrote, at any threshold, `to_geo` reads again: with the name of a layer, answering `Ok`, it writes the text of the
+/// What `build` wrote, at any threshold, where crossings might be made, `to_geo` reads again: with the name of a layer, answering `Ok`, it writes the text of the
 /// features that are expected of this layer, the same as in the contract of `build`.
 pub fn built_text_decodes_back()
     ensures { DecodesBack }
@@ -26,8 +27,8 @@ pub fn built_text_decodes_back()
     one_value();
 }
 
-/// What `build` wrote, if it is no more than `MAX_INPUT` bytes, gives what is expected: `to_geo` with the name of a layer, `stat` and
-/// `simplify` answer exactly that by their contracts, unless memory or a device fails.
+/// What `build` wrote, if it is no more than `MAX_INPUT` bytes, gives what is expected: `to_geo` with the name of a layer, where crossings
+/// might be made, `stat` and `simplify` answer exactly that by their contracts, unless memory or a device fails.
 pub fn built_text_comes_back()
     ensures { ComesBack }
 {}
@@ -60,13 +61,27 @@ pub fn built_text_is_summarised()
 }
 
 /// What `build` wrote at a threshold and a ring limit of zero, simplified by both, is byte for byte what `build` writes of the same
-/// layers, on the same grid, by both, be the threshold given or chosen for a share: one full file is kept, and smaller ones are made of
-/// it.
+/// layers, on the same grid, by both, be the threshold given or chosen for a share, and under the same guards: one full file is kept, and
+/// smaller ones are made of it.
 pub fn simplified_text_is_built()
     ensures { SimplifiesToBuilt }
 {
     one_value();
-    simplifies_to_written();
+    guarded_at_zero();
+    written_under_law();
+    topology_is_valid();
+    read_layers_are_taken();
+}
+
+/// What `build` wrote at a threshold and a ring limit of zero, where each arc of the layers is in it, simplified by the level and the ring
+/// limit of another build of the same layers on the same grid, under its guards, is byte for byte what that one writes, and both choose the same
+/// threshold. An arc of the layers isn't in it where only holes of dropped outer rings have it: `build` counts its positions for a share.
+pub fn simplified_by_level_is_built()
+    ensures { SimplifiesByLevel }
+{
+    one_value();
+    guarded_at_zero();
+    written_under_law();
     topology_is_valid();
     read_layers_are_taken();
 }

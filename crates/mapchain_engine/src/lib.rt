@@ -1,14 +1,15 @@
 //! Everything that the program does, as calls from bytes to bytes: building a topology (TopoJSON 1.0) of GeoJSON layers (RFC 7946),
 //! simplifying one, decoding the objects of one again, and counting what is in one. It stands on `inputs` for sources, layers and faults,
 //! on `layer_topology` for the topology that is made of layers, on `topojson_decoder` for the one that a file has, on `topo_model` and
-//! `effective_area` for reducing it, on `topojson_writer` and `decoding_writer` for texts, and on `reports`. A program calls `build`, whose
+//! `effective_area` for reducing it, on `crossing_count` for its crossings, on `topojson_writer` and `decoding_writer` for texts, and on `reports`. A program calls `build`, whose
 //! contract is the main theorem, and `specs/Building.antt` says what it promises; `simplify` (`specs/Simplified.antt`); `to_geo`
-//! (`specs/Geo.antt`) and `stat` (`specs/Files.antt`). The laws of `laws.rt` join these calls: what was built is read again as what was
+//! (`specs/Geo.antt`), `stat` and `stat_with_crossings` (`specs/Files.antt`). The laws of `laws.rt` join these calls: what was built is read again as what was
 //! built, and simplified as what is built at a threshold.
 #![tactic(auto)]
 
 mod build_laws;
 mod building;
+mod crossings;
 mod decoding;
 mod file_laws;
 mod file_reading;
@@ -16,12 +17,14 @@ mod guarding;
 mod laws;
 mod options;
 mod reducing;
+mod sharing;
 mod simplify_laws;
 mod simplifying;
 mod summarising;
 
 pub use build_laws::read_layers_are_taken;
 pub use building::build;
+pub use crossings::stat_with_crossings;
 pub use decoding::to_geo;
 pub use effective_area::threshold;
 pub use file_laws::{decoded_text_is_utf8, features_are_one_outcome, summary_is_one_outcome};
@@ -31,7 +34,8 @@ pub use inputs::{BuildFault, FileFault, layers_have_one_outcome, read_layers_are
 pub use laws::{
     built_at_zero_loses_nothing, built_text_comes_back, built_text_decodes_back,
     built_text_is_never_refused, built_text_is_summarised, dropped_lines_are_reported,
-    same_bytes_build_one_text, simplified_text_is_built, simplified_text_is_built_of_same_bytes,
+    same_bytes_build_one_text, simplified_by_level_is_built, simplified_text_is_built,
+    simplified_text_is_built_of_same_bytes,
 };
 pub use layer_topology::{Guards, Level};
 pub use options::Options;

@@ -1,5 +1,5 @@
 // Reducing the arcs of a topology that was read.
-ghost use Rattle.std.specs.Prelude.{◌≡◌, ◌≤◌, ◌∷◌, ◌++◌, [], IfOk, None, length, map};
+ghost use Rattle.std.specs.Prelude.{◌≡◌, ◌≤◌, ◌∷◌, ◌++◌, [], IfOk, None, length, map, true};
 ghost use Rattle.std.specs.List.{AllByRecursion};
 ghost use Rattle.std.specs.Option.{option_copied};
 ghost use Rattle.byte_ends.specs.Ends.{saturated};
@@ -10,14 +10,17 @@ ghost use Rattle.simplified_topology.specs.Simplified.{retained, retained_arcs};
 ghost use Rattle.simplified_topology.specs.Thresholds.{simplified_contents, simplified_dropped, simplified_removed_count, placed_cells};
 ghost use Rattle.topojson_types.specs.Validity.{IsArc};
 ghost use Rattle.mapchain_engine.specs.Simplified as spec;
-ghost use Rattle.layer_topology.specs.Guarded.{dropped_under, no_guards, removed_count_under, simplified_under};
+ghost use Rattle.mapchain_engine.specs.Simplified.{topology_chosen, topology_threshold};
+ghost use Rattle.layer_topology.specs.Guarded.{dropped_under, is_simplifying_level, no_guards, removed_count_under, simplified_under};
+ghost use Rattle.layer_topology.specs.declared.level.Level.TheVariants.{Fixed};
 
 use crate::guarding::guarded_topology;
+use crate::sharing::shared_topology;
 use byte_ends::Memory;
 use effective_area::Reducer;
 use geojson_types::{Counts, Dropped, Position};
 use json_value::Items;
-use layer_topology::{Guards, reduced_line};
+use layer_topology::{Guards, Level, reduced_line};
 use reports::{Report, report_of};
 use simplified_topology::indexes_reach;
 use std::alloc::Global;
@@ -124,7 +127,7 @@ fn reduced_topology<Q: Reducer>(
     ensures topology { IfOk result (λ r. r.0 ≡ simplified_contents t ring_limit topology) }
     ensures dropped { IfOk result (λ r. r.1.items ≡ simplified_dropped t ring_limit topology) }
     ensures removed_count { IfOk result (λ r. r.2 ≡ saturated (simplified_removed_count t ring_limit topology)) }
-    ensures called { IfOk result (λ _. Q.calls reducer.new ≡ Q.calls reducer.old ++ spec.calls_of no_guards t topology) }
+    ensures called { IfOk result (λ _. Q.calls reducer.new ≡ Q.calls reducer.old ++ spec.calls_of no_guards (Fixed t) topology) }
 {
     indexes_reach();
     let (objects, lines, transform) = topology.into_parts();
@@ -152,7 +155,7 @@ fn topology_under<Q: Reducer>(
     ensures topology { IfOk result (λ r. r.0 ≡ simplified_under guards t ring_limit topology) }
     ensures dropped { IfOk result (λ r. r.1.items ≡ dropped_under guards t ring_limit topology) }
     ensures removed_count { IfOk result (λ r. r.2 ≡ saturated (removed_count_under guards t ring_limit topology)) }
-    ensures called { IfOk result (λ _. Q.calls reducer.new ≡ Q.calls reducer.old ++ spec.calls_of guards t topology) }
+    ensures called { IfOk result (λ _. Q.calls reducer.new ≡ Q.calls reducer.old ++ spec.calls_of guards (Fixed t) topology) }
 {
     if guards.no_crossings {
         guarded_topology(alloc, topology, t, ring_limit)
@@ -161,22 +164,58 @@ fn topology_under<Q: Reducer>(
     }
 }
 
-/// What is left of a topology, with these counts, where its arcs are reduced at a threshold, under these guards, and rings under a
-/// limit are left out, and the report of it.
+/// What is left of a topology where its arcs are reduced at a level, under these guards, and rings under a limit are left out, the lines
+/// and rings that are dropped, how many positions are removed from the arcs that stay, and the threshold, where it was chosen.
+fn topology_at<Q: Reducer>(
+    alloc: Global,
+    reducer: &mut Q,
+    topology: Topology,
+    guards: Guards,
+    level: Level,
+    ring_limit: u128,
+) -> Result<(Topology, Vec<Dropped>, u64, Option<u128>), Memory>
+    requires level { is_simplifying_level guards level ≡ true }
+    requires limit { ring_limit ≤ threshold_limit }
+    ensures topology { IfOk result (λ r. r.0 ≡ simplified_under guards (topology_threshold level topology) ring_limit topology) }
+    ensures dropped { IfOk result (λ r. r.1.items ≡ dropped_under guards (topology_threshold level topology) ring_limit topology) }
+    ensures removed_count { IfOk result (λ r. r.2 ≡ saturated (removed_count_under guards (topology_threshold level topology) ring_limit topology)) }
+    ensures chosen { IfOk result (λ r. r.3 ≡ topology_chosen level topology) }
+    ensures called { IfOk result (λ _. Q.calls reducer.new ≡ Q.calls reducer.old ++ spec.calls_of guards level topology) }
+{
+    match level {
+        Level::Fixed(t) => {
+            let (less, dropped, removed) = topology_under(
+                alloc, reducer, topology, guards, t, ring_limit,
+            )?;
+            Ok((less, dropped, removed, None))
+        }
+        Level::Share { p, q } => {
+            let (less, dropped, removed, t) = shared_topology(alloc, topology, p, q, ring_limit)?;
+            Ok((less, dropped, removed, Some(t)))
+        }
+    }
+}
+
+/// What is left of a topology, with these counts, where its arcs are reduced at a level, under these guards, and rings under a limit are
+/// left out, and the report of it.
 pub fn simplify_topology<Q: Reducer>(
     alloc: Global,
     reducer: &mut Q,
     topology: Topology,
     counts: Counts,
     guards: Guards,
-    t: u128,
+    level: Level,
     ring_limit: u128,
 ) -> Result<(Topology, Report), Memory>
-    requires { ring_limit ≤ threshold_limit }
-    ensures left { IfOk result (λ r. (r.0 ≡ simplified_under guards t ring_limit topology) × (r.1 ≡ spec.report_of guards t ring_limit topology counts)) }
-    ensures called { IfOk result (λ _. Q.calls reducer.new ≡ Q.calls reducer.old ++ spec.calls_of guards t topology) }
+    requires level { is_simplifying_level guards level ≡ true }
+    requires limit { ring_limit ≤ threshold_limit }
+    ensures left { IfOk result (λ r. (r.0 ≡ simplified_under guards (topology_threshold level topology) ring_limit topology)
+        × (r.1 ≡ spec.report_of guards level ring_limit topology counts)) }
+    ensures called { IfOk result (λ _. Q.calls reducer.new ≡ Q.calls reducer.old ++ spec.calls_of guards level topology) }
 {
-    let (less, dropped, removed) = topology_under(alloc, reducer, topology, guards, t, ring_limit)?;
-    let report = report_of(counts, dropped, less.arcs(), removed, None);
+    let (less, dropped, removed, chosen) = topology_at(
+        alloc, reducer, topology, guards, level, ring_limit,
+    )?;
+    let report = report_of(counts, dropped, less.arcs(), removed, chosen);
     Ok((less, report))
 }

@@ -3,6 +3,7 @@ ghost use Rattle.std.specs.Prelude.{◌≡◌, ◌≤◌, ℕ, List, Some, Resul
 ghost use Rattle.geometry.specs.Units.{threshold_limit};
 ghost use Rattle.inputs.specs.declared.file_fault.FileFault.{FileFault as Fault};
 ghost use Rattle.json_value.specs.Text.{json_text};
+ghost use Rattle.layer_topology.specs.Guarded.{is_simplifying_level};
 ghost use Rattle.reports.specs.declared.report.Report.{Report as Reported};
 ghost use Rattle.topojson_types.specs.Values.{topology_value};
 ghost use Rattle.mapchain_engine.specs.FileOutcomes.{FileHasOutcome};
@@ -17,7 +18,7 @@ use crate::simplify_laws::simplified_text_is_utf8;
 use byte_ends::{Drain, Feed, Sink, Source, flush_after};
 use effective_area::Reducer;
 use inputs::FileFault;
-use layer_topology::{Guards, simplified_under_law};
+use layer_topology::{Guards, Level, simplified_under_law};
 use reports::Report;
 use std::alloc::Global;
 use topojson_types::Topology;
@@ -30,16 +31,17 @@ fn read_and_simplify<Q: Reducer, R: Feed>(
     reducer: &mut Q,
     source: &mut Source<R>,
     guards: Guards,
-    t: u128,
+    level: Level,
     ring_limit: u128,
 ) -> Result<(Topology, Report), FileFault>
-    requires { ring_limit ≤ threshold_limit }
-    ensures given { IfOk result (λ r. IsReadAndSimplified guards t ring_limit source.old source.new r.0 r.1) }
-    ensures reduced { IfOk result (λ _. CallsForTopology guards t source.old source.new (Q.calls reducer.old) (Q.calls reducer.new)) }
+    requires level { is_simplifying_level guards level ≡ true }
+    requires limit { ring_limit ≤ threshold_limit }
+    ensures given { IfOk result (λ r. IsReadAndSimplified guards level ring_limit source.old source.new r.0 r.1) }
+    ensures reduced { IfOk result (λ _. CallsForTopology guards level source.old source.new (Q.calls reducer.old) (Q.calls reducer.new)) }
     ensures refused { IfErr result (λ e. FailsToGive source.old source.new e) }
 {
     let (topology, counts) = read_file(alloc, source)?;
-    let less = simplify_topology(alloc, reducer, topology, counts, guards, t, ring_limit)?;
+    let less = simplify_topology(alloc, reducer, topology, counts, guards, level, ring_limit)?;
     Ok(less)
 }
 
@@ -54,38 +56,40 @@ fn send<W: Drain>(topology: &Topology, sink: &mut Sink<W>) -> Result<u64, FileFa
 
 /// Reads a topology (TopoJSON 1.0) from its source to the end, simplifies it, and writes what is left.
 ///
-/// Each arc is reduced once at the threshold `t`, twice an area in square units, by the positions that it stands for (Visvalingam
-/// and Whyatt 1993). Where `guards` forbid crossings, all arcs are reduced at once in place of that. The cells that stay keep their
+/// Each arc is reduced once at the threshold of `level`, twice an area in square units, by the positions that it stands for (Visvalingam
+/// and Whyatt 1993). For a share it is the greatest at which the share of the positions between the ends of all arcs stays. Where
+/// `guards` forbid crossings, all arcs are reduced at once in place of that, at a threshold that is given. The cells that stay keep their
 /// numbers, and the transform stays. A line or ring that is left with too few positions is dropped, a ring of which twice the area is
 /// under `ring_limit` (in square units), and a ring of a polygon whose outer ring is; arcs that no line uses are left out. The report
-/// says what was counted in reading, what is dropped, and of the arcs that are left how many positions stay and were removed. The
-/// topology is refused as by `stat`. On each fault but `Write` the sink is as it was. On `Write` it took a prefix of the text, of
+/// says what was counted in reading, what is dropped, of the arcs that are left how many positions stay and were removed, and the
+/// threshold, where it was chosen. The topology is refused as by `stat`. On each fault but `Write` the sink is as it was. On `Write` it took a prefix of the text, of
 /// the length that is reported. At `Ok` the sink is flushed.
 pub fn simplify<Q: Reducer, R: Feed, W: Drain>(
     alloc: Global,
     reducer: &mut Q,
     source: &mut Source<R>,
     guards: Guards,
-    t: u128,
+    level: Level,
     ring_limit: u128,
     sink: &mut Sink<W>,
 ) -> Result<Report, FileFault>
-    requires { ring_limit ≤ threshold_limit }
+    requires level { is_simplifying_level guards level ≡ true }
+    requires limit { ring_limit ≤ threshold_limit }
     // The bytes spell a topology, what was written is the text of what is left of it, which is UTF-8, and the report is that of it. Where no
     // crossing may be made, no more pairs of segments of what is left meet badly than of the topology, and none where none of that do.
-    ensures written { IfOk result (λ report. IsSimplified guards t ring_limit source.old source.new sink.old sink.new report) }
+    ensures written { IfOk result (λ report. IsSimplified guards level ring_limit source.old source.new sink.old sink.new report) }
     // The reducer was asked to reduce each arc of the topology that was read at the threshold, in order, and for nothing else; for nothing at all
-    // where a guard is asked for.
-    ensures reduced { IfOk result (λ _. CallsForTopology guards t source.old source.new (Q.calls reducer.old) (Q.calls reducer.new)) }
+    // where a guard or a share is asked for.
+    ensures reduced { IfOk result (λ _. CallsForTopology guards level source.old source.new (Q.calls reducer.old) (Q.calls reducer.new)) }
     // Every fault is one that the source or its bytes have, or a prefix of that text was written.
-    ensures refused { IfErr result (λ e. IsSimplifyFault guards t ring_limit source.old source.new sink.old sink.new e) }
+    ensures refused { IfErr result (λ e. IsSimplifyFault guards level ring_limit source.old source.new sink.old sink.new e) }
     // The outcome of the bytes of the source is answered, unless memory, the source or the sink failed.
-    ensures decided { (bytes : List ℕ) (outcome : Result (List ℕ × Reported) Fault) → source.old.left ≡ Some bytes → FileHasOutcome (simplified guards t ring_limit) bytes outcome
+    ensures decided { (bytes : List ℕ) (outcome : Result (List ℕ × Reported) Fault) → source.old.left ≡ Some bytes → FileHasOutcome (simplified guards level ring_limit) bytes outcome
         → FollowsSimplified sink.old sink.new outcome result }
 {
     simplified_text_is_utf8();
     simplified_under_law();
-    let (less, report) = read_and_simplify(alloc, reducer, source, guards, t, ring_limit)?;
+    let (less, report) = read_and_simplify(alloc, reducer, source, guards, level, ring_limit)?;
     let sent = send(&less, sink);
     drop(less);
     match sent {

@@ -84,5 +84,6 @@ pub fn summary_with(
         arcs: arcs.len() as u64,
         positions: positions_in(arcs),
         grid,
+        crossings: None,
     })
 }

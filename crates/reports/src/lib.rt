@@ -30,5 +30,5 @@ pub use report_writer::report_text;
 pub use run_report::{RunFault, RunReport};
 pub use run_writer::write_run_report;
 pub use statuses::{DONE, FAILED, INPUT_REFUSED, WORDS_REFUSED, file_status, status};
-pub use summary::Summary;
+pub use summary::{MOST_CROSSINGS, Summary};
 pub use summary_writer::summary_text;

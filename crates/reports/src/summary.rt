@@ -12,4 +12,9 @@ pub struct Summary {
     pub positions: u64,
     /// There is a transform (section 2.1.2).
     pub grid: bool,
+    /// Pairs of segments of the arcs that meet badly, where they are counted: `MOST_CROSSINGS` stands for as many or more.
+    pub crossings: Option<u64>,
 }
+
+/// As many crossings are counted at most.
+pub const MOST_CROSSINGS: u64 = 1_000_000;

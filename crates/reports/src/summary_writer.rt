@@ -31,17 +31,28 @@ fn put_grid<W: Drain>(grid: bool, so_far: Progress, sink: &mut Sink<W>) -> Progr
     }
 }
 
+/// Writes how many crossings there are, where they are counted.
+fn put_crossings<W: Drain>(crossings: Option<u64>, so_far: Progress, sink: &mut Sink<W>) -> Progress
+    ensures { Continues sink.old sink.new so_far (spec.crossings_text crossings) result }
+{
+    match crossings {
+        Some(count) => put_line("crossings", count, so_far, sink),
+        None => put_part(b"", so_far, sink),
+    }
+}
+
 /// Writes the lines after those of the objects.
 fn put_totals<W: Drain>(summary: &Summary, so_far: Progress, sink: &mut Sink<W>) -> Progress
     ensures { Continues sink.old sink.new so_far (spec.totals_text summary.now) result }
 {
     let so_far = put_line("arcs", summary.arcs, so_far, sink);
     let so_far = put_line("positions", summary.positions, so_far, sink);
-    put_grid(summary.grid, so_far, sink)
+    let so_far = put_grid(summary.grid, so_far, sink);
+    put_crossings(summary.crossings, so_far, sink)
 }
 
 /// Writes a summary and answers the number of bytes: the number of objects, a line for each with its name as a JSON text and the
-/// number of its features, the arcs, the positions in them, and whether there is a grid.
+/// number of its features, the arcs, the positions in them, whether there is a grid, and the crossings, where they are counted.
 pub fn summary_text<W: Drain>(summary: &Summary, sink: &mut Sink<W>) -> Result<u64, WriteFault>
     ensures { Writes sink.old sink.new 0 (spec.summary_text summary.now) result }
 {

@@ -154,15 +154,15 @@ module _ (ls : Named) where
   layers_long sound = arcs_long (linework (layers_of ls)) (all_clean ls sound)
 
   -- at zero nothing is removed of its arcs
-  built_arcs : ZeroLaw → (built 0 0 ls).arcs ≡ keep_from used 0 (arcs_of_layers ls)
+  pub built_arcs : ZeroLaw → (built 0 0 ls).arcs ≡ keep_from used 0 (arcs_of_layers ls)
   unfolding built trimmed
   built_arcs zero = ap (keep_from used 0) (each_stays zero (arcs_of_layers ls))
 
-  built_positions : arc_positions (built 0 0 ls) ≡ (built 0 0 ls).arcs
+  pub built_positions : arc_positions (built 0 0 ls) ≡ (built 0 0 ls).arcs
   unfolding built trimmed
   built_positions = refl
 
-  built_through : ZeroLaw → ArcsRise → (no_crossings : Bool) (t : ℕ) → AreSound ls → EachFromFirstToLast (guarded_indexes no_crossings t (built 0 0 ls)) (keep_from used 0 (arcs_of_layers ls))
+  pub built_through : ZeroLaw → ArcsRise → (no_crossings : Bool) (t : ℕ) → AreSound ls → EachFromFirstToLast (guarded_indexes no_crossings t (built 0 0 ls)) (keep_from used 0 (arcs_of_layers ls))
   built_through zero rise no_crossings t sound =
       subst (λ arcs. EachFromFirstToLast (guarded_indexes no_crossings t (built 0 0 ls)) arcs) (built_positions ∙ built_arcs zero)
       (each_through (guarded_indexes no_crossings t (built 0 0 ls)) (arc_positions (built 0 0 ls)) (rise (guarded_by no_crossings []) t (arc_positions (built 0 0 ls)))

@@ -12,6 +12,7 @@ pub mod GuardedLayers
 mod GuardedRows
 pub mod Kept
 pub mod KeptLabels
+pub mod Left
 pub mod Simplified
 pub mod Lying
 pub mod Made

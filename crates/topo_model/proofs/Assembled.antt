@@ -1,5 +1,5 @@
 -- What is made of layers, of the indexes of their arcs and of the positions of each arc that are retained is what is assembled of them.
-use Rattle.std.proofs.Common.{arith, ◌≡◌, ℕ, ◌-◌, Bool, true, false, List, [], ◌∷◌, map, length, Option, None, Some, refl, sym, ap, ◌∙◌, subst}
+use Rattle.std.proofs.Common.{arith, ◌≡◌, ℕ, ◌-◌, ℤ, Bool, true, false, List, [], ◌∷◌, map, length, Option, None, Some, refl, sym, ap, ◌∙◌, subst}
 use Rattle.std.specs.List.{AllByRecursion}
 use Rattle.std.specs.Prelude.{sum, if◌then◌else◌}
 use Rattle.std.proofs.lemmas.Option.{none-some}
@@ -9,7 +9,7 @@ use Rattle.arc_table.specs.Arcs.{ArcsAndIndexes, arcs_of, index_in, table_of}
 use Rattle.build_meaning.specs.Built.{all_arcs, untrimmed, positions_of}
 use Rattle.build_meaning.specs.Expected.{own_pieces, is_small, kept_line}
 use Rattle.build_meaning.specs.Laws.{AreSound, whole_line}
-use Rattle.build_meaning.specs.Layers.{Named, layers_of, named_lines_and_rings}
+use Rattle.build_meaning.specs.Layers.{Named, layers_of, named_lines_and_rings, names_of}
 use Rattle.build_meaning.specs.Objects.{Kept, objects_by}
 use Rattle.build_meaning.specs.Trimming.{is_used, keep_from, trimmed}
 use Rattle.build_meaning.proofs.DroppableLines.{map_map}
@@ -38,11 +38,12 @@ use Rattle.linework.specs.Linework.{linework}
 use Rattle.owned_values.proofs.Elements.{all_weaker}
 use Rattle.topojson_types.specs.declared.object.TopoObject.{TopoObject}
 use Rattle.topojson_types.specs.Topologies.{Contents, object_features, objects_lines_and_rings}
-use Rattle.topojson_types.specs.Validity.{IsTopology}
+use Rattle.topojson_types.specs.Validity.{AreDistinct, IsTopology}
 use Rattle.topo_model.specs.Drops.{draft_cause, shape_drops, objects_drops}
 use Rattle.topo_model.proofs.Result as result
 use Rattle.topo_model.proofs.Result.{of_arcs}
 use Rattle.topo_model.specs.Drafts.{RefsOf, long_refs, draft_refs, relined, feature_drafted, objects_drafted}
+use Rattle.topo_model.specs.Retaining.{IsDraftOf}
 use Rattle.topo_model.proofs.Relined.{pruned_once, dropped_once}
 
 -- ---- the table
@@ -70,6 +71,11 @@ table_refs ls =
     ∙ ap (map (map (index_in (all_arcs lines)))) (split_lists ls)
     ∙ map_map (map (index_in (all_arcs lines))) (λ (b : Bool × List Point). own_pieces lines b.0 b.1) (long_lines_and_rings ls)
     ∙ long_are (own_refs lines) (named_lines_and_rings ls)
+
+-- objects that are drafted by the arc indexes of the layers' table are the layers' draft
+pub draft_of : (ls : Named) (refs : List (List ℤ)) (objects : List (List ℕ × TopoObject)) → refs ≡ (table_of_lines ls).refs → AreSound ls → AreDistinct (names_of ls)
+    → ((of : RefsOf) → refs ≡ long_refs of (named_lines_and_rings ls) → objects ≡ objects_drafted of ls) → IsDraftOf ls objects
+draft_of ls refs objects e sound names f = record { drafted = f (own_refs (lines_of ls)) (e ∙ table_refs ls); sound = sound; names = names }
 
 -- ---- a draft that is pruned
 

@@ -34,6 +34,8 @@ pub use assembling::{assemble, assemble_draft, assemble_retained};
 pub use draft_laws::draft_uses_at_zero;
 pub use draft_uses::draft_arcs;
 pub use drafting::drafted_objects;
+pub use given_numbers::positions_of_all;
+pub use position_cells::cells;
 pub use position_counting::position_counts;
 pub use reassembling::reassemble;
 pub use reducing::Reduces;

@@ -1,12 +1,13 @@
 use Rattle.std.proofs.lemmas.Result.{IfOk-weaker}
-use Rattle.command_words.specs.CommandLine.{area_rule, file_rule, no_crossings_rule, quiet_rule, ring_area_rule}
+use Rattle.command_words.specs.CommandLine.{area_rule, file_rule, keep_rule, no_crossings_rule, quiet_rule, ring_area_rule}
 use Rattle.command_words.proofs.Apps.{more_rules}
 use Rattle.command_words.proofs.file_usage.simplify.Goals as goal
 
 pub returns : goal.returns
-returns c =
+returns c = λ keep.
     let one = more_rules _ _ c.in_ok-arg.field-0 _ area_rule c.in_ok-arg.ensures c.command.ensures c.area.ensures in
-    let two = more_rules _ _ c.in_ok-arg-2.field-0 _ ring_area_rule c.in_ok-arg-2.ensures one c.ring_area.ensures in
-    let three = more_rules _ _ c.in_ok-command.command _ no_crossings_rule c.in_ok-command.ensures two c.no_crossings.ensures in
-    let four = more_rules _ _ c.in_ok-arg-3.field-0 _ quiet_rule c.in_ok-arg-3.ensures (c.in_ok-with_common.ensures _ three) c.quiet.ensures in
-    IfOk-weaker c.arg-5.result _ _ (λ new adds. more_rules _ _ new _ file_rule adds four c.file.ensures) c.arg-5.ensures
+    let two = more_rules _ _ c.in_ok-arg-2.field-0 _ keep_rule c.in_ok-arg-2.ensures one keep in
+    let three = more_rules _ _ c.in_ok-arg-3.field-0 _ ring_area_rule c.in_ok-arg-3.ensures two c.ring_area.ensures in
+    let four = more_rules _ _ c.in_ok-command.command _ no_crossings_rule c.in_ok-command.ensures three c.no_crossings.ensures in
+    let five = more_rules _ _ c.in_ok-arg-4.field-0 _ quiet_rule c.in_ok-arg-4.ensures (c.in_ok-with_common.ensures _ four) c.quiet.ensures in
+    IfOk-weaker c.arg-6.result _ _ (λ new adds. more_rules _ _ new _ file_rule adds five c.file.ensures) c.arg-6.ensures

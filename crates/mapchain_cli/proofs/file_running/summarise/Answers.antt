@@ -9,10 +9,10 @@ returns-in_err-summary-clause-refused g c =
     let p = err_from_is_err_and c.from_residual-in_err-summary.result c.from_residual-in_err-summary.ensures.1 in
     rw (p.1, p.2) (inr (record {
       source_old = c.in_ok-source.source;
-      source_new = c.stat-summarised.new.source;
+      source_new = c.summary_of-summarised.new.source;
       opened = c.in_ok-source.ensures.opened;
-      once = c.done_with.ensures.noted ∙ ap (done_with c.stat-summarised.new.source) c.in_ok-source.ensures.once;
-      fault = summary_fault c.args.out.now c.in_ok-source.source c.stat-summarised.new.source c.in_err-summary.field-0.0 c.in_err-summary.ensures.refused;
+      once = c.done_with.ensures.noted ∙ ap (done_with c.summary_of-summarised.new.source) c.in_ok-source.ensures.once;
+      fault = summary_fault c.args.crossings c.args.out.now c.in_ok-source.source c.summary_of-summarised.new.source c.in_err-summary.field-0.0 c.in_err-summary.ensures.refused;
     }))
 
 pub returns-in_err-send_summary-clause-refused : goal.returns-in_err-send_summary-clause-refused
@@ -20,9 +20,9 @@ returns-in_err-send_summary-clause-refused g c =
     let p = err_from_is_err_and c.from_residual-in_err-send_summary.result c.from_residual-in_err-send_summary.ensures.1 in
     rw (p.1, p.2) (inr (record {
       source_old = c.in_ok-source.source;
-      source_new = c.stat-summarised.new.source;
+      source_new = c.summary_of-summarised.new.source;
       opened = c.in_ok-source.ensures.opened;
-      once = c.done_with.ensures.noted ∙ ap (done_with c.stat-summarised.new.source) c.in_ok-source.ensures.once;
-      fault = summary_cut c.args.out.now c.send_summary.new.out c.in_ok-source.source c.stat-summarised.new.source c.in_ok-summary.summary c.in_err-send_summary.field-0.0
+      once = c.done_with.ensures.noted ∙ ap (done_with c.summary_of-summarised.new.source) c.in_ok-source.ensures.once;
+      fault = summary_cut c.args.crossings c.args.out.now c.send_summary.new.out c.in_ok-source.source c.summary_of-summarised.new.source c.in_ok-summary.summary c.in_err-send_summary.field-0.0
           c.in_ok-summary.ensures.reported c.in_err-send_summary.ensures;
     }))

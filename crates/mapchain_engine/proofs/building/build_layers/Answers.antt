@@ -3,9 +3,8 @@ use Rattle.std.proofs.lemmas.Result.{err_from_is_err_and}
 use Rattle.json_value.specs.Text.{json_text}
 use Rattle.topojson_types.specs.Values.{topology_value}
 use Rattle.reports.specs.Summaries.{report_with}
-use Rattle.mapchain_engine.specs.Building.{Sends, chosen_for, snapped_for, threshold_for, written_for}
-use Rattle.build_meaning.specs.Built.{removed_count}
-use Rattle.build_meaning.specs.Expected.{expected_dropped}
+use Rattle.mapchain_engine.specs.Building.{Sends, chosen_for, threshold_for, written_for}
+use Rattle.layer_topology.specs.GuardedWritten.{lines_dropped_under, positions_removed_under}
 use Rattle.byte_ends.specs.Ends.{saturated}
 use Rattle.mapchain_engine.proofs.Built as built
 use Rattle.mapchain_engine.proofs.SoundLayers.{level_of, limit_of}
@@ -56,12 +55,12 @@ returns-in-Ok-clause-built g c =
     (c.report_of-report.ensures
     ∙ ap (λ arcs. report_with c.in_ok-layers.counts c.in_ok-topology.dropped.items arcs c.in_ok-topology.removed c.in_ok-topology.chosen) (c.arcs.ensures.arcs ∙ ap (λ z. z.arcs) e)
     ∙ ap (λ ds. report_with c.in_ok-layers.counts ds (written_for o ls).arcs c.in_ok-topology.removed c.in_ok-topology.chosen) c.in_ok-topology.ensures.dropped
-    ∙ ap (λ n. report_with c.in_ok-layers.counts (expected_dropped (threshold_for o ls) o.ring_limit (snapped_for o ls)) (written_for o ls).arcs n c.in_ok-topology.chosen)
+    ∙ ap (λ n. report_with c.in_ok-layers.counts (lines_dropped_under o.guards o.grid (threshold_for o ls) o.ring_limit ls) (written_for o ls).arcs n c.in_ok-topology.chosen)
     c.in_ok-topology.ensures.removed_count
-    ∙ ap (λ t. report_with c.in_ok-layers.counts (expected_dropped (threshold_for o ls) o.ring_limit (snapped_for o ls)) (written_for o ls).arcs
-    (saturated (removed_count (threshold_for o ls) o.ring_limit (snapped_for o ls))) t) c.in_ok-topology.ensures.chosen
-    ∙ ap (λ n. report_with n (expected_dropped (threshold_for o ls) o.ring_limit (snapped_for o ls)) (written_for o ls).arcs
-    (saturated (removed_count (threshold_for o ls) o.ring_limit (snapped_for o ls))) (chosen_for o ls)) r.2)
+    ∙ ap (λ t. report_with c.in_ok-layers.counts (lines_dropped_under o.guards o.grid (threshold_for o ls) o.ring_limit ls) (written_for o ls).arcs
+    (saturated (positions_removed_under o.guards o.grid (threshold_for o ls) o.ring_limit ls)) t) c.in_ok-topology.ensures.chosen
+    ∙ ap (λ n. report_with n (lines_dropped_under o.guards o.grid (threshold_for o ls) o.ring_limit ls) (written_for o ls).arcs
+    (saturated (positions_removed_under o.guards o.grid (threshold_for o ls) o.ring_limit ls)) (chosen_for o ls)) r.2)
 
 pub returns-in-Ok-clause-reduced : goal.returns-in-Ok-clause-reduced
 returns-in-Ok-clause-reduced g c =

@@ -6,6 +6,7 @@ use Rattle.byte_ends.specs.Ends.{saturated}
 use Rattle.effective_area.specs.Calls.{Call, calls_for}
 use Rattle.elimination_meaning.specs.Elimination.{reduce}
 use Rattle.layer_topology.specs.Guarded.{no_guards}
+use Rattle.layer_topology.specs.declared.level.Level.TheVariants.{Fixed}
 use Rattle.mapchain_engine.specs.Simplified.{calls_of}
 use Rattle.geometry.specs.Points.{Point}
 use Rattle.simplified_topology.specs.Simplified.{dropped_by, removed_count_by, retained_arcs, simplified_by}
@@ -25,7 +26,7 @@ picked t y arcs left transform a tr is =
 
 -- what is asked for its arcs is what is asked for the topology
 asked_for : (t : ℕ) (y : Contents) (before : List Call) (arcs : List (List Point)) (transform : Option Transform) → arcs ≡ y.arcs → transform ≡ y.transform
-    → before ++ calls_for t (map (placed_cells transform) arcs) ≡ before ++ calls_of no_guards t y
+    → before ++ calls_for t (map (placed_cells transform) arcs) ≡ before ++ calls_of no_guards (Fixed t) y
 asked_for t y before arcs transform a tr = ap₂ (λ (tr : Option Transform) (cs : List (List Point)). before ++ calls_for t (map (placed_cells tr) cs)) tr a
 
 pub counted_and_reduced-requires : goal.counted_and_reduced-requires

@@ -4,7 +4,7 @@ use Rattle.mapchain_engine.specs.SimplifyOutcomes.{simplified}
 use Rattle.mapchain_engine.proofs.simplify_laws.simplified_is_one_outcome.Goals as goal
 
 pub returns-clause-there : goal.returns-clause-there
-returns-clause-there c = λ guards t limit. file_there (simplified guards t limit)
+returns-clause-there c = λ guards level limit. file_there (simplified guards level limit)
 
 pub returns-clause-one : goal.returns-clause-one
-returns-clause-one c = λ guards t limit. one_file (simplified guards t limit)
+returns-clause-one c = λ guards level limit. one_file (simplified guards level limit)

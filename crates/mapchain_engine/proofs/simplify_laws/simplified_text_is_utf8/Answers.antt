@@ -1,12 +1,14 @@
 use Rattle.std.proofs.Common.{subst, sym}
 use Rattle.json_value.specs.Limits.{topology_depth}
 use Rattle.layer_topology.specs.Guarded.{simplified_under}
+use Rattle.mapchain_engine.specs.Simplified.{topology_threshold}
 use Rattle.topojson_types.specs.Validity.{IsTransformed}
 use Rattle.mapchain_engine.proofs.SimplifiedTexts.{numbers_kept, texts_kept}
 use Rattle.mapchain_engine.proofs.simplify_laws.simplified_text_is_utf8.Goals as goal
 
 pub returns : goal.returns
-returns c = λ guards t limit bytes contents counts spells.
+returns c = λ guards level limit bytes contents counts spells.
+    let t = topology_threshold level contents in
     let v = spells.value in
     let formed = c.read_values_are_well_formed.ensures topology_depth bytes v spells.utf8 spells.spelled in
     let valid = c.topology_is_valid.ensures v contents counts spells.stands in

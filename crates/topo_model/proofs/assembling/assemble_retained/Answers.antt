@@ -1,19 +1,6 @@
-use Rattle.std.proofs.Common.{◌≡◌, ℕ, ℤ, List, ◌∙◌}
 use Rattle.std.proofs.lemmas.Result.{IfOk-weaker}
-use Rattle.build_meaning.specs.Laws.{AreSound}
-use Rattle.build_meaning.specs.Layers.{Named, named_lines_and_rings, names_of}
-use Rattle.simplified_topology.specs.Assembled.{own_refs}
-use Rattle.topojson_types.specs.declared.object.TopoObject.{TopoObject}
-use Rattle.topojson_types.specs.Validity.{AreDistinct}
-use Rattle.topo_model.specs.Drafts.{RefsOf, long_refs, objects_drafted}
-use Rattle.topo_model.specs.Retaining.{IsDraftOf}
-use Rattle.topo_model.proofs.Assembled.{lines_of, table_of_lines, table_refs}
+use Rattle.topo_model.proofs.Assembled.{draft_of}
 use Rattle.topo_model.proofs.assembling.assemble_retained.Goals as goal
-
--- objects that are drafted by the arc indexes of the layers' table are the layers' draft
-draft_of : (ls : Named) (refs : List (List ℤ)) (objects : List (List ℕ × TopoObject)) → refs ≡ (table_of_lines ls).refs → AreSound ls → AreDistinct (names_of ls)
-    → ((of : RefsOf) → refs ≡ long_refs of (named_lines_and_rings ls) → objects ≡ objects_drafted of ls) → IsDraftOf ls objects
-draft_of ls refs objects e sound names f = record { drafted = f (own_refs (lines_of ls)) (e ∙ table_refs ls); sound = sound; names = names }
 
 pub assemble_draft-requires-clause-draft : goal.assemble_draft-requires-clause-draft
 assemble_draft-requires-clause-draft c =

@@ -1,0 +1,120 @@
+-- Arcs of which some are reduced at once and the others stay whole.
+use Rattle.std.proofs.Common.{◌≡◌, ℕ, zero, suc, Bool, true, false, cond, List, [], ◌∷◌, map, length, refl, subst, sym, ap, ◌∙◌, arith}
+use Rattle.std.specs.Prelude.{not}
+use Rattle.build_meaning.specs.Built.{built, untrimmed}
+use Rattle.build_meaning.specs.Laws.{AreSound}
+use Rattle.build_meaning.specs.Layers.{Named}
+use Rattle.build_meaning.specs.Trimming.{is_used, keep_from}
+use Rattle.elimination_meaning.specs.Laws.{ZeroLaw}
+use Rattle.geometry.specs.Joins.{or_empty, first_of}
+use Rattle.geometry.specs.Lists.{tail}
+use Rattle.geometry.specs.Points.{Point}
+use Rattle.guarded_meaning.specs.Elimination.{Guard, reduce_arcs}
+use Rattle.guarded_meaning.specs.Guards.{guarded_by}
+use Rattle.guarded_meaning.specs.Laws.{ArcsRise}
+use Rattle.guarded_meaning.specs.Lists.{EachTo}
+use Rattle.simplified_topology.specs.Assembled.{arcs_of_layers}
+use Rattle.simplified_topology.specs.Guarded.{all_indexes, arc_positions, spread, guarded_arc_indexes}
+use Rattle.simplified_topology.specs.Simplified.{EachFromFirstToLast, retained, retained_arcs}
+use Rattle.simplified_topology.proofs.GuardedLayers.{all_retained, built_arcs, built_positions, built_through, spread_left}
+use Rattle.topojson_types.specs.declared.object.TopoObject.{TopoObject}
+use Rattle.topo_model.specs.Retaining.{IsDraftOf}
+use Rattle.topo_model.specs.DraftLaws.{DraftUsesAtZero}
+use Rattle.topo_model.specs.DraftUses.{with_refs}
+use Rattle.topo_model.specs.Uses.{answers, chosen}
+use Rattle.topo_model.proofs.Chosen.{chosen_as}
+use Rattle.simplified_topology.specs.Simplified.{objects_pruned}
+
+-- ---- as many lists as arcs
+
+each_same : {X Y : Type 0} (P : X → Y → Type 0) (xs : List X) (ys : List Y) → EachTo P xs ys → length xs ≡ length ys
+each_same P [] [] h = refl
+each_same P [] (y ∷ ys) h = absurd h
+each_same P (x ∷ xs) [] h = absurd h
+each_same P (x ∷ xs) (y ∷ ys) h = ap suc (each_same P xs ys h.1)
+
+pub as_many : ArcsRise → (guard : Guard) (t : ℕ) (arcs : List (List Point)) → length (reduce_arcs guard t arcs) ≡ length arcs
+as_many rise guard t arcs = each_same _ (reduce_arcs guard t arcs) arcs (rise guard t arcs)
+
+-- ---- flags that are answers
+
+answers_many : (passes : ℕ → Bool) (n count : ℕ) → length (answers passes n count) ≡ count
+answers_many passes n zero = refl
+answers_many passes n (suc count) = ap suc (answers_many passes (suc n) count)
+
+nots : (passes : ℕ → Bool) (n count : ℕ) → map not (answers passes n count) ≡ answers (λ i. not (passes i)) n count
+nots passes n zero = refl
+nots passes n (suc count) = ap (λ bs. not (passes n) ∷ bs) (nots passes (suc n) count)
+
+-- as many as there are arcs
+spread_many : (passes : ℕ → Bool) (n : ℕ) (kept : List (List ℕ)) (arcs : List (List Point)) → length (retained_arcs (spread passes n kept arcs) arcs) ≡ length arcs
+spread_many passes n kept [] = refl
+spread_many passes n kept (ps ∷ arcs) = on (passes n) (λ more. spread_many passes (suc n) more arcs)
+  where
+    on : (b : Bool) → ((more : List (List ℕ)) → length (retained_arcs (spread passes (suc n) more arcs) arcs) ≡ length arcs) → length (retained_arcs (cond b (or_empty (first_of kept) ∷ spread passes (suc n) (tail kept) arcs) (all_indexes ps ∷ spread passes (suc n) kept arcs)) (ps ∷ arcs)) ≡ suc (length arcs)
+    on true f = ap suc (f (tail kept))
+    on false f = ap suc (f kept)
+
+module _ (passes : ℕ → Bool) where
+  -- the arcs that don't pass stay whole
+  spread_others : (n : ℕ) (kept : List (List ℕ)) (arcs : List (List Point)) → keep_from (λ i. not (passes i)) n (retained_arcs (spread passes n kept arcs) arcs) ≡ keep_from (λ i. not (passes i)) n arcs
+  spread_others n kept [] = refl
+  spread_others n kept (ps ∷ arcs) = on (passes n) refl (λ more. spread_others (suc n) more arcs)
+    where
+      on : (b : Bool) → passes n ≡ b
+          → ((more : List (List ℕ)) → keep_from (λ i. not (passes i)) (suc n) (retained_arcs (spread passes (suc n) more arcs) arcs) ≡ keep_from (λ i. not (passes i)) (suc n) arcs)
+          → keep_from (λ i. not (passes i)) n (retained_arcs (cond b (or_empty (first_of kept) ∷ spread passes (suc n) (tail kept) arcs) (all_indexes ps ∷ spread passes (suc n) kept arcs)) (ps ∷ arcs))
+          ≡ cond (not b) (ps ∷ keep_from (λ i. not (passes i)) (suc n) arcs) (keep_from (λ i. not (passes i)) (suc n) arcs)
+      on true e f =
+          let rest : List (List Point) = keep_from (λ i. not (passes i)) (suc n) (retained_arcs (spread passes (suc n) (tail kept) arcs) arcs) in
+          ap (λ b. cond (not b) (retained (or_empty (first_of kept)) ps ∷ rest) rest) e ∙ f (tail kept)
+      on false e f =
+          let rest : List (List Point) = keep_from (λ i. not (passes i)) (suc n) (retained_arcs (spread passes (suc n) kept arcs) arcs) in
+          ap (λ b. cond (not b) (retained (all_indexes ps) ps ∷ rest) rest) e ∙ ap (λ a. a ∷ rest) (all_retained ps) ∙ ap (λ more. ps ∷ more) (f kept)
+
+  -- of arcs that are split by such flags, the first reduced, and put together again
+  pub guarded_are : (guard : Guard) (t : ℕ) (flags : List Bool) (arcs marked others reduced whole left : List (List Point)) → flags ≡ answers passes 0 (length arcs)
+      → EachFromFirstToLast (reduce_arcs guard t (keep_from passes 0 arcs)) (keep_from passes 0 arcs)
+      → marked ≡ chosen flags arcs → others ≡ chosen (map not flags) arcs → reduced ≡ retained_arcs (reduce_arcs guard t marked) marked → whole ≡ others
+      → ((all : List (List Point)) → length all ≡ length flags → reduced ≡ chosen flags all → whole ≡ chosen (map not flags) all → left ≡ all)
+      → left ≡ retained_arcs (spread passes 0 (reduce_arcs guard t (keep_from passes 0 arcs)) arcs) arcs
+  guarded_are guard t flags arcs marked others reduced whole left are through m o r w f =
+      let kept = reduce_arcs guard t (keep_from passes 0 arcs) in
+      let all : List (List Point) = retained_arcs (spread passes 0 kept arcs) arcs in
+      let many : length all ≡ length arcs = spread_many passes 0 kept arcs in
+      let not_are : map not flags ≡ answers (λ i. not (passes i)) 0 (length arcs) = ap (map not) are ∙ nots passes 0 (length arcs) in
+      let first : marked ≡ keep_from passes 0 arcs = m ∙ chosen_as passes (length arcs) flags arcs are refl in
+      let second : others ≡ keep_from (λ i. not (passes i)) 0 arcs = o ∙ chosen_as (λ i. not (passes i)) (length arcs) (map not flags) arcs not_are refl in
+      f all (many ∙ sym (ap length are ∙ answers_many passes 0 (length arcs)))
+      (r ∙ ap (λ xs. retained_arcs (reduce_arcs guard t xs) xs) first ∙ sym (spread_left passes 0 kept arcs through) ∙ sym (chosen_as passes (length arcs) flags all are (sym many)))
+      (w ∙ second ∙ sym (spread_others 0 kept arcs) ∙ sym (chosen_as (λ i. not (passes i)) (length arcs) (map not flags) all not_are (sym many)))
+
+-- ---- the arcs of layers
+
+answers_same : {X : Type 0} (f g : ℕ → X) → ((n : ℕ) → f n ≡ g n) → (n count : ℕ) → answers f n count ≡ answers g n count
+answers_same f g same n zero = refl
+answers_same f g same n (suc count) = ap (λ x. x ∷ answers f (suc n) count) (same n) ∙ ap (λ xs. g n ∷ xs) (answers_same f g same (suc n) count)
+
+module _ (ls : Named) (t : ℕ) where
+  abbrev used : ℕ → Bool
+  used = is_used (untrimmed 0 0 ls).objects
+
+  -- the lists of the arcs that the draft uses, spread over all, are those of the layers' arcs
+  spread_of_layers : ZeroLaw → spread used 0 (reduce_arcs (guarded_by true []) t (keep_from used 0 (arcs_of_layers ls))) (arcs_of_layers ls) ≡ guarded_arc_indexes true t ls
+  spread_of_layers stays = ap (λ arcs. spread used 0 (reduce_arcs (guarded_by true []) t arcs) (arcs_of_layers ls)) (sym (built_positions ls ∙ built_arcs ls stays))
+
+  pub left_of_layers : ZeroLaw → ArcsRise → DraftUsesAtZero → (objects : List (List ℕ × TopoObject)) (flags : List Bool) (arcs left : List (List Point)) → IsDraftOf ls objects → arcs ≡ arcs_of_layers ls
+      → flags ≡ answers (is_used (objects_pruned with_refs objects)) 0 (length arcs)
+      → ((passes : ℕ → Bool) → flags ≡ answers passes 0 (length arcs) → EachFromFirstToLast (reduce_arcs (guarded_by true []) t (keep_from passes 0 arcs)) (keep_from passes 0 arcs)
+      → left ≡ retained_arcs (spread passes 0 (reduce_arcs (guarded_by true []) t (keep_from passes 0 arcs)) arcs) arcs)
+      → left ≡ retained_arcs (guarded_arc_indexes true t ls) (arcs_of_layers ls)
+  left_of_layers stays rise uses objects flags arcs left draft are flagged f =
+      let arcs_are : arc_positions (built 0 0 ls) ≡ keep_from used 0 (arcs_of_layers ls) = built_positions ls ∙ built_arcs ls stays in
+      let through : EachFromFirstToLast (reduce_arcs (guarded_by true []) t (keep_from used 0 arcs)) (keep_from used 0 arcs) =
+      subst (λ xs. EachFromFirstToLast (reduce_arcs (guarded_by true []) t (keep_from used 0 xs)) (keep_from used 0 xs)) (sym are)
+      (subst (λ xs. EachFromFirstToLast (reduce_arcs (guarded_by true []) t xs) (keep_from used 0 (arcs_of_layers ls))) arcs_are (built_through ls stays rise true t draft.sound)) in
+      let same : answers (is_used (objects_pruned with_refs objects)) 0 (length arcs) ≡ answers used 0 (length arcs) =
+      answers_same (is_used (objects_pruned with_refs objects)) used (λ n. ap (λ os. is_used (objects_pruned with_refs os) n) draft.drafted ∙ uses ls n draft.sound) 0 (length arcs) in
+      f used (flagged ∙ same) through
+      ∙ ap (λ xs. retained_arcs (spread used 0 (reduce_arcs (guarded_by true []) t (keep_from used 0 xs)) xs) xs) are
+      ∙ ap (λ kept. retained_arcs kept (arcs_of_layers ls)) (spread_of_layers stays)

@@ -1,0 +1,19 @@
+use Rattle.std.proofs.Common.{◌≡◌, ◌∙◌, ℕ, map, ap, rules, sym}
+use Rattle.std.proofs.lemmas.Simd.{map-map}
+use Rattle.elimination_meaning.specs.Elimination.{reduce}
+use Rattle.simplified_topology.specs.Guarded.{arc_positions}
+use Rattle.simplified_topology.specs.Thresholds.{placed_cells, reduced_indexes}
+use Rattle.topo_model.proofs.Picks.{arcs_are}
+use Rattle.topojson_types.specs.Topologies.{Contents}
+use Rattle.mapchain_engine.proofs.sharing.kept_by_share.Goals as goal
+
+-- the arcs of a topology are reduced by their positions
+each_reduced : (t : ℕ) (y : Contents) → map (reduce t) (arc_positions y) ≡ reduced_indexes t y
+each_reduced t y = ap (map (reduce t)) (sym (arcs_are y.transform y.arcs)) ∙ map-map (reduce t) (placed_cells y.transform) y.arcs
+
+pub returns-clause-kept : goal.returns-clause-kept
+returns-clause-kept c =
+    let t = c.in_ok-weights.threshold in
+    let y = c.args.topology.now in
+    let same : c.in_ok-lines.lines.items ≡ arc_positions y = search rules in
+    c.in_ok-kept.ensures ∙ c.in_ok-weights.ensures.stays ∙ ap (map (reduce t)) (c.deref.ensures.value ∙ same) ∙ each_reduced t y

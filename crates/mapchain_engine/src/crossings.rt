@@ -1,0 +1,63 @@
+// Summaries with the crossings of topologies.
+ghost use Rattle.std.specs.Prelude.{◌≡◌, ℕ, List, Some, Result, IfOk, IfErr, min};
+ghost use Rattle.inputs.specs.declared.file_fault.FileFault.{FileFault as Fault};
+ghost use Rattle.reports.specs.declared.summary.Summary.{Summary as Counted};
+ghost use Rattle.reports.specs.Summaries.{most_crossings, summary_of, with_crossings};
+ghost use Rattle.simplified_topology.specs.Guarded.{crossings_of};
+ghost use Rattle.mapchain_engine.specs.FileOutcomes.{FileHasOutcome, FollowsSummary, summarised_with_crossings};
+ghost use Rattle.mapchain_engine.specs.Files.{FailsToGive, IsCounted};
+
+use crate::file_reading::read_file;
+use crate::guarding::arc_positions;
+use byte_ends::{Feed, Memory, Source};
+use crossing_count::crossings_up_to;
+use inputs::FileFault;
+use reports::{MOST_CROSSINGS, Summary, summary_with};
+use std::alloc::Global;
+use topojson_types::Topology;
+
+/// How many pairs of segments of a topology's arcs meet badly, or as many as are counted at most.
+fn crossings_in(alloc: Global, topology: &Topology) -> Result<u64, Memory>
+    ensures { IfOk result (λ n. n ≡ min most_crossings (crossings_of topology.now)) }
+{
+    let lines = arc_positions(alloc, topology.transform(), topology.arcs())?;
+    crossings_up_to(alloc, &lines, MOST_CROSSINGS)
+}
+
+/// The summary of a topology, with its crossings.
+fn summary_in(alloc: Global, topology: &Topology) -> Result<Summary, Memory>
+    ensures { IfOk result (λ summary. summary ≡ with_crossings (crossings_of topology.now) (summary_of topology.now)) }
+{
+    let crossings = crossings_in(alloc, topology)?;
+    let mut summary = summary_with(
+        alloc,
+        topology.objects(),
+        topology.arcs(),
+        topology.transform().is_some(),
+    )?;
+    summary.crossings = Some(crossings);
+    Ok(summary)
+}
+
+/// Counts what is in a topology (TopoJSON 1.0) that is read from its source to the end, with the pairs of segments of its arcs that meet
+/// badly: they cross, lie on one another, or touch but at ends of both.
+///
+/// Each pair of places counts once, and so do arcs that no line uses; equal neighbours make no segment. At `MOST_CROSSINGS` it stays. The
+/// topology is refused as by `stat`.
+pub fn stat_with_crossings<R: Feed>(
+    alloc: Global,
+    source: &mut Source<R>,
+) -> Result<Summary, FileFault>
+    // The bytes spell a topology, and the summary is that topology's, with its crossings.
+    ensures reported { IfOk result (λ summary. IsCounted source.old source.new summary) }
+    // Every fault is one that the source or its bytes have.
+    ensures refused { IfErr result (λ e. FailsToGive source.old source.new e) }
+    // The outcome of the bytes of the source is answered, unless memory or the source failed.
+    ensures decided { (bytes : List ℕ) (outcome : Result Counted Fault) → source.old.left ≡ Some bytes → FileHasOutcome summarised_with_crossings bytes outcome
+        → FollowsSummary outcome result }
+{
+    let (topology, _counts) = read_file(alloc, source)?;
+    let summary = summary_in(alloc, &topology);
+    drop(topology);
+    Ok(summary?)
+}

@@ -1,6 +1,6 @@
-// All arcs reduced at once, without a crossing or with rings that stay. That the answer is the definition's is proved: these show that memory isn't always refused, and
-// the answers of small maps that were worked out by hand.
-use geometry::{ArcRef, Position};
+// All arcs reduced at once, without a crossing. That the answer is the definition's is proved: these show that memory isn't always refused, and the
+// answers of small maps that were worked out by hand.
+use geometry::Position;
 use guarded_reduction::{reduce_guarded, weights_guarded};
 use owned_values::{Items, Memory};
 use std::alloc::Global;
@@ -114,104 +114,17 @@ fn what_is_held_weighs_as_much_as_what_held_it(rt: HostRuntime) -> Result<(), Fa
     Ok(())
 }
 
-/// A ring of these arcs.
-fn ring(alloc: Global, refs: &[i64]) -> Result<Items<ArcRef>, Memory> {
-    let mut all = Vec::new(alloc);
-    for index in refs {
-        all.push(ArcRef::of(*index))?;
-    }
-    Ok(Items::of(all))
-}
-
-// Two squares side by side lose a corner each, and then they are triangles, whether crossings are avoided or not. Without rings nothing stays of
-// them.
+// Where neither is asked for, each arc is reduced by itself.
 #[test]
-fn rings_that_share_an_arc_stay(rt: HostRuntime) -> Result<(), Fail> {
+fn nothing_is_held_where_nothing_is_asked_for(rt: HostRuntime) -> Result<(), Fail> {
     let alloc = rt.alloc();
-    let border = [Position::at(1, 0), Position::at(1, 1)];
-    let west = [
-        Position::at(1, 1),
-        Position::at(0, 1),
-        Position::at(0, 0),
-        Position::at(1, 0),
-    ];
-    let east = [
-        Position::at(1, 0),
-        Position::at(2, 0),
-        Position::at(2, 1),
-        Position::at(1, 1),
-    ];
+    let roof = [Position::at(0, 0), Position::at(2, 2), Position::at(4, 0)];
+    let post = [Position::at(2, 1), Position::at(2, -5)];
     let arcs = [
-        Items::of(border.to_vec(alloc)?),
-        Items::of(west.to_vec(alloc)?),
-        Items::of(east.to_vec(alloc)?),
+        Items::of(roof.to_vec(alloc)?),
+        Items::of(post.to_vec(alloc)?),
     ];
-    let rings = [ring(alloc, &[0, 1])?, ring(alloc, &[2, -1])?];
-    for no_crossings in [false, true] {
-        let kept = reduce_guarded(alloc, &arcs, no_crossings, &rings, 200)?;
-        assert!(rt; kept[0].as_slice() == [0, 1].as_slice());
-        assert!(rt; kept[1].as_slice() == [0, 1, 3].as_slice());
-        assert!(rt; kept[2].as_slice() == [0, 2, 3].as_slice());
-        let weights = weights_guarded(alloc, &arcs, no_crossings, &rings)?;
-        assert!(rt; weights.as_slice() == [None, Some(1), Some(1), None].as_slice());
-    }
-    let none = reduce_guarded(alloc, &arcs, false, &[], 200)?;
-    assert!(rt; are(&none[1..3], &[0, 3], &[0, 3]));
-    Ok(())
-}
-
-// A ring stays as a triangle, and one that isn't asked for goes.
-#[test]
-fn one_ring_stays_and_another_goes(rt: HostRuntime) -> Result<(), Fail> {
-    let alloc = rt.alloc();
-    let large = [
-        Position::at(10, 10),
-        Position::at(12, 10),
-        Position::at(10, 12),
-        Position::at(10, 10),
-    ];
-    let small = [
-        Position::at(20, 20),
-        Position::at(21, 20),
-        Position::at(20, 21),
-        Position::at(20, 20),
-    ];
-    let arcs = [
-        Items::of(large.to_vec(alloc)?),
-        Items::of(small.to_vec(alloc)?),
-    ];
-    let kept = reduce_guarded(alloc, &arcs, false, &[ring(alloc, &[0])?], 200)?;
-    assert!(rt; are(&kept, &[0, 1, 2, 3], &[0, 3]));
-    Ok(())
-}
-
-// A ring that goes along an arc twice loses twice, and positions that are equal to the ones before them don't count.
-#[test]
-fn positions_of_a_ring_are_counted_as_it_goes(rt: HostRuntime) -> Result<(), Fail> {
-    let alloc = rt.alloc();
-    let bent = [Position::at(0, 0), Position::at(2, 1), Position::at(4, 0)];
-    let spike = [
-        Position::at(4, 0),
-        Position::at(9, 1),
-        Position::at(9, 0),
-        Position::at(4, 0),
-    ];
-    let two = [
-        Items::of(bent.to_vec(alloc)?),
-        Items::of(spike.to_vec(alloc)?),
-    ];
-    let there_and_back = ring(alloc, &[0, -1])?;
-    let kept = reduce_guarded(alloc, &two, false, &[there_and_back], 200)?;
-    assert!(rt; are(&kept, &[0, 1, 2], &[0, 3]));
-    let round = ring(alloc, &[0, 1, -1])?;
-    let kept = reduce_guarded(alloc, &two, false, &[round], 200)?;
-    assert!(rt; are(&kept, &[0, 2], &[0, 1, 3]));
-    let twice = [Position::at(4, 0), Position::at(4, 0)];
-    let three = [
-        Items::of(twice.to_vec(alloc)?),
-        Items::of(spike.to_vec(alloc)?),
-    ];
-    let kept = reduce_guarded(alloc, &three, false, &[ring(alloc, &[0, 1])?], 200)?;
-    assert!(rt; are(&kept, &[0, 1], &[0, 1, 2, 3]));
+    let kept = reduce_guarded(alloc, &arcs, false, &[], 10)?;
+    assert!(rt; are(&kept, &[0, 2], &[0, 1]));
     Ok(())
 }

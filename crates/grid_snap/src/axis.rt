@@ -4,6 +4,8 @@ ghost use Rattle.grid_snap.specs.Axes.{IsAxis, IsNumbered, axis_over, count_limi
 ghost use Rattle.grid_snap.specs.Axes as spec;
 ghost use Rattle.grid_snap.specs.Bounds.{IsSpan};
 
+use crate::dividing::quotient;
+
 /// The coordinates `first`, `first + step` and so on, in units, the last of which has the number `last`, counted from zero.
 #[derive(Clone, Copy, Debug)]
 pub struct Axis {
@@ -40,14 +42,22 @@ impl Axis {
         self.first <= x && x.abs_diff(self.first) <= self.last * self.step
     }
 
-    /// The number of the nearest of its coordinates, the higher one of two.
-    pub(crate) fn number(self, x: i64) -> i64
+    /// What is near 2^64 over twice the step.
+    pub(crate) fn inverse(self) -> u64
+        requires { IsAxis self }
+    {
+        u64::MAX / 2 / self.step
+    }
+
+    /// The number of the nearest of its coordinates, the higher one of two. Any inverse gives one answer.
+    pub(crate) fn number(self, x: i64, inverse: u64) -> i64
         requires axis { IsAxis self }
         requires covered { is_on self x ≡ true }
         ensures number { result ≡ pos (spec.number self x) }
         ensures within { IsNumbered self result }
     {
-        ((2 * x.abs_diff(self.first) + self.step) / (2 * self.step)) as i64
+        let halves = 2 * x.abs_diff(self.first) + self.step;
+        quotient(halves, 2 * self.step, inverse) as i64
     }
 
     /// The coordinate of a number.

@@ -19,6 +19,9 @@ use std::marker::Model;
 pub struct Grid {
     across: Axis,
     up: Axis,
+    /// The axes' inverses, which are in no contract.
+    across_inverse: u64,
+    up_inverse: u64,
 }
 
 impl Model for Grid {
@@ -40,9 +43,13 @@ impl Grid {
         ensures { (ps : List Point) → widened_by None ps ≡ bounds → result ≡ grid_over count ps }
     {
         let bounds = bounds?;
+        let across = axis_over(count, bounds.left, bounds.right);
+        let up = axis_over(count, bounds.bottom, bounds.top);
         Some(Grid {
-            across: axis_over(count, bounds.left, bounds.right),
-            up: axis_over(count, bounds.bottom, bounds.top),
+            across,
+            up,
+            across_inverse: across.inverse(),
+            up_inverse: up.inverse(),
         })
     }
 
@@ -98,8 +105,8 @@ impl Grid {
         ensures within { IsCell self.now (record { x = result.0; y = result.1 }) }
     {
         (
-            self.across.number(position.x()),
-            self.up.number(position.y()),
+            self.across.number(position.x(), self.across_inverse),
+            self.up.number(position.y(), self.up_inverse),
         )
     }
 

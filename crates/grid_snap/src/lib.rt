@@ -6,6 +6,7 @@
 
 mod axis;
 mod bounds;
+mod dividing;
 mod grid;
 mod laws;
 mod layers;

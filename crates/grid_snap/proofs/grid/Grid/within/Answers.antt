@@ -5,13 +5,13 @@ use Rattle.grid_snap.proofs.grid.Grid.within.Goals as goal
 pub returns-in_err-bounds : goal.returns-in_err-bounds
 returns-in_err-bounds c ps e = c.from_residual.ensures ∙ sym (none_over c.args.count ps (e ∙ c.in_err-bounds.was))
 
-pub axis_over-requires-clause-span : goal.axis_over-requires-clause-span
-axis_over-requires-clause-span c =
+pub axis_over-across-requires-clause-span : goal.axis_over-across-requires-clause-span
+axis_over-across-requires-clause-span c =
     let b = rw c.in_ok-bounds.was at c.requires.bounds in
     span_cast c.in_ok-bounds.bounds.left c.in_ok-bounds.bounds.right b.x
 
-pub axis_over-requires-2-clause-span : goal.axis_over-requires-2-clause-span
-axis_over-requires-2-clause-span c =
+pub axis_over-up-requires-clause-span : goal.axis_over-up-requires-clause-span
+axis_over-up-requires-clause-span c =
     let b = rw c.in_ok-bounds.was at c.requires.bounds in
     span_cast c.in_ok-bounds.bounds.bottom c.in_ok-bounds.bounds.top b.y
 
@@ -20,6 +20,6 @@ returns c ps is =
     let e = is ∙ c.in_ok-bounds.was in
     let b = rw c.in_ok-bounds.was at c.requires.bounds in
     ap Some (both_axes
-    (axis_cast c.args.count c.in_ok-bounds.bounds.left c.in_ok-bounds.bounds.right c.axis_over.result b.x c.axis_over.ensures.value)
-    (axis_cast c.args.count c.in_ok-bounds.bounds.bottom c.in_ok-bounds.bounds.top c.axis_over-2.result b.y c.axis_over-2.ensures.value))
+    (axis_cast c.args.count c.in_ok-bounds.bounds.left c.in_ok-bounds.bounds.right c.axis_over-across.result b.x c.axis_over-across.ensures.value)
+    (axis_cast c.args.count c.in_ok-bounds.bounds.bottom c.in_ok-bounds.bounds.top c.axis_over-up.result b.y c.axis_over-up.ensures.value))
     ∙ sym (over_bounds c.args.count ps c.in_ok-bounds.bounds e)

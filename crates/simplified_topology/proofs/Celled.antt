@@ -61,7 +61,7 @@ module _ (transform : Transform) (cell : Point → Point) where
   indexes_same t [] h = refl
   indexes_same t (a ∷ arcs) h = grind (arith, lies_back, indexes_same t arcs h.1)
 
-  retained_lie : (kept : List (List ℕ)) (arcs : List (List Point)) → AllByRecursion Lies arcs → AllByRecursion Lies (retained_arcs kept arcs)
+  pub retained_lie : (kept : List (List ℕ)) (arcs : List (List Point)) → AllByRecursion Lies arcs → AllByRecursion Lies (retained_arcs kept arcs)
   retained_lie [] arcs h = tt
   retained_lie (is ∷ kept) [] h = tt
   retained_lie (is ∷ kept) (a ∷ arcs) h = (all_retained (LiesBack transform cell) is a h.0, retained_lie kept arcs h.1)
@@ -118,7 +118,7 @@ module _ (transform : Transform) (cell : Point → Point) where
   abbrev by_used : Contents → (ℕ → Bool) → Contents
   by_used y u = record { objects = objects_pruned (line_renumbered u) (objects_celled cell y.objects); arcs = keep_from u 0 (map (map cell) y.arcs); transform = Some transform }
 
-  trimmed_celled : (y : Contents) → trimmed (celled transform cell y) ≡ celled transform cell (trimmed y)
+  pub trimmed_celled : (y : Contents) → trimmed (celled transform cell y) ≡ celled transform cell (trimmed y)
   unfolding trimmed celled
   trimmed_celled y =
       ap (λ bs. by_used y (used_in bs)) (objects_lines y.objects)

@@ -150,7 +150,7 @@ module _ (ls : Named) where
   abbrev used : ℕ → Bool
   used = is_used (untrimmed 0 0 ls).objects
 
-  layers_long : AreSound ls → AllByRecursion IsLong (arcs_of_layers ls)
+  pub layers_long : AreSound ls → AllByRecursion IsLong (arcs_of_layers ls)
   layers_long sound = arcs_long (linework (layers_of ls)) (all_clean ls sound)
 
   -- at zero nothing is removed of its arcs

@@ -23,7 +23,7 @@ module _ (X : Point → Type 0) where
   abbrev Have : List Point → Type 0
   Have ps = AllByRecursion X ps
 
-  arcs_have : (kept : List (List ℕ)) (arcs : List (List Point)) → AllByRecursion Have arcs → AllByRecursion Have (retained_arcs kept arcs)
+  pub arcs_have : (kept : List (List ℕ)) (arcs : List (List Point)) → AllByRecursion Have arcs → AllByRecursion Have (retained_arcs kept arcs)
   arcs_have [] arcs h = tt
   arcs_have (is ∷ kept) [] h = tt
   arcs_have (is ∷ kept) (cells ∷ arcs) h = (all_retained X is cells h.0, arcs_have kept arcs h.1)
@@ -39,7 +39,7 @@ module _ (X : Point → Type 0) where
     object_has (One f) h = features_have (f ∷ []) h
     object_has (Many fs) h = features_have fs h
 
-    objects_have : (os : List (List ℕ × TopoObject)) → Have (objects_places os) → Have (objects_places (objects_pruned refs os))
+    pub objects_have : (os : List (List ℕ × TopoObject)) → Have (objects_places os) → Have (objects_places (objects_pruned refs os))
     objects_have [] h = tt
     objects_have (o ∷ os) h =
         all_append X (features_places (object_features (object_pruned refs o.1))) (objects_places (objects_pruned refs os))
@@ -68,7 +68,7 @@ module _ (X : TopoFeature → Type 0) (stays : (refs : Refs) (f : TopoFeature) �
     object_stays (One f) h = all_stay (f ∷ []) h
     object_stays (Many fs) h = all_stay fs h
 
-    objects_stay : (os : List (List ℕ × TopoObject)) → AllByRecursion X (features_of os) → AllByRecursion X (features_of (objects_pruned refs os))
+    pub objects_stay : (os : List (List ℕ × TopoObject)) → AllByRecursion X (features_of os) → AllByRecursion X (features_of (objects_pruned refs os))
     objects_stay [] h = tt
     objects_stay (o ∷ os) h =
         all_append X (object_features (object_pruned refs o.1)) (features_of (objects_pruned refs os)) (object_stays o.1 (all_left X (object_features o.1) (features_of os) h))

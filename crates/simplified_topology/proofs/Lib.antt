@@ -34,3 +34,12 @@ pub mod Valid
 pub mod ValidCelled
 pub mod ValidRetained
 pub mod ValidPruned
+pub mod GreatestLeft
+pub mod MarkedRing
+pub mod MarksLeft
+pub mod ProtectedLayers
+mod ProtectedLayersRows
+pub mod RingsAlike
+pub mod ShapesLeft
+pub mod SparedAlike
+pub mod SparedLeft

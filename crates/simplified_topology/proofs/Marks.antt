@@ -150,7 +150,7 @@ module _ {L : Type 0} (why : Bool → Bool × L → Option Cause) where
 abbrev pub without_mark : {L : Type 0} → Bool × (Bool × L) → Bool × L
 without_mark b = (b.0, b.1.1)
 
-abbrev tagged : {A : Type 0} → Bool → List A → List (Bool × A)
+abbrev pub tagged : {A : Type 0} → Bool → List A → List (Bool × A)
 tagged closed ls = map (λ l. (closed, l)) ls
 
 module _ {L : Type 0} where

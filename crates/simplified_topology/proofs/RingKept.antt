@@ -30,7 +30,7 @@ is_same : (i : ℕ) → (i == i) ≡ true
 is_same i = grind (arith, nat_tests)
 
 -- the way leads into the part of this number
-into_here : (i : ℕ) (way : List ℕ) → into_part i (Some (i ∷ way)) ≡ Some way
+pub into_here : (i : ℕ) (way : List ℕ) → into_part i (Some (i ∷ way)) ≡ Some way
 into_here i way = ap (λ b. cond b (Some way) None) (is_same i)
 
 -- ---- parts and the ways to them

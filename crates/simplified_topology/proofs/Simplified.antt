@@ -69,7 +69,7 @@ module _ (limit : ℕ) (u : ℕ → Bool) (arcs : List (List Point)) where
   abbrev fewer : List (List Point)
   fewer = keep_from u 0 arcs
 
-  refs_same : (b : Bool × List ℤ) → AllUsed u b → large_refs limit fewer b.0 (map (renumbered u) b.1) ≡ then_some (line_renumbered u b.0) (large_refs limit arcs b.0 b.1)
+  pub refs_same : (b : Bool × List ℤ) → AllUsed u b → large_refs limit fewer b.0 (map (renumbered u) b.1) ≡ then_some (line_renumbered u b.0) (large_refs limit arcs b.0 b.1)
   refs_same b h = search (arith, all_renumbered u arcs b.1 h)
 
   -- reduced and then renumbered is renumbered and then reduced

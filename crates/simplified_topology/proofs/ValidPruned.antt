@@ -90,7 +90,7 @@ module _ (place : Point → Point) (kept : MarkedRefs) where
         one None k more = more
         one (Some t) k more = all_append X (places t) (joined (map places (some_of (prune place kept) (along marked (suc i) ss way)))) k more
 
-    places_stay : (s : TopoShape) → Stay s
+    pub places_stay : (s : TopoShape) → Stay s
     places_stay = by_kinds Stay (record {
       point = λ p way h. subst (AllByRecursion X) (sym (ap option_places (left-point place kept p way) ∙ places_at.point (place p))) (subst (AllByRecursion Placed) (places_at.point p) h);
       points = λ ps way h. subst (AllByRecursion X) (sym (ap option_places (left-points place kept ps way) ∙ places_at.points (map place ps)))

@@ -9,6 +9,8 @@ pub mod Laws
 pub mod OuterRings
 pub mod Protected
 pub mod ProtectedLaws
+pub mod ProtectedLayers
+pub mod ProtectedLayersLaws
 pub mod Simplified
 pub mod Thresholds
 pub mod TransformLaws

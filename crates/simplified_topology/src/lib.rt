@@ -11,6 +11,7 @@ mod grid_laws;
 mod guarded_laws;
 mod laws;
 mod protected_laws;
+mod protected_layers_laws;
 mod transform_laws;
 
 pub use grid_laws::{
@@ -33,5 +34,10 @@ pub use protected_laws::{
     protecting_crossings_never_rise, protecting_indexes_reach, protecting_is_valid,
     protecting_keeps, protecting_none_stays_none, shapes_stay, spared_is_valid, spared_keeps,
     unprotected_is_guarded, unprotected_is_simplified,
+};
+pub use protected_layers_laws::{
+    assembled_sparing_is_on, assembled_sparing_is_valid, built_rings_are_of_layers,
+    protecting_arc_indexes_reach, protecting_is_assembled, protecting_on_grid, spared_cells_are_on,
+    spared_nests_no_deeper, sparing_is_of_layers, trimmed_first_is_alike_sparing,
 };
 pub use transform_laws::{cells_are_on_grid, cells_lie_there, grid_has_transform};

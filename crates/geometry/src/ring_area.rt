@@ -76,6 +76,20 @@ fn is_closer(whole: i128, rest: i128, limit: u128) -> bool
     sum.unsigned_abs() < limit
 }
 
+/// How far a sum is from zero, as so many times what it is carried by and a rest.
+fn distance_from_zero(whole: i128, rest: i128) -> (u128, u128)
+    requires rest { unsigned_abs rest < area_limit }
+    ensures value { result.0 * area_limit + result.1 ≡ unsigned_abs (whole *ℤ pos area_limit +ℤ rest) }
+    ensures rest { result.1 < area_limit }
+{
+    let is_short = (whole > 0 && rest < 0) || (whole < 0 && rest > 0);
+    if is_short {
+        (whole.unsigned_abs() - 1, AREA_LIMIT - rest.unsigned_abs())
+    } else {
+        (whole.unsigned_abs(), rest.unsigned_abs())
+    }
+}
+
 /// What the positions of a ring that were passed one after the other add up to: once all were, twice its signed area in square units. As
 /// that may pass 128 bits, it is carried.
 #[derive(Drop)]
@@ -129,6 +143,23 @@ impl RingSum {
         ensures { result ≡ nat_lt (unsigned_abs self.now.sum) limit }
     {
         is_closer(self.whole, self.rest, limit)
+    }
+
+    /// How far the sum is from zero, as so many times what it is carried by and a rest.
+    fn distance(&self) -> (u128, u128)
+        ensures value { result.0 * area_limit + result.1 ≡ unsigned_abs self.now.sum }
+        ensures rest { result.1 < area_limit }
+    {
+        distance_from_zero(self.whole, self.rest)
+    }
+
+    /// Whether the sum is closer to zero than the other.
+    pub fn is_closer_than(&self, other: &RingSum) -> bool
+        ensures { result ≡ nat_lt (unsigned_abs self.now.sum) (unsigned_abs other.now.sum) }
+    {
+        let (whole, rest) = self.distance();
+        let (other_whole, other_rest) = other.distance();
+        whole < other_whole || (whole == other_whole && rest < other_rest)
     }
 }
 

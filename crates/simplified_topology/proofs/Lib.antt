@@ -20,6 +20,7 @@ pub mod Marks
 pub mod Objects
 pub mod OnGrid
 pub mod Protected
+pub mod ProtectedRings
 pub mod Retained
 pub mod Reaching
 mod ProtectedRows

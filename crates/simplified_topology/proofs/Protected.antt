@@ -173,7 +173,7 @@ guarded_stays_none stays fewer t limit y h = subst (λ z. crossings_of z ≡ 0) 
 -- ---- shapes stay
 
 -- what holds of what is given for some elements
-all_given : {A B : Type 0} (Y : B → Type 0) (g : A → Option B) (xs : List A) → AllByRecursion (λ x. (b : B) → g x ≡ Some b → Y b) xs → AllByRecursion Y (some_of g xs)
+pub all_given : {A B : Type 0} (Y : B → Type 0) (g : A → Option B) (xs : List A) → AllByRecursion (λ x. (b : B) → g x ≡ Some b → Y b) xs → AllByRecursion Y (some_of g xs)
 all_given Y g [] h = tt
 all_given {B = B} Y g (x ∷ xs) h = on (g x) refl (all_given Y g xs h.1)
   where
@@ -219,7 +219,7 @@ renumbered_features used (One f) = refl
 renumbered_features used (Many fs) = refl
 
 module _ (X : Bool × List ℤ → Type 0) where
-  abbrev OfFeature : TopoFeature → Type 0
+  abbrev pub OfFeature : TopoFeature → Type 0
   OfFeature f = AllByRecursion X (option_lines_and_rings f.shape)
 
   each_feature : (fs : List TopoFeature) → AllByRecursion X (features_lines_and_rings fs) → AllByRecursion OfFeature fs
@@ -236,14 +236,14 @@ module _ (X : Bool × List ℤ → Type 0) where
 -- ---- shapes stay
 
 -- the shape of a feature that has a protected ring, and the way to its polygon
-record Protects (protects : Protection) (o : Option TopoShape) (refs : List ℤ) : Type 0 where
-  shape : TopoShape
-  has_shape : o ≡ Some shape
-  ring : Placed (List ℤ)
-  is_ring : protects shape ≡ Some ring
-  refs_are : ring.part ≡ refs
+pub record Protects (protects : Protection) (o : Option TopoShape) (refs : List ℤ) : Type 0 where
+  pub shape : TopoShape
+  pub has_shape : o ≡ Some shape
+  pub ring : Placed (List ℤ)
+  pub is_ring : protects shape ≡ Some ring
+  pub refs_are : ring.part ≡ refs
 
-protected_parts : (protects : Protection) (o : Option TopoShape) (refs : List ℤ) → map_some (λ x. x.part) (then_some protects o) ≡ Some refs → Protects protects o refs
+pub protected_parts : (protects : Protection) (o : Option TopoShape) (refs : List ℤ) → map_some (λ x. x.part) (then_some protects o) ≡ Some refs → Protects protects o refs
 protected_parts protects None refs h = cc
 protected_parts protects (Some s) refs h = on (protects s) refl h
   where

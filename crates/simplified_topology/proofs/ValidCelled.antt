@@ -34,7 +34,7 @@ module _ (f : Point → Point) where
   last_map (x ∷ []) = refl
   last_map (x ∷ (y ∷ xs)) = last_map (y ∷ xs)
 
-  meet_map : (xs : List (List Point)) → Meet xs → Meet (map once_more xs)
+  pub meet_map : (xs : List (List Point)) → Meet xs → Meet (map once_more xs)
   meet_map [] h = tt
   meet_map (p ∷ []) h = tt
   meet_map (p ∷ (q ∷ ps)) h = (last_map p ∙ ap (map_some f) h.0 ∙ sym (first_map q), meet_map (q ∷ ps) h.1)
@@ -56,7 +56,7 @@ module _ (f : Point → Point) where
   arc_map : (arcs : List (List Point)) (r : ℤ) → arc_at (map once_more arcs) r ≡ once_more (arc_at arcs r)
   arc_map arcs r = grind (arith, at_map, empty_map, map_reverse)
 
-  line_map : (arcs : List (List Point)) (refs : List ℤ) → map (arc_at (map once_more arcs)) refs ≡ map once_more (map (arc_at arcs) refs)
+  pub line_map : (arcs : List (List Point)) (refs : List ℤ) → map (arc_at (map once_more arcs)) refs ≡ map once_more (map (arc_at arcs) refs)
   line_map arcs [] = refl
   line_map arcs (r ∷ refs) = rw (arc_map arcs r, line_map arcs refs) refl
 

@@ -11,6 +11,7 @@ pub mod Protected
 pub mod ProtectedLaws
 pub mod ProtectedLayers
 pub mod ProtectedLayersLaws
+pub mod ProtectedRings
 pub mod Simplified
 pub mod Thresholds
 pub mod TransformLaws

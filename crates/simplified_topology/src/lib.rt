@@ -12,6 +12,7 @@ mod guarded_laws;
 mod laws;
 mod protected_laws;
 mod protected_layers_laws;
+mod ring_laws;
 mod transform_laws;
 
 pub use grid_laws::{
@@ -40,4 +41,5 @@ pub use protected_layers_laws::{
     protecting_arc_indexes_reach, protecting_is_assembled, protecting_on_grid, spared_cells_are_on,
     spared_nests_no_deeper, sparing_is_of_layers, trimmed_first_is_alike_sparing,
 };
+pub use ring_laws::protected_rings_can_stay;
 pub use transform_laws::{cells_are_on_grid, cells_lie_there, grid_has_transform};

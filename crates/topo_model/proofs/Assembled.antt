@@ -32,6 +32,9 @@ use Rattle.junctions.specs.declared.stroke.Stroke.{Stroke}
 use Rattle.simplified_topology.specs.Assembled.{arcs_of_layers, own_refs, assembled_cause, option_caused, layers_caused, assembled, assembled_dropped, assembled_removed_count}
 use Rattle.simplified_topology.specs.Simplified.{Refs, small_cause, large_refs, feature_pruned, objects_pruned, retained_arcs, retained_whole, simplified_by, EachFromFirstToLast}
 use Rattle.simplified_topology.proofs.Assembled.{contents, kept_by, before_trimming, layers_alike}
+use Rattle.simplified_topology.specs.Protected.{no_protection}
+use Rattle.simplified_topology.proofs.Protected.{unprotected_is_simplified}
+use Rattle.simplified_topology.proofs.Spared.{whole_plain}
 use Rattle.simplified_topology.proofs.Simplified.{IsWholeAtZero, no_small}
 use Rattle.simplified_topology.proofs.ValidRetained.{retained_length}
 use Rattle.linework.specs.Linework.{linework}
@@ -39,7 +42,8 @@ use Rattle.owned_values.proofs.Elements.{all_weaker}
 use Rattle.topojson_types.specs.declared.object.TopoObject.{TopoObject}
 use Rattle.topojson_types.specs.Topologies.{Contents, object_features, objects_lines_and_rings}
 use Rattle.topojson_types.specs.Validity.{AreDistinct, IsTopology}
-use Rattle.topo_model.specs.Drops.{draft_cause, shape_drops, objects_drops}
+use Rattle.topo_model.specs.Drops.{draft_cause, objects_drops}
+use Rattle.topo_model.proofs.Drops.{plain_drops, objects_plainly}
 use Rattle.topo_model.proofs.Result as result
 use Rattle.topo_model.proofs.Result.{of_arcs}
 use Rattle.topo_model.specs.Drafts.{RefsOf, long_refs, draft_refs, relined, feature_drafted, objects_drafted}
@@ -109,15 +113,15 @@ module _ (of : RefsOf) (arcs : Rebuilding) where
   abbrev cause : Bool → List Point → Option Cause
   cause closed ps = draft_cause arcs closed (draft_refs of closed ps)
 
-  shape_dropped : (s : Option Shape) → shape_drops arcs (map_some (relined (draft_refs of)) s) ≡ option_caused cause s
+  shape_dropped : (s : Option Shape) → plain_drops arcs (map_some (relined (draft_refs of)) s) ≡ option_caused cause s
   shape_dropped None = refl
   shape_dropped (Some s) = dropped_once (draft_refs of) (draft_cause arcs) s
 
-  features_dropped : (fs : List Featured) → map (λ f. shape_drops arcs f.shape) (map (feature_drafted of) fs) ≡ map (λ f. option_caused cause f.shape) fs
+  features_dropped : (fs : List Featured) → map (λ f. plain_drops arcs f.shape) (map (feature_drafted of) fs) ≡ map (λ f. option_caused cause f.shape) fs
   features_dropped [] = refl
   features_dropped (f ∷ fs) = rw (shape_dropped f.shape, features_dropped fs) refl
 
-  layers_dropped : (ls : Named) → map (λ o. map (λ f. shape_drops arcs f.shape) (object_features o.1)) (objects_drafted of ls) ≡ map (λ l. map (λ f. option_caused cause f.shape) l.1.features) ls
+  layers_dropped : (ls : Named) → map (λ o. map (λ f. plain_drops arcs f.shape) (object_features o.1)) (objects_drafted of ls) ≡ map (λ l. map (λ f. option_caused cause f.shape) l.1.features) ls
   layers_dropped [] = refl
   layers_dropped (l ∷ ls) = rw (features_dropped l.1.features, layers_dropped ls) refl
 
@@ -174,8 +178,8 @@ module _ (kept : List (List ℕ)) (limit : ℕ) (ls : Named) (zero : ZeroLaw) (s
       ∙ ap (λ arcs. contents (objects_by (kept_by (lines_of ls) arcs limit) ls) arcs) picks
       ∙ sym (before_trimming zero kept limit ls sound)
 
-  pub large_is : objects_pruned (large_refs limit retained) draft ≡ result.large kept limit whole retained retained_is
-  large_is = ap (λ y. y.objects) (draft_is ∙ sym (result.is_whole kept limit whole retained retained_is))
+  pub large_is : objects_pruned (large_refs limit retained) draft ≡ result.large no_protection kept limit whole retained retained_is
+  large_is = ap (λ y. y.objects) (draft_is ∙ sym (whole_plain kept limit whole) ∙ sym (result.is_whole no_protection kept limit whole retained retained_is))
 
   pub is_assembled : trimmed (contents (objects_pruned (large_refs limit retained) draft) retained) ≡ assembled kept limit ls
   unfolding assembled simplified_by
@@ -183,15 +187,15 @@ module _ (kept : List (List ℕ)) (limit : ℕ) (ls : Named) (zero : ZeroLaw) (s
 
   pub ranged : IsTopology whole → EachFromFirstToLast kept (arcs_of_layers ls) → AllByRecursion (λ b. AreInRange (length retained) b.1) (objects_lines_and_rings (objects_pruned (large_refs limit retained) draft))
   ranged valid h =
-      subst (λ (os : Objects). AllByRecursion (λ b. AreInRange (length retained) b.1) (objects_lines_and_rings os)) (sym large_is) (result.ranged kept limit whole retained retained_is valid (through h))
+      subst (λ (os : Objects). AllByRecursion (λ b. AreInRange (length retained) b.1) (objects_lines_and_rings os)) (sym large_is) (result.ranged no_protection kept limit whole retained retained_is valid (through h))
 
   pub many : EachFromFirstToLast kept (arcs_of_layers ls) → length retained ≡ length (arcs_of_layers ls)
   many h = ap length picks ∙ retained_length kept (arcs_of_layers ls) h
 
-  pub drops_are : objects_drops (of_arcs limit retained) 0 draft ≡ assembled_dropped kept limit ls
+  pub drops_are : objects_drops (of_arcs limit retained) 0 [] draft ≡ assembled_dropped kept limit ls
   unfolding assembled_dropped
   drops_are =
-      ap (dropped_of_layers 0) (layers_dropped of (of_arcs limit retained) ls)
+      objects_plainly (of_arcs limit retained) draft ∙ ap (dropped_of_layers 0) (layers_dropped of (of_arcs limit retained) ls)
       ∙ ap (dropped_of_layers 0) (layers_alike (cause of (of_arcs limit retained)) (assembled_cause (lines_of ls) retained limit) ls
       (all_weaker (λ b. kept_line (lines_of ls) 0 0 b.0 b.1 ≡ whole_line ls b.0 b.1) (λ b. cause of (of_arcs limit retained) b.0 b.1 ≡ assembled_cause (lines_of ls) retained limit b.0 b.1)
       (cause_is (lines_of ls) retained limit) (named_lines_and_rings ls) (loses_nothing zero ls sound)))
@@ -202,5 +206,5 @@ module _ (kept : List (List ℕ)) (limit : ℕ) (ls : Named) (zero : ZeroLaw) (s
   unfolding assembled_removed_count
   removed_count_is =
       ap (λ (os : Objects). sum (keep_from (is_used os) 0 (map length (arcs_of_layers ls))) - positions_of (keep_from (is_used os) 0 retained)) large_is
-      ∙ ap (λ (arcs : List (List Point)). sum (keep_from (is_used (result.large kept limit whole retained retained_is)) 0 (map length arcs)) - positions_of (keep_from (is_used (result.large kept limit whole retained retained_is)) 0 retained)) same_arcs
-      ∙ result.taken_is kept limit whole retained retained_is
+      ∙ ap (λ (arcs : List (List Point)). sum (keep_from (is_used (result.large no_protection kept limit whole retained retained_is)) 0 (map length arcs)) - positions_of (keep_from (is_used (result.large no_protection kept limit whole retained retained_is)) 0 retained)) same_arcs
+      ∙ result.taken_is no_protection kept limit whole retained retained_is ∙ (unprotected_is_simplified kept limit whole).removed_count

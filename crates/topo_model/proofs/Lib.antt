@@ -1,4 +1,5 @@
 pub mod Assembled
+pub mod Along
 pub mod Chosen
 pub mod Counted
 pub mod DraftAtZero
@@ -20,4 +21,5 @@ pub mod Reported
 pub mod Result
 pub mod Retained
 pub mod Short
+pub mod Stepped
 pub mod Taking

@@ -1,8 +1,7 @@
 -- The topology that is put together is the one that is left.
-use Rattle.std.proofs.Common.{arith, ◌≡◌, ℕ, zero, suc, ◌-◌, ℤ, Bool, true, List, [], ◌∷◌, ◌++◌, map, length, take, drop, Option, None, Some, refl, sym, ap, ◌∙◌, subst}
+use Rattle.std.proofs.Common.{arith, ◌≡◌, ℕ, zero, suc, ◌-◌, ℤ, Bool, true, false, List, [], ◌∷◌, ◌++◌, map, length, take, drop, Option, None, Some, refl, sym, ap, ◌∙◌, subst}
 use Rattle.std.specs.List.{AllByRecursion}
-use Rattle.std.specs.Prelude.{sum}
-use Rattle.std.proofs.lemmas.List.{length-map}
+use Rattle.std.specs.Prelude.{sum, if◌then◌else◌}
 use Rattle.topo_model.specs.Rebuilding.{Rebuilding}
 use Rattle.topo_model.specs.Uses.{answers}
 use Rattle.topo_model.proofs.Renumbered.{NewIndexesOf, all_renumbered}
@@ -15,14 +14,20 @@ use Rattle.geometry.specs.Joins.{AreInRange}
 use Rattle.geometry.specs.DropCauses.{dropped_of_layers}
 use Rattle.geometry.specs.Pruning.{lines_and_rings}
 use Rattle.geometry.proofs.Moved.{refilled}
+use Rattle.std.proofs.Math.Seq.{take-append_seam}
+use Rattle.geometry.specs.Lists.{map_some}
 use Rattle.geometry.proofs.Omitted.{drop_causes_agree}
 use Rattle.geojson_types.specs.Features.{is_some_list}
 use Rattle.geometry.specs.Points.{Point, IsPosition}
-use Rattle.simplified_topology.specs.Simplified.{Refs, large_refs, object_pruned, objects_pruned, retained_arcs, retained_whole, EachFromFirstToLast, simplified_by, option_small, small_cause, dropped_by, removed_count_by}
+use Rattle.simplified_topology.specs.OuterRings.{marked}
+use Rattle.simplified_topology.specs.Protected.{Protection, MarkedRefs, cause_sparing, sparing, objects_spared, spared_whole, spared_by, option_unprotected, spared_dropped, spared_removed_count}
+use Rattle.simplified_topology.specs.Simplified.{Refs, large_refs, object_pruned, objects_pruned, retained_arcs, EachFromFirstToLast, small_cause}
 use Rattle.simplified_topology.proofs.Again.{all_hold}
-use Rattle.simplified_topology.proofs.Objects.{objects_then, objects_left}
+use Rattle.simplified_topology.proofs.Marks.{lines_and_rings_back, without_mark}
+use Rattle.simplified_topology.proofs.Objects.{objects_then}
+use Rattle.simplified_topology.proofs.Spared.{Leaves, objects_left as spared_left}
 use Rattle.simplified_topology.proofs.ValidRetained.{retained_length}
-use Rattle.owned_values.proofs.Elements.{all_weaker}
+use Rattle.owned_values.proofs.Elements.{all_of_map, all_weaker}
 use Rattle.topojson_features.proofs.Standing.{lines_and_rings_full}
 use Rattle.topojson_types.specs.declared.feature.TopoFeature.{TopoFeature}
 use Rattle.topojson_types.specs.declared.object.TopoObject.{TopoObject}
@@ -32,7 +37,10 @@ use Rattle.topojson_types.specs.Decoding.{placed_arcs}
 use Rattle.topojson_types.specs.Topologies.{TopoShape, Contents, object_features, objects_lines_and_rings}
 use Rattle.topojson_types.specs.Transforms.{place_on}
 use Rattle.topojson_types.specs.Validity.{is_full_option, IsPlace, IsFeature, IsObject, IsTopology}
-use Rattle.topo_model.specs.Drops.{draft_cause, shape_drops, objects_drops}
+use Rattle.topo_model.specs.Along.{Ways, ways_after, by_object, object_along, objects_along, large_along, AreWays}
+use Rattle.topo_model.specs.Drops.{draft_cause, objects_drops}
+use Rattle.topo_model.proofs.Along.{objects_are as objects_along_are}
+use Rattle.topo_model.proofs.Drops.{protected_drops, objects_are as drops_along}
 use Rattle.topo_model.specs.Parts.{contents}
 use Rattle.topo_model.specs.ArcUses.{renumbered_refs}
 use Rattle.topo_model.proofs.Picks.{places_retained, topology_places}
@@ -49,8 +57,18 @@ same_range : (n : ℕ) (b : Bool × List ℤ) (m : List ℤ) (w : Option Cause) 
 same_range n b m w r e = grind arith
 
 -- those of the lines that stay name arcs
-range_stays : (n limit : ℕ) (arcs : List (List Point)) (os : Objects) → AllByRecursion (InRange n) (objects_lines_and_rings os) → AllByRecursion (InRange n) (objects_lines_and_rings (objects_pruned (large_refs limit arcs) os))
-range_stays n limit arcs os h = grind (arith, objects_left (large_refs limit arcs) (InRange n) os, all_weaker (InRange n), same_range n)
+range_stays : (protects : Protection) (n limit : ℕ) (arcs : List (List Point)) (os : Objects) → AllByRecursion (InRange n) (objects_lines_and_rings os)
+    → AllByRecursion (InRange n) (objects_lines_and_rings (objects_spared protects (sparing (large_refs limit arcs)) os))
+range_stays protects n limit arcs os h =
+    spared_left protects (sparing (large_refs limit arcs)) (InRange n) os
+    (all_weaker (InRange n) (Leaves protects (sparing (large_refs limit arcs)) (InRange n)) each (objects_lines_and_rings os) h)
+  where
+    same : (l m : List ℤ) → Some l ≡ Some m → l ≡ m
+    same l m e = cc
+
+    each : (b : Bool × List ℤ) → InRange n b → (mark : Bool) (m : List ℤ) → sparing (large_refs limit arcs) b.0 (mark, b.1) ≡ Some m → AreInRange n m
+    each b r true m e = subst (AreInRange n) (same b.1 m e) r
+    each b r false m e = same_range n b m (small_cause limit arcs b.0 b.1) r e
 
 abbrev as_they_are : Refs
 as_they_are closed refs = Some refs
@@ -67,8 +85,17 @@ objects_renumbered renumbering u os are h =
 pub put_back : (kept : Refs) (n : ℕ) (os now new : Objects) → n ≡ length os → now ≡ os → new ≡ objects_pruned kept now → take n (new ++ drop (length new) os) ≡ objects_pruned kept now
 put_back kept n os now new many same is = refilled (λ o. (o.0, object_pruned kept o.1)) n os new many (is ∙ ap (objects_pruned kept) same) ∙ ap (objects_pruned kept) (sym same)
 
-pub as_many : (kept : Refs) (n : ℕ) (os left : Objects) → n ≡ length os → left ≡ objects_pruned kept os → n ≡ length left
-as_many kept n os left many is = many ∙ sym (ap length is ∙ length-map os (λ o. (o.0, object_pruned kept o.1)))
+by_object_long : {B : Type 0} (make : Ways → List ℕ × TopoObject → B) (ways : Ways) (os : Objects) → length (by_object make ways os) ≡ length os
+by_object_long make ways [] = refl
+by_object_long make ways (o ∷ os) = ap suc (by_object_long make (ways_after ways (object_features o.1)) os)
+
+pub along_long : (kept : MarkedRefs) (ways : Ways) (os left : Objects) → left ≡ objects_along kept ways os → length left ≡ length os
+along_long kept ways os left is = ap length is ∙ by_object_long (λ ways o. (o.0, object_along kept ways o.1)) ways os
+
+-- the same where features have ways
+pub put_along : (kept : MarkedRefs) (ways : Ways) (n : ℕ) (os now new : Objects) → n ≡ length os → now ≡ os → new ≡ objects_along kept ways now → take n (new ++ drop (length new) os) ≡ objects_along kept ways now
+put_along kept ways n os now new many same is =
+    ap (λ m. take m (new ++ drop (length new) os)) (many ∙ ap length (sym same) ∙ sym (along_long kept ways now new is)) ∙ take-append_seam new (drop (length new) os) ∙ is
 
 -- ---- flags
 
@@ -90,19 +117,19 @@ pub parts_are : (y : Contents) (os : Objects) (arcs : List (List Point)) (transf
 parts_are y os arcs transform o a t = grind arith
 
 -- what is left of the parts makes what is left of the topology
-pub made_is : (kept : List (List ℕ)) (limit : ℕ) (y : Contents) (objects left made : Objects) (arcs stay put : List (List Point)) (transform given : Option Transform) → contents objects arcs transform ≡ y → transform ≡ y.transform
-    → contents left stay transform ≡ simplified_by kept limit (contents objects arcs transform) → made ≡ left → put ≡ stay → given ≡ y.transform → contents made put given ≡ simplified_by kept limit y
-made_is kept limit y objects left made arcs stay put transform given same t l m p g =
-    ap (λ os. contents os put given) m ∙ ap (λ xs. contents left xs given) p ∙ ap (contents left stay) (g ∙ sym t) ∙ l ∙ ap (simplified_by kept limit) same
+pub made_is : (protects : Protection) (kept : List (List ℕ)) (limit : ℕ) (y : Contents) (objects left made : Objects) (arcs stay put : List (List Point)) (transform given : Option Transform) → contents objects arcs transform ≡ y → transform ≡ y.transform
+    → contents left stay transform ≡ spared_by protects kept limit (contents objects arcs transform) → made ≡ left → put ≡ stay → given ≡ y.transform → contents made put given ≡ spared_by protects kept limit y
+made_is protects kept limit y objects left made arcs stay put transform given same t l m p g =
+    ap (λ os. contents os put given) m ∙ ap (λ xs. contents left xs given) p ∙ ap (contents left stay) (g ∙ sym t) ∙ l ∙ ap (spared_by protects kept limit) same
 
 -- ---- a draft
 
 -- what is left of a draft without the lines and rings that have too few positions is what these steps make of it
-pub finished : (limit : ℕ) (os large objects : Objects) (retained stay : List (List Point)) (transform : Option Transform) → large ≡ objects_pruned (large_refs limit (placed_arcs transform retained)) os
+pub finished : (limit : ℕ) (ways : Ways) (os large objects : Objects) (retained stay : List (List Point)) (transform : Option Transform) → large ≡ large_along limit (placed_arcs transform retained) ways os
     → objects ≡ objects_pruned (line_renumbered (is_used large)) large → stay ≡ keep_from (is_used large) 0 retained
-    → contents objects stay transform ≡ trimmed (contents (objects_pruned (large_refs limit (placed_arcs transform retained)) os) retained transform)
+    → contents objects stay transform ≡ trimmed (contents (large_along limit (placed_arcs transform retained) ways os) retained transform)
 unfolding trimmed
-finished limit os large objects retained stay transform l o s =
+finished limit ways os large objects retained stay transform l o s =
     ap (λ os. contents os stay transform) o ∙ ap (λ xs. contents (objects_pruned (line_renumbered (is_used large)) large) xs transform) s
     ∙ ap (λ (os : Objects). contents (objects_pruned (line_renumbered (is_used os)) os) (keep_from (is_used os) 0 retained) transform) l
 
@@ -116,62 +143,73 @@ same_cause : (limit : ℕ) (arcs : List (List Point)) (b : Bool × List ℤ) →
 same_cause limit arcs (closed, []) h = absurd cc
 same_cause limit arcs (closed, r ∷ rs) h = refl
 
-shape_same : (limit : ℕ) (arcs : List (List Point)) (s : Option TopoShape) → is_full_option s ≡ true → shape_drops (of_arcs limit arcs) s ≡ option_small limit arcs s
-shape_same limit arcs None h = refl
-shape_same limit arcs (Some s) h =
-    drop_causes_agree Point (List ℤ) (draft_cause (of_arcs limit arcs)) (small_cause limit arcs) s
-    (all_weaker (λ b. is_some_list b.1 ≡ true) (λ b. draft_cause (of_arcs limit arcs) b.0 b.1 ≡ small_cause limit arcs b.0 b.1) (same_cause limit arcs) (lines_and_rings s) (lines_and_rings_full s h))
+shape_same : (protects : Protection) (limit : ℕ) (arcs : List (List Point)) (s : Option TopoShape) → is_full_option s ≡ true → protected_drops (of_arcs limit arcs) protects s ≡ option_unprotected protects limit arcs s
+shape_same protects limit arcs None h = refl
+shape_same protects limit arcs (Some s) h =
+    let way : Option (List ℕ) = map_some (λ x. x.path) (protects s) in
+    drop_causes_agree Point (Bool × List ℤ) (cause_sparing (draft_cause (of_arcs limit arcs))) (cause_sparing (small_cause limit arcs)) (marked s way)
+    (all_weaker (λ b. is_some_list b.1.1 ≡ true) (λ b. cause_sparing (draft_cause (of_arcs limit arcs)) b.0 b.1 ≡ cause_sparing (small_cause limit arcs) b.0 b.1)
+    (λ b full. ap (λ c. if b.1.0 then None else c) (same_cause limit arcs (without_mark b) full)) (lines_and_rings (marked s way))
+    (all_of_map (λ b. is_some_list b.1 ≡ true) without_mark (lines_and_rings (marked s way)) (subst (AllByRecursion (λ b. is_some_list b.1 ≡ true)) (sym (lines_and_rings_back s way)) (lines_and_rings_full s h))))
 
-features_same : (limit : ℕ) (arcs : List (List Point)) (transform : Option Transform) (fs : List TopoFeature) → AllByRecursion (IsFeature transform) fs → map (λ f. shape_drops (of_arcs limit arcs) f.shape) fs ≡ map (λ f. option_small limit arcs f.shape) fs
-features_same limit arcs transform [] h = refl
-features_same limit arcs transform (f ∷ fs) h = rw (shape_same limit arcs f.shape h.0.0, features_same limit arcs transform fs h.1) refl
+features_same : (protects : Protection) (limit : ℕ) (arcs : List (List Point)) (transform : Option Transform) (fs : List TopoFeature) → AllByRecursion (IsFeature transform) fs
+    → map (λ f. protected_drops (of_arcs limit arcs) protects f.shape) fs ≡ map (λ f. option_unprotected protects limit arcs f.shape) fs
+features_same protects limit arcs transform [] h = refl
+features_same protects limit arcs transform (f ∷ fs) h = rw (shape_same protects limit arcs f.shape h.0.0, features_same protects limit arcs transform fs h.1) refl
 
-object_same : (limit : ℕ) (arcs : List (List Point)) (transform : Option Transform) (o : TopoObject) → IsObject transform o → map (λ f. shape_drops (of_arcs limit arcs) f.shape) (object_features o) ≡ map (λ f. option_small limit arcs f.shape) (object_features o)
-object_same limit arcs transform (One f) h = features_same limit arcs transform (f ∷ []) (h.0, tt)
-object_same limit arcs transform (Many fs) h = features_same limit arcs transform fs h
+object_same : (protects : Protection) (limit : ℕ) (arcs : List (List Point)) (transform : Option Transform) (o : TopoObject) → IsObject transform o
+    → map (λ f. protected_drops (of_arcs limit arcs) protects f.shape) (object_features o) ≡ map (λ f. option_unprotected protects limit arcs f.shape) (object_features o)
+object_same protects limit arcs transform (One f) h = features_same protects limit arcs transform (f ∷ []) (h.0, tt)
+object_same protects limit arcs transform (Many fs) h = features_same protects limit arcs transform fs h
 
-objects_same : (limit : ℕ) (arcs : List (List Point)) (transform : Option Transform) (os : Objects) → AllByRecursion (λ o. IsObject transform o.1) os
-    → map (λ o. map (λ f. shape_drops (of_arcs limit arcs) f.shape) (object_features o.1)) os ≡ map (λ o. map (λ f. option_small limit arcs f.shape) (object_features o.1)) os
-objects_same limit arcs transform [] h = refl
-objects_same limit arcs transform (o ∷ os) h = rw (object_same limit arcs transform o.1 h.0, objects_same limit arcs transform os h.1) refl
+objects_same : (protects : Protection) (limit : ℕ) (arcs : List (List Point)) (transform : Option Transform) (os : Objects) → AllByRecursion (λ o. IsObject transform o.1) os
+    → map (λ o. map (λ f. protected_drops (of_arcs limit arcs) protects f.shape) (object_features o.1)) os ≡ map (λ o. map (λ f. option_unprotected protects limit arcs f.shape) (object_features o.1)) os
+objects_same protects limit arcs transform [] h = refl
+objects_same protects limit arcs transform (o ∷ os) h = rw (object_same protects limit arcs transform o.1 h.0, objects_same protects limit arcs transform os h.1) refl
 
-module _ (kept : List (List ℕ)) (limit : ℕ) (y : Contents) (retained : List (List Point)) (is : retained ≡ retained_arcs kept y.arcs) where
+module _ (protects : Protection) (kept : List (List ℕ)) (limit : ℕ) (y : Contents) (retained : List (List Point)) (is : retained ≡ retained_arcs kept y.arcs) where
   abbrev pub large : Objects
-  large = objects_pruned (large_refs limit (placed_arcs y.transform retained)) y.objects
+  large = objects_spared protects (sparing (large_refs limit (placed_arcs y.transform retained))) y.objects
 
-  pub is_whole : contents large retained y.transform ≡ retained_whole kept limit y
-  is_whole = grind arith
+  pub is_whole : contents large retained y.transform ≡ spared_whole protects kept limit y
+  is_whole = ap (λ arcs. contents (objects_spared protects (sparing (large_refs limit (placed_arcs y.transform arcs))) y.objects) arcs y.transform) is
 
   pub retained_long : EachFromFirstToLast kept y.arcs → length retained ≡ length y.arcs
   retained_long through = ap length is ∙ retained_length kept y.arcs through
 
   -- each index names an arc
   pub ranged : IsTopology y → EachFromFirstToLast kept y.arcs → AllByRecursion (InRange (length retained)) (objects_lines_and_rings large)
-  ranged valid through = range_stays (length retained) limit (placed_arcs y.transform retained) y.objects (subst (λ n. AllByRecursion (InRange n) (objects_lines_and_rings y.objects)) (sym (retained_long through)) valid.ranged)
+  ranged valid through =
+      range_stays protects (length retained) limit (placed_arcs y.transform retained) y.objects (subst (λ n. AllByRecursion (InRange n) (objects_lines_and_rings y.objects)) (sym (retained_long through)) valid.ranged)
 
   -- the cells that are retained may stand in the topology
   pub places_are : IsTopology y → AllByRecursion (λ a. AllByRecursion (IsPlace y.transform) a) retained
   places_are valid = subst (AllByRecursion (λ a. AllByRecursion (IsPlace y.transform) a)) (sym is) (places_retained y.transform kept y.arcs (topology_places y valid))
 
   -- without the arcs that are not used it is what is left
-  pub is_simplified : trimmed (contents large retained y.transform) ≡ simplified_by kept limit y
-  unfolding simplified_by
-  is_simplified = ap trimmed is_whole
+  pub is_spared : trimmed (contents large retained y.transform) ≡ spared_by protects kept limit y
+  unfolding spared_by
+  is_spared = ap trimmed is_whole
 
-  taken_of : positions_of (keep_from (is_used large) 0 y.arcs) - positions_of (keep_from (is_used large) 0 retained) ≡ removed_count_by kept limit y
-  unfolding removed_count_by trimmed
-  taken_of = grind (arith, is_whole, is_simplified)
+  taken_of : positions_of (keep_from (is_used large) 0 y.arcs) - positions_of (keep_from (is_used large) 0 retained) ≡ spared_removed_count protects kept limit y
+  unfolding spared_removed_count spared_by trimmed
+  taken_of = ap (λ (z : Contents). positions_of (keep_from (is_used z.objects) 0 y.arcs) - positions_of (keep_from (is_used z.objects) 0 z.arcs)) is_whole
 
   -- the positions that are removed, by how many each arc had
-  pub taken_is : sum (keep_from (is_used large) 0 (map length y.arcs)) - positions_of (keep_from (is_used large) 0 retained) ≡ removed_count_by kept limit y
+  pub taken_is : sum (keep_from (is_used large) 0 (map length y.arcs)) - positions_of (keep_from (is_used large) 0 retained) ≡ spared_removed_count protects kept limit y
   taken_is = ap (λ ns. sum ns - positions_of (keep_from (is_used large) 0 retained)) (sym (kept_of_map {X = List Point} length (is_used large) 0 y.arcs)) ∙ taken_of
 
   -- the lines and rings that are dropped
-  pub drops_are : AllByRecursion (λ o. IsObject y.transform o.1) y.objects → objects_drops (of_arcs limit (placed_arcs y.transform retained)) 0 y.objects ≡ dropped_by kept limit y
-  unfolding dropped_by
-  drops_are valid =
-      ap (dropped_of_layers 0) (objects_same limit (placed_arcs y.transform retained) y.transform y.objects valid)
-      ∙ ap (λ arcs. dropped_of_layers 0 (map (λ o. map (λ f. option_small limit (placed_arcs y.transform arcs) f.shape) (object_features o.1)) y.objects)) is
+  pub drops_are : (ways : Ways) → AreWays protects ways y.objects → AllByRecursion (λ o. IsObject y.transform o.1) y.objects → objects_drops (of_arcs limit (placed_arcs y.transform retained)) 0 ways y.objects ≡ spared_dropped protects kept limit y
+  unfolding spared_dropped
+  drops_are ways are valid =
+      drops_along (of_arcs limit (placed_arcs y.transform retained)) protects ways y.objects are
+      ∙ ap (dropped_of_layers 0) (objects_same protects limit (placed_arcs y.transform retained) y.transform y.objects valid)
+      ∙ ap (λ arcs. dropped_of_layers 0 (map (λ o. map (λ f. option_unprotected protects limit (placed_arcs y.transform arcs) f.shape) (object_features o.1)) y.objects)) is
+
+  -- the objects whose features have these ways
+  pub large_is : (ways : Ways) → AreWays protects ways y.objects → large_along limit (placed_arcs y.transform retained) ways y.objects ≡ large
+  large_is ways are = objects_along_are protects (sparing (large_refs limit (placed_arcs y.transform retained))) ways y.objects are
 
 -- ---- where the cells of arcs lie
 

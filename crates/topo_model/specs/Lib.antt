@@ -1,3 +1,4 @@
+pub mod Along
 pub mod ArcUses
 pub mod DraftLaws
 pub mod DraftUses
@@ -11,3 +12,4 @@ pub mod Rebuilding
 pub mod Renumbering
 pub mod Retaining
 pub mod Uses
+pub mod Ways

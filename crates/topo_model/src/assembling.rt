@@ -46,7 +46,7 @@ fn objects_and_arcs(
     zero_law();
     ends_stay();
     nothing_is_new();
-    finish(alloc, objects, retained, counts, None, ring_limit)
+    finish(alloc, objects, retained, counts, None, ring_limit, &[])
 }
 
 /// The topology of a draft of layers over the arcs of their lines, of each of which only some positions are retained, from its first to its

@@ -1,33 +1,47 @@
-// The lines and rings of objects that are dropped, and where they stand.
+// The lines and rings of objects that are dropped, and where they stand. The outer ring at the end of a way isn't.
 ghost use Rattle.std.specs.Prelude.{◌≡◌, ◌++◌, IfOk, OnOk, false, map, true};
-ghost use Rattle.geometry.specs.DropCauses.{area_drop_causes, dropped_of_layers, here, drop_causes};
+ghost use Rattle.geometry.specs.DropCauses.{area_drop_causes, here, drop_causes};
+ghost use Rattle.geometry.specs.Lists.{map_some, tail};
 ghost use Rattle.geometry.specs.Paths.{of_parts};
+ghost use Rattle.topo_model.specs.Along.{ways_after};
 ghost use Rattle.topo_model.specs.Places.{dropped_at};
-ghost use Rattle.topo_model.specs.Drops.{draft_cause, shape_drops, object_drops};
+ghost use Rattle.topo_model.specs.Drops.{draft_cause, shape_drops, object_drops, objects_drops};
 ghost use Rattle.linework.specs.Linework.{feature_address};
+ghost use Rattle.simplified_topology.specs.OuterRings.{along, ends_here, marked, rings_marked};
+ghost use Rattle.simplified_topology.specs.Protected.{cause_sparing};
 ghost use Rattle.topojson_types.specs.Topologies.{object_features};
 
 use crate::places::{Place, add_here, add_part, hole_cause};
 use crate::rebuilding::Rebuilding;
+use crate::way_steps::{Ways, ends_here, into_part};
 use geojson_types::{Cause, Dropped, Geometry};
 use json_value::{Items, OwnText};
 use owned_values::Memory;
 use std::alloc::Global;
 use topojson_types::{ArcRef, TopoFeature, TopoObject, TopoShape};
 
-/// The lines and rings of objects that have no arc index, or are small where they are rebuilt of these arcs, and the rings of polygons whose outer ring is dropped, in reading order. An object stands in the place of a layer.
+/// The lines and rings of objects that have no arc index, or are small where they are rebuilt of these arcs, and the rings of polygons whose outer ring is dropped, in reading order. An object stands in the place of a layer. The ways are those of the features, in reading order, and those that come after the last way have none.
 pub fn dropped_lines(
     alloc: Global,
     objects: &[(OwnText, TopoObject)],
     arcs: &Rebuilding<'_>,
+    ways: &[Option<Vec<usize>>],
 ) -> Result<Vec<Dropped>, Memory>
-    ensures { IfOk result (λ dropped. dropped.items
-        ≡ dropped_of_layers 0 (map (λ o. map (λ f. shape_drops arcs.now f.shape) (object_features o.1)) objects.now)) }
+    ensures { IfOk result (λ dropped. dropped.items ≡ objects_drops arcs.now 0 (map (map_some (λ v. v.items)) ways.now) objects.now) }
 {
     let mut dropped = Vec::new(alloc);
     let mut place = Place::first(alloc);
+    let mut rest = Ways::of(ways);
     for (number, object) in objects.iter().enumerate() {
-        add_object(alloc, arcs, &mut place, number, &object.1, &mut dropped)?;
+        add_object(
+            alloc,
+            arcs,
+            &mut place,
+            number,
+            &object.1,
+            &mut rest,
+            &mut dropped,
+        )?;
     }
     Ok(dropped)
 }
@@ -39,17 +53,27 @@ fn add_object(
     place: &mut Place,
     number: usize,
     object: &TopoObject,
+    ways: &mut Ways<'_>,
     dropped: &mut Vec<Dropped>,
 ) -> Result<(), Memory>
-    ensures { OnOk result (dropped.new.items ≡ dropped.old.items ++ object_drops arcs.now number 0 (object_features object.now)) }
+    ensures ways { OnOk result (ways.new ≡ ways_after ways.old (object_features object.now)) }
+    ensures dropped { OnOk result (dropped.new.items ≡ dropped.old.items ++ object_drops arcs.now number 0 ways.old (object_features object.now)) }
 {
     match object {
         TopoObject::One(feature) => {
             place.go_to(number, 0);
-            add_feature(alloc, arcs, place, feature, dropped)
+            add_feature(alloc, arcs, place, feature, ways.next(), dropped)
         }
         TopoObject::Many(features) => {
-            add_features(alloc, arcs, place, number, features.as_slice(), dropped)
+            add_features(
+                alloc,
+                arcs,
+                place,
+                number,
+                features.as_slice(),
+                ways,
+                dropped,
+            )
         }
     }
 }
@@ -61,13 +85,15 @@ fn add_features(
     place: &mut Place,
     object: usize,
     features: &[TopoFeature],
+    ways: &mut Ways<'_>,
     dropped: &mut Vec<Dropped>,
 ) -> Result<(), Memory>
-    ensures { OnOk result (dropped.new.items ≡ dropped.old.items ++ object_drops arcs.now object 0 features.now) }
+    ensures ways { OnOk result (ways.new ≡ ways_after ways.old features.now) }
+    ensures dropped { OnOk result (dropped.new.items ≡ dropped.old.items ++ object_drops arcs.now object 0 ways.old features.now) }
 {
     for (number, feature) in features.iter().enumerate() {
         place.go_to(object, number);
-        add_feature(alloc, arcs, place, feature, dropped)?;
+        add_feature(alloc, arcs, place, feature, ways.next(), dropped)?;
     }
     Ok(())
 }
@@ -78,13 +104,14 @@ fn add_feature(
     arcs: &Rebuilding<'_>,
     place: &mut Place,
     feature: &TopoFeature,
+    way: Option<&[usize]>,
     dropped: &mut Vec<Dropped>,
 ) -> Result<(), Memory>
-    ensures { OnOk result (dropped.new.items ≡ dropped.old.items ++ dropped_at place.old (shape_drops arcs.now feature.now.shape)) }
+    ensures { OnOk result (dropped.new.items ≡ dropped.old.items ++ dropped_at place.old (shape_drops arcs.now (map_some (λ w. w.now) way.entry) feature.now.shape)) }
 {
     match &feature.shape {
         None => Ok(()),
-        Some(shape) => add_shape(alloc, arcs, place, shape, dropped),
+        Some(shape) => add_shape(alloc, arcs, place, shape, way, dropped),
     }
 }
 
@@ -95,10 +122,12 @@ fn add_shape(
     arcs: &Rebuilding<'_>,
     place: &mut Place,
     shape: &TopoShape,
+    way: Option<&[usize]>,
     dropped: &mut Vec<Dropped>,
 ) -> Result<(), Memory>
     ensures place { OnOk result (place.new ≡ place.old) }
-    ensures dropped { OnOk result (dropped.new.items ≡ dropped.old.items ++ dropped_at place.old (drop_causes (draft_cause arcs.now) shape.now)) }
+    ensures dropped { OnOk result
+        (dropped.new.items ≡ dropped.old.items ++ dropped_at place.old (drop_causes (cause_sparing (draft_cause arcs.now)) (marked shape.now (map_some (λ w. w.now) way.entry)))) }
 {
     match shape {
         Geometry::Point(_) => Ok(()),
@@ -112,12 +141,12 @@ fn add_shape(
             )
         }
         Geometry::Lines(lines) => add_lines(alloc, arcs, place, lines.as_slice(), dropped),
-        Geometry::Area(rings) => add_rings(alloc, arcs, place, rings.as_slice(), dropped),
-        Geometry::Areas(areas) => add_areas(alloc, arcs, place, areas.as_slice(), dropped),
+        Geometry::Area(rings) => add_rings(alloc, arcs, place, rings.as_slice(), way, dropped),
+        Geometry::Areas(areas) => add_areas(alloc, arcs, place, areas.as_slice(), way, dropped),
         Geometry::Group(shapes) => {
             'shapes: for (number, shape) in shapes.as_slice().iter().enumerate() {
                 place.enter(number)?;
-                add_shape(alloc, arcs, place, shape, dropped)?;
+                add_shape(alloc, arcs, place, shape, into_part(way, number), dropped)?;
                 place.leave();
             }
             Ok(())
@@ -131,40 +160,62 @@ fn add_areas(
     arcs: &Rebuilding<'_>,
     place: &mut Place,
     areas: &[Items<Items<ArcRef>>],
+    way: Option<&[usize]>,
     dropped: &mut Vec<Dropped>,
 ) -> Result<(), Memory>
     ensures place { OnOk result (place.new ≡ place.old) }
     ensures dropped { OnOk result
-        (dropped.new.items ≡ dropped.old.items ++ dropped_at place.old (of_parts 0 (map (area_drop_causes (draft_cause arcs.now true)) areas.now))) }
+        (dropped.new.items ≡ dropped.old.items ++ dropped_at place.old
+        (of_parts 0 (map (area_drop_causes (cause_sparing (draft_cause arcs.now) true)) (along rings_marked 0 areas.now (map_some (λ w. w.now) way.entry))))) }
 {
     for (number, rings) in areas.iter().enumerate() {
         place.enter(number)?;
-        add_rings(alloc, arcs, place, rings.as_slice(), dropped)?;
+        add_rings(
+            alloc,
+            arcs,
+            place,
+            rings.as_slice(),
+            into_part(way, number),
+            dropped,
+        )?;
         place.leave();
     }
     Ok(())
 }
 
-/// Adds those of the rings of the polygon at this place. With the outer ring each hole is dropped.
+/// Adds those of the rings of the polygon at this place. With the outer ring each hole is dropped. It stays where the way ends here.
 fn add_rings(
     alloc: Global,
     arcs: &Rebuilding<'_>,
     place: &Place,
     rings: &[Items<ArcRef>],
+    way: Option<&[usize]>,
     dropped: &mut Vec<Dropped>,
 ) -> Result<(), Memory>
-    ensures { OnOk result (dropped.new.items ≡ dropped.old.items ++ dropped_at place.now (area_drop_causes (draft_cause arcs.now true) rings.now)) }
+    ensures { OnOk result (dropped.new.items ≡ dropped.old.items ++ dropped_at place.now
+        (area_drop_causes (cause_sparing (draft_cause arcs.now) true) (rings_marked rings.now (map_some (λ w. w.now) way.entry)))) }
 {
     let Some((outer, holes)) = rings.split_first() else {
         return Ok(());
     };
-    let outer_cause = cause_of(arcs, true, outer.as_slice());
+    let outer_cause = cause_of_outer(arcs, outer.as_slice(), way);
     add_part(alloc, place, 0, outer_cause, dropped)?;
     for (number, hole) in holes.iter().enumerate() {
         let cause = hole_cause(outer_cause, cause_of(arcs, true, hole.as_slice()));
         add_part(alloc, place, number + 1, cause, dropped)?;
     }
     Ok(())
+}
+
+/// Why the outer ring of a polygon is dropped for its own sake, if it is. It isn't where the way ends here.
+fn cause_of_outer(arcs: &Rebuilding<'_>, refs: &[ArcRef], way: Option<&[usize]>) -> Option<Cause>
+    ensures { result ≡ cause_sparing (draft_cause arcs.now) true (ends_here (map_some (λ w. w.now) way.entry), refs.now) }
+{
+    if ends_here(way) {
+        None
+    } else {
+        cause_of(arcs, true, refs)
+    }
 }
 
 /// Adds those of the lines at this place.

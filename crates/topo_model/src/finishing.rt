@@ -1,5 +1,5 @@
 // What is left of a draft of a topology.
-ghost use Rattle.std.specs.Prelude.{◌≡◌, ◌-◌, ◌≤◌, ℕ, Bool, IfOk, OnOk, length, sum};
+ghost use Rattle.std.specs.Prelude.{◌≡◌, ◌-◌, ◌≤◌, ℕ, Bool, IfOk, OnOk, length, map, sum};
 ghost use Rattle.std.specs.List.{AllByRecursion};
 ghost use Rattle.std.specs.Option.{option_copied};
 ghost use Rattle.topo_model.specs.Uses.{answers};
@@ -7,11 +7,13 @@ ghost use Rattle.build_meaning.specs.Built.{positions_of};
 ghost use Rattle.build_meaning.specs.Trimming.{is_used, keep_from, line_renumbered, trimmed};
 ghost use Rattle.byte_ends.specs.Ends.{saturated};
 ghost use Rattle.geometry.specs.Joins.{AreInRange};
+ghost use Rattle.geometry.specs.Lists.{map_some};
 ghost use Rattle.geometry.specs.Units.{threshold_limit};
-ghost use Rattle.simplified_topology.specs.Simplified.{large_refs, objects_pruned};
+ghost use Rattle.simplified_topology.specs.Simplified.{objects_pruned};
 ghost use Rattle.topojson_types.specs.Decoding.{placed_arcs as all_placed};
 ghost use Rattle.topojson_types.specs.Topologies.{objects_lines_and_rings};
 ghost use Rattle.topojson_types.specs.Validity.{IsPlace};
+ghost use Rattle.topo_model.specs.Along.{large_along};
 ghost use Rattle.topo_model.specs.Drops.{objects_drops};
 ghost use Rattle.topo_model.specs.Parts.{contents};
 
@@ -29,18 +31,19 @@ use owned_values::Memory;
 use std::alloc::Global;
 use topojson_types::{Cell, TopoObject, Transform};
 
-/// Leaves out the lines and rings of the objects that are small where they are rebuilt of these arcs. They are, in reading order, what
-/// comes back.
+/// Leaves out the lines and rings of the objects that are small where they are rebuilt of these arcs, but no ring to which the way of its
+/// feature leads. They are, in reading order, what comes back.
 fn leave_out_small(
     alloc: Global,
     objects: &mut [(OwnText, TopoObject)],
     arcs: &Rebuilding<'_>,
+    ways: &[Option<Vec<usize>>],
 ) -> Result<Vec<Dropped>, Memory>
-    ensures objects { OnOk result (objects.new ≡ objects_pruned (large_refs arcs.now.limit arcs.now.arcs) objects.old) }
-    ensures dropped { IfOk result (λ dropped. dropped.items ≡ objects_drops arcs.now 0 objects.old) }
+    ensures objects { OnOk result (objects.new ≡ large_along arcs.now.limit arcs.now.arcs (map (map_some (λ v. v.items)) ways.now) objects.old) }
+    ensures dropped { IfOk result (λ dropped. dropped.items ≡ objects_drops arcs.now 0 (map (map_some (λ v. v.items)) ways.now) objects.old) }
 {
-    let dropped = dropped_lines(alloc, objects, arcs)?;
-    prune_objects(alloc, arcs, objects)?;
+    let dropped = dropped_lines(alloc, objects, arcs, ways)?;
+    prune_objects(alloc, arcs, objects, ways)?;
     Ok(dropped)
 }
 
@@ -52,19 +55,20 @@ fn leave_out_dropped(
     arcs: &[Items<Cell>],
     transform: Option<&Transform>,
     ring_limit: u128,
+    ways: &[Option<Vec<usize>>],
 ) -> Result<Vec<Dropped>, Memory>
     requires places { AllByRecursion (λ arc. AllByRecursion (IsPlace (option_copied transform)) arc) arcs.now }
     requires limit { ring_limit ≤ threshold_limit }
     ensures objects { OnOk result (objects.new
-        ≡ objects_pruned (large_refs ring_limit (all_placed (option_copied transform.entry) arcs.now)) objects.old) }
+        ≡ large_along ring_limit (all_placed (option_copied transform.entry) arcs.now) (map (map_some (λ v. v.items)) ways.now) objects.old) }
     ensures dropped { IfOk result (λ dropped. dropped.items
-        ≡ objects_drops (record { arcs = all_placed (option_copied transform.entry) arcs.now; limit = ring_limit }) 0 objects.old) }
+        ≡ objects_drops (record { arcs = all_placed (option_copied transform.entry) arcs.now; limit = ring_limit }) 0 (map (map_some (λ v. v.items)) ways.now) objects.old) }
 {
     match transform {
-        None => leave_out_small(alloc, objects, &Rebuilding::of(arcs, ring_limit)),
+        None => leave_out_small(alloc, objects, &Rebuilding::of(arcs, ring_limit), ways),
         Some(_) => {
             let placed = placed_arcs(alloc, arcs, transform)?;
-            leave_out_small(alloc, objects, &Rebuilding::of(&placed, ring_limit))
+            leave_out_small(alloc, objects, &Rebuilding::of(&placed, ring_limit), ways)
         }
     }
 }
@@ -79,7 +83,7 @@ fn renumber(
     ensures { OnOk result ((u : ℕ → Bool) → used.now ≡ answers u 0 (length used.now) → objects.new ≡ objects_pruned (line_renumbered u) objects.old) }
 {
     let renumbering = renumbering(alloc, used)?;
-    prune_objects(alloc, &Renumbered::by(&renumbering), objects)
+    prune_objects(alloc, &Renumbered::by(&renumbering), objects, &[])
 }
 
 /// The retained arcs without those that no line or ring of the objects uses, and how many of the positions of the others were not retained,
@@ -119,7 +123,8 @@ pub struct Finished {
 }
 
 /// What is left of objects over arcs of which only the retained cells stay, and which had so many: without the lines and rings that have no
-/// arc index, or are small, and without the arcs that no other line uses.
+/// arc index, or are small, but with the rings to which the ways of features lead, and without the arcs that no other line uses. The ways are
+/// those of the features, in reading order, and those that come after the last way have none.
 pub fn finish(
     alloc: Global,
     objects: Vec<(OwnText, TopoObject)>,
@@ -127,18 +132,19 @@ pub fn finish(
     counts: &[usize],
     transform: Option<&Transform>,
     ring_limit: u128,
+    ways: &[Option<Vec<usize>>],
 ) -> Result<Finished, Memory>
     requires places { AllByRecursion (λ arc. AllByRecursion (IsPlace (option_copied transform)) arc) retained.items }
     requires limit { ring_limit ≤ threshold_limit }
     requires many { length retained.items ≡ length counts.now }
     requires ranged { AllByRecursion (λ b. AreInRange (length retained.items) b.1)
-        (objects_lines_and_rings (objects_pruned (large_refs ring_limit (all_placed (option_copied transform) retained.items)) objects.items)) }
+        (objects_lines_and_rings (large_along ring_limit (all_placed (option_copied transform) retained.items) (map (map_some (λ v. v.items)) ways.now) objects.items)) }
     ensures left { IfOk result (λ r. contents r.objects.items r.arcs.items (option_copied transform.entry)
-        ≡ trimmed (contents (objects_pruned (large_refs ring_limit (all_placed (option_copied transform.entry) retained.items)) objects.items) retained.items (option_copied transform.entry))) }
-    ensures dropped { IfOk result (λ r. r.dropped.items ≡ objects_drops (record { arcs = all_placed (option_copied transform.entry) retained.items; limit = ring_limit }) 0 objects.items) }
+        ≡ trimmed (contents (large_along ring_limit (all_placed (option_copied transform.entry) retained.items) (map (map_some (λ v. v.items)) ways.now) objects.items) retained.items (option_copied transform.entry))) }
+    ensures dropped { IfOk result (λ r. r.dropped.items ≡ objects_drops (record { arcs = all_placed (option_copied transform.entry) retained.items; limit = ring_limit }) 0 (map (map_some (λ v. v.items)) ways.now) objects.items) }
     ensures removed_count { IfOk result (λ r. r.removed_count
-        ≡ saturated (sum (keep_from (is_used (objects_pruned (large_refs ring_limit (all_placed (option_copied transform.entry) retained.items)) objects.items)) 0 counts.now)
-        - positions_of (keep_from (is_used (objects_pruned (large_refs ring_limit (all_placed (option_copied transform.entry) retained.items)) objects.items)) 0 retained.items))) }
+        ≡ saturated (sum (keep_from (is_used (large_along ring_limit (all_placed (option_copied transform.entry) retained.items) (map (map_some (λ v. v.items)) ways.now) objects.items)) 0 counts.now)
+        - positions_of (keep_from (is_used (large_along ring_limit (all_placed (option_copied transform.entry) retained.items) (map (map_some (λ v. v.items)) ways.now) objects.items)) 0 retained.items))) }
 {
     let mut objects = objects;
     let dropped = leave_out_dropped(
@@ -147,6 +153,7 @@ pub fn finish(
         &retained,
         transform,
         ring_limit,
+        ways,
     )?;
     let (arcs, removed_count) = without_unused(alloc, objects.as_mut_slice(), retained, counts)?;
     Ok(Finished {

@@ -3,7 +3,8 @@
 //! (`specs/Drafts.antt`); a topology is a draft as it is. There is one way to finish a draft: lines and rings that are left with too few
 //! positions or enclose too little are dropped, arcs that no kept line uses are left out, and the others have new indexes. What is left of
 //! an arc is made of it alone (`retained_positions`, `retained_cells`), so that it can be freed before the next is reduced; `assemble` and
-//! `Reduces::reduce` are for who has the numbers of all arcs at once. It stands on `simplified_topology`, which says what topology that is
+//! `Reduces::reduce` are for who has the numbers of all arcs at once. Where in each feature a ring is protected, it is named by the way to its
+//! polygon, and stays (`reassemble_sparing`); where none is, no ways are given. It stands on `simplified_topology`, which says what topology that is
 //! and when it is what is built of the layers, and on `arc_table`. The layers above use the contracts of `assemble_retained` and of
 //! `reassemble`.
 #![tactic(auto)]
@@ -29,6 +30,7 @@ mod rebuilding;
 mod reducing;
 mod retaining;
 mod trimming;
+mod way_steps;
 
 pub use assembling::{assemble, assemble_draft, assemble_retained};
 pub use draft_laws::draft_uses_at_zero;
@@ -37,7 +39,7 @@ pub use drafting::drafted_objects;
 pub use given_numbers::positions_of_all;
 pub use position_cells::cells;
 pub use position_counting::position_counts;
-pub use reassembling::reassemble;
+pub use reassembling::{reassemble, reassemble_sparing};
 pub use reducing::Reduces;
 pub use retaining::{retained_cells, retained_positions};
 pub use topojson_types::{

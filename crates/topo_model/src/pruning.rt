@@ -1,12 +1,16 @@
 // Geometries without some of their lines and rings, and with the arc indexes of the others replaced. What stays is changed where it
-// stands: only a collection and a MultiPolygon have a list made again.
+// stands: only a collection and a MultiPolygon have a list made again. The outer ring at the end of a way stays as it is.
 ghost use Rattle.std.specs.Prelude.{◌≡◌, ◌≤◌, ℤ, Bool, false, true, List, Option, None, Some, IfOk, OnOk, length, map, take};
 ghost use Rattle.std.specs.Bool.{OnFalse, OnTrue};
 ghost use Rattle.geometry.specs.declared.shape.Geometry.TheVariants as kind;
 ghost use Rattle.geometry.specs.Lists.{map_some, some_of, then_some, unless_empty};
 ghost use Rattle.geometry.specs.Pruning.{area_by, prune};
-ghost use Rattle.simplified_topology.specs.Simplified.{feature_pruned, object_pruned, objects_pruned};
+ghost use Rattle.simplified_topology.specs.OuterRings.{along, ends_here, marked, rings_marked};
+ghost use Rattle.simplified_topology.specs.Protected.{sparing};
+ghost use Rattle.topojson_types.specs.Topologies.{object_features};
+ghost use Rattle.topo_model.specs.Along.{by_ways, feature_along, object_along, objects_along, ways_after};
 
+use crate::way_steps::{Ways, ends_here, into_part};
 use geojson_types::Geometry;
 use json_value::{Items, OwnText};
 use owned_values::Memory;
@@ -65,15 +69,30 @@ fn pruned_lines<K: Keeps>(keeps: &K, lines: Vec<Items<ArcRef>>) -> Option<TopoSh
     Some(Geometry::Lines(Items::of(lines)))
 }
 
-/// The rings of a polygon that stay, which is left out with its outer ring.
-fn pruned_area<K: Keeps>(keeps: &K, rings: Vec<Items<ArcRef>>) -> Option<Items<Items<ArcRef>>>
-    ensures { result ≡ area_by (K.keeps keeps.now true) rings.items }
+/// Whether the outer ring of a polygon stays. It does, and as it is, where the way ends here.
+fn keep_outer<K: Keeps>(keeps: &K, refs: &mut Items<ArcRef>, way: Option<&[usize]>) -> bool
+    ensures stays { OnTrue result (sparing (K.keeps keeps.now) true (ends_here (map_some (λ w. w.now) way.entry), refs.old) ≡ Some refs.new) }
+    ensures goes { OnFalse result (sparing (K.keeps keeps.now) true (ends_here (map_some (λ w. w.now) way.entry), refs.old) ≡ None) }
+{
+    if ends_here(way) {
+        return true;
+    }
+    keeps.keep(true, refs)
+}
+
+/// The rings of a polygon that stay, which is left out with its outer ring. That stays where the way ends here.
+fn pruned_area<K: Keeps>(
+    keeps: &K,
+    rings: Vec<Items<ArcRef>>,
+    way: Option<&[usize]>,
+) -> Option<Items<Items<ArcRef>>>
+    ensures { result ≡ area_by (sparing (K.keeps keeps.now) true) (rings_marked rings.items (map_some (λ w. w.now) way.entry)) }
 {
     if rings.is_empty() {
         return None;
     }
     let mut rings = rings;
-    if !keeps.keep(true, &mut rings[0]) {
+    if !keep_outer(keeps, &mut rings[0], way) {
         return None;
     }
     let holes = keep_in_prefix(keeps, true, &mut rings[1..]);
@@ -87,12 +106,17 @@ fn pruned_areas<K: Keeps>(
     alloc: Global,
     keeps: &K,
     areas: Vec<Items<Items<ArcRef>>>,
+    way: Option<&[usize]>,
 ) -> Result<Option<TopoShape>, Memory>
-    ensures { IfOk result (λ left. left ≡ unless_empty kind.Areas (some_of (area_by (K.keeps keeps.now true)) areas.items)) }
+    ensures { IfOk result (λ left. left
+        ≡ unless_empty kind.Areas (some_of (area_by (sparing (K.keeps keeps.now) true)) (along rings_marked 0 areas.items (map_some (λ w. w.now) way.entry)))) }
 {
     let mut kept = Vec::with_capacity(alloc, areas.len())?;
+    let mut number: usize = 0;
     'areas: for rings in areas {
-        let Some(area) = pruned_area(keeps, rings.into_inner()) else {
+        let part = into_part(way, number);
+        number += 1;
+        let Some(area) = pruned_area(keeps, rings.into_inner(), part) else {
             continue;
         };
         kept.push(area)?;
@@ -104,10 +128,14 @@ fn pruned_areas<K: Keeps>(
 }
 
 /// The polygon without the rings that don't stay, if its outer ring does.
-fn pruned_polygon<K: Keeps>(keeps: &K, rings: Vec<Items<ArcRef>>) -> Option<TopoShape>
-    ensures { result ≡ map_some kind.Area (area_by (K.keeps keeps.now true) rings.items) }
+fn pruned_polygon<K: Keeps>(
+    keeps: &K,
+    rings: Vec<Items<ArcRef>>,
+    way: Option<&[usize]>,
+) -> Option<TopoShape>
+    ensures { result ≡ map_some kind.Area (area_by (sparing (K.keeps keeps.now) true) (rings_marked rings.items (map_some (λ w. w.now) way.entry))) }
 {
-    match pruned_area(keeps, rings) {
+    match pruned_area(keeps, rings, way) {
         None => None,
         Some(kept) => Some(Geometry::Area(kept)),
     }
@@ -119,21 +147,25 @@ fn pruned_shape<K: Keeps>(
     alloc: Global,
     keeps: &K,
     shape: TopoShape,
+    way: Option<&[usize]>,
 ) -> Result<Option<TopoShape>, Memory>
-    ensures { IfOk result (λ left. left ≡ prune (λ p. p) (K.keeps keeps.now) shape) }
+    ensures { IfOk result (λ left. left ≡ prune (λ p. p) (sparing (K.keeps keeps.now)) (marked shape (map_some (λ w. w.now) way.entry))) }
 {
     match shape {
         Geometry::Point(cell) => Ok(Some(Geometry::Point(cell))),
         Geometry::MultiPoint(cells) => Ok(Some(Geometry::MultiPoint(cells))),
         Geometry::Line(refs) => Ok(pruned_line(keeps, refs)),
         Geometry::Lines(lines) => Ok(pruned_lines(keeps, lines.into_inner())),
-        Geometry::Area(rings) => Ok(pruned_polygon(keeps, rings.into_inner())),
-        Geometry::Areas(areas) => pruned_areas(alloc, keeps, areas.into_inner()),
+        Geometry::Area(rings) => Ok(pruned_polygon(keeps, rings.into_inner(), way)),
+        Geometry::Areas(areas) => pruned_areas(alloc, keeps, areas.into_inner(), way),
         Geometry::Group(shapes) => {
             let shapes = shapes.into_inner();
             let mut kept = Vec::with_capacity(alloc, shapes.len())?;
+            let mut number: usize = 0;
             'shapes: for shape in shapes {
-                let Some(shape) = pruned_shape(alloc, keeps, shape)? else {
+                let part = into_part(way, number);
+                number += 1;
+                let Some(shape) = pruned_shape(alloc, keeps, shape, part)? else {
                     continue;
                 };
                 kept.push(shape)?;
@@ -148,12 +180,13 @@ fn pruned_option<K: Keeps>(
     alloc: Global,
     keeps: &K,
     shape: Option<TopoShape>,
+    way: Option<&[usize]>,
 ) -> Result<Option<TopoShape>, Memory>
-    ensures { IfOk result (λ left. left ≡ then_some (prune (λ p. p) (K.keeps keeps.now)) shape) }
+    ensures { IfOk result (λ left. left ≡ then_some (λ s. prune (λ p. p) (sparing (K.keeps keeps.now)) (marked s (map_some (λ w. w.now) way.entry))) shape) }
 {
     match shape {
         None => Ok(None),
-        Some(shape) => pruned_shape(alloc, keeps, shape),
+        Some(shape) => pruned_shape(alloc, keeps, shape, way),
     }
 }
 
@@ -162,11 +195,12 @@ fn prune_feature<K: Keeps>(
     alloc: Global,
     keeps: &K,
     feature: &mut TopoFeature,
+    way: Option<&[usize]>,
 ) -> Result<(), Memory>
-    ensures { OnOk result (feature.new ≡ feature_pruned (K.keeps keeps.now) feature.old) }
+    ensures { OnOk result (feature.new ≡ feature_along (sparing (K.keeps keeps.now)) (map_some (λ w. w.now) way.entry) feature.old) }
 {
     let shape = feature.shape.take();
-    feature.shape = pruned_option(alloc, keeps, shape)?;
+    feature.shape = pruned_option(alloc, keeps, shape, way)?;
     Ok(())
 }
 
@@ -175,35 +209,48 @@ fn prune_features<K: Keeps>(
     alloc: Global,
     keeps: &K,
     features: &mut [TopoFeature],
+    ways: &mut Ways<'_>,
 ) -> Result<(), Memory>
-    ensures { OnOk result (features.new ≡ map (feature_pruned (K.keeps keeps.now)) features.old) }
+    ensures features { OnOk result (features.new ≡ by_ways (feature_along (sparing (K.keeps keeps.now))) ways.old features.old) }
+    ensures ways { OnOk result (ways.new ≡ ways_after ways.old features.old) }
 {
     'features: for feature in features.iter_mut() {
-        prune_feature(alloc, keeps, feature)?;
+        prune_feature(alloc, keeps, feature, ways.next())?;
     }
     Ok(())
 }
 
 /// Prunes the shapes of the features of an object.
-fn prune_object<K: Keeps>(alloc: Global, keeps: &K, object: &mut TopoObject) -> Result<(), Memory>
-    ensures { OnOk result (object.new ≡ object_pruned (K.keeps keeps.now) object.old) }
+fn prune_object<K: Keeps>(
+    alloc: Global,
+    keeps: &K,
+    object: &mut TopoObject,
+    ways: &mut Ways<'_>,
+) -> Result<(), Memory>
+    ensures object { OnOk result (object.new ≡ object_along (sparing (K.keeps keeps.now)) ways.old object.old) }
+    ensures ways { OnOk result (ways.new ≡ ways_after ways.old (object_features object.old)) }
 {
     match object {
-        TopoObject::One(feature) => prune_feature(alloc, keeps, feature),
-        TopoObject::Many(features) => prune_features(alloc, keeps, features.as_mut_slice()),
+        TopoObject::One(feature) => prune_feature(alloc, keeps, feature, ways.next()),
+        TopoObject::Many(features) => {
+            prune_features(alloc, keeps, features.as_mut_slice(), ways)
+        }
     }
 }
 
-/// Prunes the shapes of the features of all objects.
+/// Prunes the shapes of the features of all objects. The ways are those of the features, in reading order, and those that come after the
+/// last way have none.
 pub fn prune_objects<K: Keeps>(
     alloc: Global,
     keeps: &K,
     objects: &mut [(OwnText, TopoObject)],
+    ways: &[Option<Vec<usize>>],
 ) -> Result<(), Memory>
-    ensures { OnOk result (objects.new ≡ objects_pruned (K.keeps keeps.now) objects.old) }
+    ensures { OnOk result (objects.new ≡ objects_along (sparing (K.keeps keeps.now)) (map (map_some (λ v. v.items)) ways.now) objects.old) }
 {
+    let mut rest = Ways::of(ways);
     'objects: for object in objects.iter_mut() {
-        prune_object(alloc, keeps, &mut object.1)?;
+        prune_object(alloc, keeps, &mut object.1, &mut rest)?;
     }
     Ok(())
 }

@@ -1,4 +1,4 @@
-use Rattle.std.proofs.Common.{ℕ, ◌-◌, List, length, sym, ap, ◌∙◌, subst}
+use Rattle.std.proofs.Common.{ℕ, ◌-◌, List, [], length, sym, ap, ◌∙◌, subst}
 use Rattle.std.specs.Prelude.{sum}
 use Rattle.std.specs.List.{AllByRecursion}
 use Rattle.std.proofs.lemmas.List.{length-map}
@@ -9,11 +9,13 @@ use Rattle.build_meaning.proofs.ValidUntrimmed.{untrimmed_is_valid}
 use Rattle.byte_ends.specs.Ends.{saturated}
 use Rattle.geometry.specs.Joins.{AreInRange}
 use Rattle.simplified_topology.specs.Assembled.{arcs_of_layers, own_refs}
+use Rattle.simplified_topology.specs.Protected.{no_protection}
 use Rattle.simplified_topology.specs.Simplified.{large_refs, objects_pruned}
 use Rattle.simplified_topology.proofs.Assembled.{contents}
 use Rattle.topojson_types.specs.Topologies.{objects_lines_and_rings}
 use Rattle.topo_model.specs.Drops.{objects_drops}
 use Rattle.topo_model.proofs.Result as result
+use Rattle.topo_model.proofs.Along.{objects_plainly}
 use Rattle.topo_model.specs.Drafts.{objects_drafted}
 use Rattle.topo_model.proofs.Assembled.{drops_are, is_assembled, removed_count_is, lines_of, many, retained_is, ranged}
 use Rattle.topo_model.proofs.assembling.objects_and_arcs.Goals as goal
@@ -24,7 +26,7 @@ finish-requires-clause-places c =
     let r = d.retained_are in
     let is = retained_is r.kept c.args.ring_limit d.layers c.zero_law.ensures d.of_layers.sound c.args.retained.items r.picks in
     let valid = untrimmed_is_valid c.ends_stay.ensures c.nothing_is_new.ensures 0 0 d.layers d.of_layers.sound d.of_layers.names in
-    result.places_are r.kept c.args.ring_limit (untrimmed 0 0 d.layers) c.args.retained.items is valid
+    result.places_are no_protection r.kept c.args.ring_limit (untrimmed 0 0 d.layers) c.args.retained.items is valid
 
 pub finish-requires-clause-many : goal.finish-requires-clause-many
 finish-requires-clause-many c =
@@ -38,21 +40,21 @@ finish-requires-clause-ranged c =
     let r = d.retained_are in
     let retained = c.args.retained.items in
     let valid = untrimmed_is_valid c.ends_stay.ensures c.nothing_is_new.ensures 0 0 d.layers d.of_layers.sound d.of_layers.names in
-    subst (λ os. AllByRecursion (λ b. AreInRange (length retained) b.1) (objects_lines_and_rings (objects_pruned (large_refs c.args.ring_limit retained) os))) (sym d.of_layers.drafted)
+    subst (λ os. AllByRecursion (λ b. AreInRange (length retained) b.1) (objects_lines_and_rings os)) (sym (objects_plainly (large_refs c.args.ring_limit retained) c.args.objects.items ∙ ap (objects_pruned (large_refs c.args.ring_limit retained)) d.of_layers.drafted))
     (ranged r.kept c.args.ring_limit d.layers c.zero_law.ensures d.of_layers.sound retained r.picks valid r.through)
 
 pub returns-clause-assembled : goal.returns-clause-assembled
 returns-clause-assembled c =
     let retained = c.args.retained.items in
     IfOk-weaker c.finish.result _ _
-    (λ r h ls kept of picks. sym (h ∙ ap (λ os. trimmed (contents (objects_pruned (large_refs c.args.ring_limit retained) os) retained)) of.drafted
+    (λ r h ls kept of picks. sym (h ∙ ap (λ os. trimmed (contents os retained)) (objects_plainly (large_refs c.args.ring_limit retained) c.args.objects.items ∙ ap (objects_pruned (large_refs c.args.ring_limit retained)) of.drafted)
     ∙ is_assembled kept c.args.ring_limit ls c.zero_law.ensures of.sound retained picks)) c.finish.ensures.left
 
 pub returns-clause-dropped : goal.returns-clause-dropped
 returns-clause-dropped c =
     let retained = c.args.retained.items in
     IfOk-weaker c.finish.result _ _
-    (λ r h ls kept of picks. h ∙ ap (objects_drops (record { arcs = retained; limit = c.args.ring_limit }) 0) of.drafted ∙ drops_are kept c.args.ring_limit ls c.zero_law.ensures of.sound retained picks)
+    (λ r h ls kept of picks. h ∙ ap (objects_drops (record { arcs = retained; limit = c.args.ring_limit }) 0 []) of.drafted ∙ drops_are kept c.args.ring_limit ls c.zero_law.ensures of.sound retained picks)
     c.finish.ensures.dropped
 
 pub returns-clause-removed_count : goal.returns-clause-removed_count
@@ -60,8 +62,8 @@ returns-clause-removed_count c =
     let retained = c.args.retained.items in
     IfOk-weaker c.finish.result _ _
     (λ r h ls kept of picks counted. h
-    ∙ ap (λ os. saturated (sum (keep_from (is_used (objects_pruned (large_refs c.args.ring_limit retained) os)) 0 c.args.counts.now)
-    - positions_of (keep_from (is_used (objects_pruned (large_refs c.args.ring_limit retained) os)) 0 retained))) of.drafted
+    ∙ ap (λ os. saturated (sum (keep_from (is_used os) 0 c.args.counts.now) - positions_of (keep_from (is_used os) 0 retained)))
+    (objects_plainly (large_refs c.args.ring_limit retained) c.args.objects.items ∙ ap (objects_pruned (large_refs c.args.ring_limit retained)) of.drafted)
     ∙ ap saturated (ap (λ (ns : List ℕ). sum (keep_from (is_used (objects_pruned (large_refs c.args.ring_limit retained) (objects_drafted (own_refs (lines_of ls)) ls))) 0 ns)
     - positions_of (keep_from (is_used (objects_pruned (large_refs c.args.ring_limit retained) (objects_drafted (own_refs (lines_of ls)) ls))) 0 retained)) counted
     ∙ removed_count_is kept c.args.ring_limit ls c.zero_law.ensures of.sound retained picks)) c.finish.ensures.removed_count

@@ -1,10 +1,7 @@
 use Rattle.std.proofs.Common.{◌≡◌, ◌++◌, map, drop}
-use Rattle.geometry.specs.DropCauses.{dropped_of_layers}
-use Rattle.topo_model.specs.Drops.{shape_drops}
-use Rattle.topojson_types.specs.Topologies.{object_features}
+use Rattle.geometry.specs.Lists.{map_some}
+use Rattle.topo_model.specs.Drops.{objects_drops}
 use Rattle.topo_model.proofs.dropping.dropped_lines.Given as goal
 
 abbrev pub invariant-loop-number : goal.invariant-loop-number
-invariant-loop-number l =
-    l.dropped.items ++ dropped_of_layers l.number (map (λ o. map (λ f. shape_drops l.arcs f.shape) (object_features o.1)) (drop l.number l.objects))
-    ≡ dropped_of_layers 0 (map (λ o. map (λ f. shape_drops l.arcs f.shape) (object_features o.1)) l.objects)
+invariant-loop-number l = l.dropped.items ++ objects_drops l.arcs l.number l.rest (drop l.number l.objects) ≡ objects_drops l.arcs 0 (map (map_some (λ v. v.items)) l.ways) l.objects

@@ -1,21 +1,23 @@
-use Rattle.std.proofs.Common.{[]}
+use Rattle.geometry.specs.Lists.{map_some}
 use Rattle.geometry.specs.Pruning.{prune}
-use Rattle.topo_model.proofs.KeptParts.{none_more, one_more}
-use Rattle.topo_model.proofs.Pruned.{at_point, at_points}
+use Rattle.simplified_topology.specs.OuterRings.{marked}
+use Rattle.simplified_topology.specs.Protected.{sparing}
+use Rattle.std.proofs.Common.{◌+◌, refl}
+use Rattle.topo_model.proofs.Pruned.{at_point, at_points, none_left, one_left}
 use Rattle.topo_model.proofs.pruning.+pruned_shape.Goals as goal
 
 pub shapes-preserved-in_default : goal.shapes-preserved-in_default
 shapes-preserved-in_default g t c =
-    none_more (prune (λ p. p) (g.K.Keeps.keeps c.args.keeps.now)) [] c.shapes.kept.items c.shapes.yielded c.in-Some.shape c.in_ok-shape-in-Group.field-0 c.shapes.invariant
-    c.in_ok-shape-in-Group.ensures c.in_default.is
+    none_left marked (prune (λ p. p) (sparing (g.K.Keeps.keeps c.args.keeps.now))) (map_some (λ w. w.now) c.args.way) c.shapes.kept.items c.shapes.number (c.shapes.number + 1) c.shapes.yielded c.in-Some.shape
+    (map_some (λ w. w.now) c.into_part-part.result) c.in_ok-shape-in-Group.field-0 c.shapes.invariant refl c.into_part-part.ensures c.in_ok-shape-in-Group.ensures c.in_default.is
 
 pub shapes-preserved : goal.shapes-preserved
 shapes-preserved g t c =
-    one_more (prune (λ p. p) (g.K.Keeps.keeps c.args.keeps.now)) [] c.shapes.kept.items c.push.new.self.items c.shapes.yielded c.in-Some.shape c.in_ok-shape-in-Group.field-0 c.in-Some-2.shape
-    c.shapes.invariant c.in_ok-shape-in-Group.ensures c.in-Some-2.is c.in_ok-push-in-Group.ensures.items
+    one_left marked (prune (λ p. p) (sparing (g.K.Keeps.keeps c.args.keeps.now))) (map_some (λ w. w.now) c.args.way) c.shapes.kept.items c.push.new.self.items c.shapes.number (c.shapes.number + 1) c.shapes.yielded c.in-Some.shape
+    (map_some (λ w. w.now) c.into_part-part.result) c.in_ok-shape-in-Group.field-0 c.in-Some-2.shape c.shapes.invariant refl c.into_part-part.ensures c.in_ok-shape-in-Group.ensures c.in-Some-2.is c.in_ok-push-in-Group.ensures.items
 
 pub returns-in-Point : goal.returns-in-Point
-returns-in-Point g t c = at_point (g.K.Keeps.keeps c.args.keeps.now) c.args.shape c.in-Point.cell c.in-Point.is
+returns-in-Point g t c = at_point (g.K.Keeps.keeps c.args.keeps.now) (map_some (λ w. w.now) c.args.way) c.args.shape c.in-Point.cell c.in-Point.is
 
 pub returns-in-MultiPoint : goal.returns-in-MultiPoint
-returns-in-MultiPoint g t c = at_points (g.K.Keeps.keeps c.args.keeps.now) c.args.shape c.in-MultiPoint.cells c.in-MultiPoint.is
+returns-in-MultiPoint g t c = at_points (g.K.Keeps.keeps c.args.keeps.now) (map_some (λ w. w.now) c.args.way) c.args.shape c.in-MultiPoint.cells c.in-MultiPoint.is

@@ -1,7 +1,9 @@
-use Rattle.std.proofs.Common.{◌≡◌}
-use Rattle.owned_values.specs.Lists.{some_of}
+use Rattle.geometry.specs.Lists.{map_some}
 use Rattle.geometry.specs.Pruning.{prune}
+use Rattle.simplified_topology.specs.OuterRings.{marked}
+use Rattle.simplified_topology.specs.Protected.{sparing}
+use Rattle.topo_model.proofs.Pruned.{Kept}
 use Rattle.topo_model.proofs.pruning.+pruned_shape.Given as goal
 
 abbrev pub invariant-shapes : goal.invariant-shapes
-invariant-shapes g l = l.kept.items ≡ some_of (prune (λ p. p) (g.K.Keeps.keeps l.keeps)) l.yielded
+invariant-shapes g l = Kept marked (prune (λ p. p) (sparing (g.K.Keeps.keeps l.keeps))) (map_some (λ w. w.now) l.way) l.kept.items l.number l.yielded

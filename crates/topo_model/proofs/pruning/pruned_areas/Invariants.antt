@@ -1,7 +1,10 @@
-use Rattle.std.proofs.Common.{◌≡◌, true}
-use Rattle.owned_values.specs.Lists.{some_of}
+use Rattle.std.proofs.Common.{true}
+use Rattle.geometry.specs.Lists.{map_some}
 use Rattle.geometry.specs.Pruning.{area_by}
+use Rattle.simplified_topology.specs.OuterRings.{rings_marked}
+use Rattle.simplified_topology.specs.Protected.{sparing}
+use Rattle.topo_model.proofs.Pruned.{Kept}
 use Rattle.topo_model.proofs.pruning.pruned_areas.Given as goal
 
 abbrev pub invariant-areas : goal.invariant-areas
-invariant-areas g l = l.kept.items ≡ some_of (area_by (g.K.Keeps.keeps l.keeps true)) l.yielded
+invariant-areas g l = Kept rings_marked (area_by (sparing (g.K.Keeps.keeps l.keeps) true)) (map_some (λ w. w.now) l.way) l.kept.items l.number l.yielded

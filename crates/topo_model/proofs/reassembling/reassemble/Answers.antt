@@ -1,42 +1,27 @@
-use Rattle.std.proofs.Common.{refl, ap, sym, subst, ◌∙◌}
-use Rattle.std.specs.Option.{option_copied}
+use Rattle.std.proofs.Common.{inr, refl, ap, ◌∙◌}
+use Rattle.std.proofs.lemmas.Result.{IfOk-weaker}
 use Rattle.byte_ends.specs.Ends.{saturated}
-use Rattle.simplified_topology.specs.Simplified.{dropped_by, removed_count_by}
-use Rattle.topojson_types.specs.Validity.{IsTopology}
+use Rattle.simplified_topology.specs.Protected.{no_protection}
 use Rattle.topo_model.specs.Parts.{contents}
-use Rattle.topo_model.specs.Retaining.{AreRetainedOf}
-use Rattle.topo_model.proofs.Result.{made_is, parts_are}
 use Rattle.topo_model.proofs.reassembling.reassemble.Goals as goal
 
-pub left_parts-requires-clause-retained : goal.left_parts-requires-clause-retained
-left_parts-requires-clause-retained c =
-    subst (λ tr. AreRetainedOf c.into_inner.result.items tr c.args.retained.items c.args.counts.now) (sym c.as_ref.ensures.value)
-    (subst (λ os. AreRetainedOf os c.args.transform c.args.retained.items c.args.counts.now) (sym c.into_inner.ensures) c.requires.retained)
+pub reassemble_sparing-requires-clause-ways : goal.reassemble_sparing-requires-clause-ways
+reassemble_sparing-requires-clause-ways c = record { protects = no_protection; are = inr (refl, refl) }
 
-pub of-topology-requires : goal.of-topology-requires
-of-topology-requires c =
-    let r = c.requires.retained in
-    let kept = r.retained_are.kept in
-    let y = contents c.args.objects r.arcs c.args.transform in
-    let same = parts_are y c.into_inner.result.items r.arcs (option_copied c.as_ref.result) c.into_inner.ensures refl c.as_ref.ensures.value in
-    let made = made_is kept c.args.ring_limit y c.into_inner.result.items c.in-Ok.left.objects.items c.of.result r.arcs c.in-Ok.left.arcs.items c.of-in-Ok.result (option_copied c.as_ref.result) c.args.transform same
-    c.as_ref.ensures.value (c.in-Ok.ensures.left kept r.arcs r.retained_are.picks) c.of.ensures c.of-in-Ok.ensures refl in
-    record { valid = subst IsTopology (sym made) (c.simplified_is_valid.ensures kept c.args.ring_limit y r.valid r.retained_are.through) }
+pub returns-clause-topology : goal.returns-clause-topology
+returns-clause-topology c =
+    IfOk-weaker c.reassemble_sparing.result _ _
+    (λ r h kept arcs picks. h no_protection kept arcs (inr (refl, refl)) picks ∙ (c.unprotected_is_simplified.ensures kept c.args.ring_limit (contents c.args.objects arcs c.args.transform)).contents)
+    c.reassemble_sparing.ensures.topology
 
-pub returns-in-Ok-clause-topology : goal.returns-in-Ok-clause-topology
-returns-in-Ok-clause-topology c kept arcs picks =
-    let y = contents c.args.objects arcs c.args.transform in
-    let same = parts_are y c.into_inner.result.items arcs (option_copied c.as_ref.result) c.into_inner.ensures refl c.as_ref.ensures.value in
-    let made = made_is kept c.args.ring_limit y c.into_inner.result.items c.in-Ok.left.objects.items c.of.result arcs c.in-Ok.left.arcs.items c.of-in-Ok.result (option_copied c.as_ref.result) c.args.transform same
-    c.as_ref.ensures.value (c.in-Ok.ensures.left kept arcs picks) c.of.ensures c.of-in-Ok.ensures refl in
-    c.of-topology.ensures ∙ made
+pub returns-clause-dropped : goal.returns-clause-dropped
+returns-clause-dropped c =
+    IfOk-weaker c.reassemble_sparing.result _ _
+    (λ r h kept arcs picks. h no_protection kept arcs (inr (refl, refl)) picks ∙ (c.unprotected_is_simplified.ensures kept c.args.ring_limit (contents c.args.objects arcs c.args.transform)).dropped)
+    c.reassemble_sparing.ensures.dropped
 
-pub returns-in-Ok-clause-dropped : goal.returns-in-Ok-clause-dropped
-returns-in-Ok-clause-dropped c kept arcs picks =
-    let same = parts_are (contents c.args.objects arcs c.args.transform) c.into_inner.result.items arcs (option_copied c.as_ref.result) c.into_inner.ensures refl c.as_ref.ensures.value in
-    c.in-Ok.ensures.dropped kept arcs picks ∙ ap (dropped_by kept c.args.ring_limit) same
-
-pub returns-in-Ok-clause-removed_count : goal.returns-in-Ok-clause-removed_count
-returns-in-Ok-clause-removed_count c kept arcs picks counted =
-    let same = parts_are (contents c.args.objects arcs c.args.transform) c.into_inner.result.items arcs (option_copied c.as_ref.result) c.into_inner.ensures refl c.as_ref.ensures.value in
-    c.in-Ok.ensures.removed_count kept arcs picks counted ∙ ap (λ y. saturated (removed_count_by kept c.args.ring_limit y)) same
+pub returns-clause-removed_count : goal.returns-clause-removed_count
+returns-clause-removed_count c =
+    IfOk-weaker c.reassemble_sparing.result _ _
+    (λ r h kept arcs picks counted. h no_protection kept arcs (inr (refl, refl)) picks counted
+    ∙ ap saturated (c.unprotected_is_simplified.ensures kept c.args.ring_limit (contents c.args.objects arcs c.args.transform)).removed_count) c.reassemble_sparing.ensures.removed_count

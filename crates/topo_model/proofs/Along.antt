@@ -1,0 +1,136 @@
+-- Objects whose features have ways: where these lead to protected rings, and where there are none.
+use Rattle.std.proofs.Common.{◌≡◌, ℕ, ◌+◌, ◌<◌, ◌≤◌, List, [], ◌∷◌, ◌++◌, map, drop, length, get_or, Option, None, Some, inl, inr, refl, sym, ap, ◌∙◌, arith}
+use Rattle.std.proofs.Math.Seq.{drop-nil, drop-append_seam}
+use Rattle.std.proofs.lemmas.List.{at_drop_all, at_drop_more, length-map, map-append}
+use Rattle.geometry.specs.Lists.{joined, map_some, tail, then_some}
+use Rattle.geometry.specs.Points.{Point}
+use Rattle.geometry.specs.Pruning.{prune}
+use Rattle.simplified_topology.specs.OuterRings.{marked}
+use Rattle.simplified_topology.specs.Protected.{Protection, no_protection, MarkedRefs, sparing, shape_marked, feature_spared, object_spared, objects_spared}
+use Rattle.simplified_topology.specs.Simplified.{Refs, objects_pruned}
+use Rattle.simplified_topology.proofs.Spared.{objects_plain}
+use Rattle.topojson_types.specs.declared.feature.TopoFeature.{TopoFeature}
+use Rattle.topojson_types.specs.declared.object.TopoObject.{TopoObject}
+use Rattle.topojson_types.specs.declared.object.TopoObject.TheVariants.{One, Many}
+use Rattle.topojson_types.specs.Topologies.{TopoShape, object_features}
+use Rattle.topo_model.specs.Along.{Ways, first_way, by_ways, ways_after, by_object, feature_along, object_along, objects_along, AreWays}
+use Rattle.topo_model.specs.Ways.{way_of, ways_of}
+use Rattle.topo_model.proofs.Stepped as stepped
+
+-- ---- the ways that are left
+
+pub first_left : (ways : Ways) → tail ways ≡ drop 1 ways
+first_left [] = refl
+first_left (way ∷ ways) = refl
+
+pub ways_step : {A : Type 0} (ways : Ways) (x : A) (xs : List A) → ways_after ways (x ∷ xs) ≡ ways_after (tail ways) xs
+ways_step [] x xs = sym (drop-nil (length xs))
+ways_step (way ∷ ways) x xs = refl
+
+-- one element more
+pub ways_more : {A : Type 0} (ways left whole : Ways) (i : ℕ) (xs : List A) (x : A) → i < length xs → x ≡ get_or xs i x → left ≡ tail ways → ways_after ways (drop i xs) ≡ whole → ways_after left (drop (i + 1) xs) ≡ whole
+ways_more ways left whole i xs x l g to h = grind (arith, at_drop_more (λ ys. ways_after ways ys) xs i x l, ways_step ways x (drop (i + 1) xs))
+
+-- the end
+pub ways_all : {A : Type 0} (ways whole : Ways) (i : ℕ) (xs : List A) → length xs ≤ i → ways_after ways (drop i xs) ≡ whole → ways ≡ whole
+ways_all ways whole i xs l h = sym (at_drop_all (λ ys. ways_after ways ys) xs i l) ∙ h
+
+module _ {A B : Type 0} (make : Option (List ℕ) → A → B) where
+  pub by_given : (way : A → Option (List ℕ)) (xs : List A) (more : Ways) → by_ways make (map way xs ++ more) xs ≡ map (λ x. make (way x) x) xs
+  by_given way [] more = refl
+  by_given way (x ∷ xs) more = ap (λ ys. make (way x) x ∷ ys) (by_given way xs more)
+
+  pub by_none : (xs : List A) → by_ways make [] xs ≡ map (make None) xs
+  by_none [] = refl
+  by_none (x ∷ xs) = ap (λ ys. make None x ∷ ys) (by_none xs)
+
+-- a loop that goes on from way to way
+module _ {A : Type 0} (make : Option (List ℕ) → A → A) where
+  pub steps_are : (ways : Ways) (xs : List A) → stepped.all (λ w x. make (first_way w) x) (λ w x. tail w) ways xs ≡ by_ways make ways xs
+  steps_are ways [] = refl
+  steps_are ways (x ∷ xs) = ap (λ ys. make (first_way ways) x ∷ ys) (steps_are (tail ways) xs)
+
+  pub state_is : (ways : Ways) (xs : List A) → stepped.after (λ w x. make (first_way w) x) (λ w x. tail w) ways xs ≡ ways_after ways xs
+  state_is ways [] = refl
+  state_is ways (x ∷ xs) = state_is (tail ways) xs ∙ sym (ways_step ways x xs)
+
+after_given : {A : Type 0} (way : A → Option (List ℕ)) (xs : List A) (more : Ways) → ways_after (map way xs ++ more) xs ≡ more
+after_given way xs more = ap (λ n. drop n (map way xs ++ more)) (sym (length-map xs way)) ∙ drop-append_seam (map way xs) more
+
+-- ---- objects
+
+abbrev pub Objects : Type 0
+Objects = List (List ℕ × TopoObject)
+
+pub object_steps_are : (make : Ways → List ℕ × TopoObject → List ℕ × TopoObject) (ways : Ways) (os : Objects) → stepped.all make (λ w o. ways_after w (object_features o.1)) ways os ≡ by_object make ways os
+object_steps_are make ways [] = refl
+object_steps_are make ways (o ∷ os) = ap (λ ys. make ways o ∷ ys) (object_steps_are make (ways_after ways (object_features o.1)) os)
+
+module _ {B : Type 0} (make : Ways → List ℕ × TopoObject → B) (made : List ℕ × TopoObject → B) where
+  objects_given : (protects : Protection) → ((o : List ℕ × TopoObject) (more : Ways) → make (map (way_of protects) (object_features o.1) ++ more) o ≡ made o) → (os : Objects) → by_object make (ways_of protects os) os ≡ map made os
+  objects_given protects each [] = refl
+  objects_given protects each (o ∷ os) =
+      let split : ways_of protects (o ∷ os) ≡ map (way_of protects) (object_features o.1) ++ ways_of protects os = map-append (way_of protects) (object_features o.1) (joined (map (λ o. object_features o.1) os)) in
+      ap (λ ways. make ways o ∷ by_object make (ways_after ways (object_features o.1)) os) split
+      ∙ ap (λ y. y ∷ by_object make (ways_after (map (way_of protects) (object_features o.1) ++ ways_of protects os) (object_features o.1)) os) (each o (ways_of protects os))
+      ∙ ap (λ ways. made o ∷ by_object make ways os) (after_given (way_of protects) (object_features o.1) (ways_of protects os))
+      ∙ ap (λ ys. made o ∷ ys) (objects_given protects each os)
+
+  objects_none : ((o : List ℕ × TopoObject) → make [] o ≡ made o) → (os : Objects) → by_object make [] os ≡ map made os
+  objects_none each [] = refl
+  objects_none each (o ∷ os) = ap (λ ways. make [] o ∷ by_object make ways os) (drop-nil (length (object_features o.1))) ∙ ap (λ y. y ∷ by_object make [] os) (each o) ∙ ap (λ ys. made o ∷ ys) (objects_none each os)
+
+  pub objects_by : (protects : Protection) (ways : Ways) (os : Objects) → AreWays protects ways os → ((o : List ℕ × TopoObject) (more : Ways) → make (map (way_of protects) (object_features o.1) ++ more) o ≡ made o)
+      → (protects ≡ no_protection → (o : List ℕ × TopoObject) → make [] o ≡ made o) → by_object make ways os ≡ map made os
+  objects_by protects ways os (inl are) each none = ap (λ w. by_object make w os) are ∙ objects_given protects each os
+  objects_by protects ways os (inr are) each none = ap (λ w. by_object make w os) are.1 ∙ objects_none (none are.0) os
+
+-- ---- what is left of them
+
+module _ (protects : Protection) (kept : MarkedRefs) where
+  abbrev shape_along : Option (List ℕ) → Option TopoShape → Option TopoShape
+  shape_along way s = then_some (λ s. prune (λ (p : Point). p) kept (marked s way)) s
+
+  shape_is : (s : Option TopoShape) → shape_along (map_some (λ x. x.path) (then_some protects s)) s ≡ then_some (λ s. prune (λ (p : Point). p) kept (shape_marked protects s)) s
+  shape_is None = refl
+  shape_is (Some s) = refl
+
+  abbrev with_shape : TopoFeature → Option TopoShape → TopoFeature
+  with_shape f s = record { id = f.id; properties = f.properties; shape = s }
+
+  feature_is : (f : TopoFeature) → feature_along kept (way_of protects f) f ≡ feature_spared protects kept f
+  feature_is f = ap (with_shape f) (shape_is f.shape)
+
+  features_are : (fs : List TopoFeature) → map (λ f. feature_along kept (way_of protects f) f) fs ≡ map (feature_spared protects kept) fs
+  features_are [] = refl
+  features_are (f ∷ fs) = rw (feature_is f, features_are fs) refl
+
+  object_is : (o : TopoObject) (more : Ways) → object_along kept (map (way_of protects) (object_features o) ++ more) o ≡ object_spared protects kept o
+  object_is (One f) more = ap One (feature_is f)
+  object_is (Many fs) more = ap Many (by_given (feature_along kept) (way_of protects) fs more ∙ features_are fs)
+
+none_is : (s : Option TopoShape) → map_some (λ x. x.path) (then_some no_protection s) ≡ None
+none_is None = refl
+none_is (Some s) = refl
+
+module _ (kept : MarkedRefs) where
+  feature_none : (f : TopoFeature) → feature_along kept None f ≡ feature_spared no_protection kept f
+  feature_none f = ap (λ way. feature_along kept way f) (sym (none_is f.shape)) ∙ feature_is no_protection kept f
+
+  features_none : (fs : List TopoFeature) → map (feature_along kept None) fs ≡ map (feature_spared no_protection kept) fs
+  features_none [] = refl
+  features_none (f ∷ fs) = rw (feature_none f, features_none fs) refl
+
+  object_none : (o : TopoObject) → object_along kept [] o ≡ object_spared no_protection kept o
+  object_none (One f) = ap One (feature_none f)
+  object_none (Many fs) = ap Many (by_none (feature_along kept) fs ∙ features_none fs)
+
+-- of objects whose features have the ways to protected rings these are spared
+pub objects_are : (protects : Protection) (kept : MarkedRefs) (ways : Ways) (os : Objects) → AreWays protects ways os → objects_along kept ways os ≡ objects_spared protects kept os
+objects_are protects kept ways os are =
+    objects_by (λ ways o. (o.0, object_along kept ways o.1)) (λ o. (o.0, object_spared protects kept o.1)) protects ways os are (λ o more. ap (λ p. (o.0, p)) (object_is protects kept o.1 more))
+    (λ none o. ap (λ p. (o.0, p)) (object_none kept o.1 ∙ ap (λ p. object_spared p kept o.1) (sym none)))
+
+-- without ways they are pruned
+pub objects_plainly : (k : Refs) (os : Objects) → objects_along (sparing k) [] os ≡ objects_pruned k os
+objects_plainly k os = objects_are no_protection (sparing k) [] os (inr (refl, refl)) ∙ objects_plain (sparing k) os

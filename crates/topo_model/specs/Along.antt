@@ -1,0 +1,63 @@
+-- Objects in which of each feature the ring at the end of its way stays. The ways are given in reading order, and a feature that comes after
+-- the last of them has none.
+use Rattle.std.specs.Prelude.{◌≡◌, ◌⊎◌, ℕ, List, [], ◌∷◌, Option, None, drop, length}
+use Rattle.geometry.specs.Lists.{tail, then_some}
+use Rattle.geometry.specs.Points.{Point}
+use Rattle.geometry.specs.Pruning.{prune}
+use Rattle.simplified_topology.specs.OuterRings.{marked}
+use Rattle.simplified_topology.specs.Protected.{Protection, no_protection, MarkedRefs, sparing}
+use Rattle.simplified_topology.specs.Simplified.{large_refs}
+use Rattle.topojson_types.specs.declared.feature.TopoFeature.{TopoFeature}
+use Rattle.topojson_types.specs.declared.object.TopoObject.{TopoObject}
+use Rattle.topojson_types.specs.declared.object.TopoObject.TheVariants.{One, Many}
+use Rattle.topojson_types.specs.Topologies.{object_features}
+use Rattle.topo_model.specs.Ways.{ways_of}
+
+-- the way of each feature, if it has one
+abbrev pub Ways : Type 0
+Ways = List (Option (List ℕ))
+
+-- the way of the first feature
+abbrev pub first_way : Ways → Option (List ℕ)
+first_way [] = None
+first_way (way ∷ ways) = way
+
+-- what is made of each element and its way, of which this is the list
+abbrev pub by_ways : {A B : Type 0} → (Option (List ℕ) → A → B) → Ways → List A → List B
+by_ways make ways [] = []
+by_ways make ways (x ∷ xs) = make (first_way ways) x ∷ by_ways make (tail ways) xs
+
+-- the ways of the features that come after so many features
+abbrev pub ways_after : {A : Type 0} → Ways → List A → Ways
+ways_after ways xs = drop (length xs) ways
+
+-- what is made of each object and the ways of its features
+abbrev pub by_object : {B : Type 0} → (Ways → List ℕ × TopoObject → B) → Ways → List (List ℕ × TopoObject) → List B
+by_object make ways [] = []
+by_object make ways (o ∷ os) = make ways o ∷ by_object make (ways_after ways (object_features o.1)) os
+
+-- the feature with the ring at the end of the way marked, pruned
+abbrev pub feature_along : MarkedRefs → Option (List ℕ) → TopoFeature → TopoFeature
+feature_along kept way f = record { id = f.id; properties = f.properties; shape = then_some (λ s. prune (λ p. p) kept (marked s way)) f.shape }
+
+abbrev pub object_along : MarkedRefs → Ways → TopoObject → TopoObject
+object_along kept ways (One f) = One (feature_along kept (first_way ways) f)
+object_along kept ways (Many fs) = Many (by_ways (feature_along kept) ways fs)
+
+abbrev pub objects_along : MarkedRefs → Ways → List (List ℕ × TopoObject) → List (List ℕ × TopoObject)
+objects_along kept = by_object (λ ways o. (o.0, object_along kept ways o.1))
+
+-- without the lines and rings that are small by a limit where they are rebuilt of these arcs, but with the rings at the ends of ways
+abbrev pub large_along : ℕ → List (List Point) → Ways → List (List ℕ × TopoObject) → List (List ℕ × TopoObject)
+large_along limit arcs = objects_along (sparing (large_refs limit arcs))
+
+-- ---- protected rings
+
+-- the ways lead to the protected rings of the features, or no ring is protected, and there are none
+abbrev pub AreWays : Protection → Ways → List (List ℕ × TopoObject) → Type 0
+AreWays protects ways os = (ways ≡ ways_of protects os) ⊎ ((protects ≡ no_protection) × (ways ≡ []))
+
+-- they lead to the rings of some protection
+pub record Protect (ways : Ways) (os : List (List ℕ × TopoObject)) : Type 0 where
+  pub protects : Protection
+  pub are : AreWays protects ways os

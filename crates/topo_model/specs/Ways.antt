@@ -1,0 +1,15 @@
+-- The ways to the protected rings of features.
+use Rattle.std.specs.Prelude.{ℕ, List, Option, map}
+use Rattle.geometry.specs.Lists.{joined, map_some, then_some}
+use Rattle.simplified_topology.specs.Protected.{Protection}
+use Rattle.topojson_types.specs.declared.feature.TopoFeature.{TopoFeature}
+use Rattle.topojson_types.specs.declared.object.TopoObject.{TopoObject}
+use Rattle.topojson_types.specs.Topologies.{object_features}
+
+-- the way to the protected ring of a feature, if one is
+abbrev pub way_of : Protection → TopoFeature → Option (List ℕ)
+way_of protects f = map_some (λ x. x.path) (then_some protects f.shape)
+
+-- the ways of all features, in reading order
+abbrev pub ways_of : Protection → List (List ℕ × TopoObject) → List (Option (List ℕ))
+ways_of protects os = map (way_of protects) (joined (map (λ o. object_features o.1) os))

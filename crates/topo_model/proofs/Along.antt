@@ -19,10 +19,6 @@ use Rattle.topo_model.proofs.Stepped as stepped
 
 -- ---- the ways that are left
 
-pub first_left : (ways : Ways) → tail ways ≡ drop 1 ways
-first_left [] = refl
-first_left (way ∷ ways) = refl
-
 pub ways_step : {A : Type 0} (ways : Ways) (x : A) (xs : List A) → ways_after ways (x ∷ xs) ≡ ways_after (tail ways) xs
 ways_step [] x xs = sym (drop-nil (length xs))
 ways_step (way ∷ ways) x xs = refl

@@ -1,4 +1,5 @@
 pub mod Assembled
+pub mod AssembledSparing
 pub mod Along
 pub mod Chosen
 pub mod Counted
@@ -6,6 +7,7 @@ pub mod DraftAtZero
 pub mod DraftUses
 pub mod Drops
 pub mod Enclosed
+pub mod GreatestMade
 pub mod Kept
 pub mod KeptParts
 pub mod Marked
@@ -16,6 +18,7 @@ pub mod Picks
 pub mod Prefix
 pub mod Pruned
 pub mod Relined
+pub mod RelinedMarks
 pub mod Renumbered
 pub mod Reported
 pub mod Result

@@ -5,12 +5,15 @@ use Rattle.build_meaning.specs.Layers.{Named, layers_of, names_of}
 use Rattle.geometry.specs.Points.{Point}
 use Rattle.linework.specs.Linework.{linework}
 use Rattle.simplified_topology.specs.Assembled.{arcs_of_layers, own_refs}
+use Rattle.simplified_topology.specs.Protected.{greatest_ring}
 use Rattle.simplified_topology.specs.Simplified.{EachFromFirstToLast, retained_arcs}
 use Rattle.topojson_types.specs.declared.object.TopoObject.{TopoObject}
 use Rattle.topojson_types.specs.declared.transform.Transform.{Transform}
 use Rattle.topojson_types.specs.Validity.{AreDistinct, IsTopology}
+use Rattle.topo_model.specs.Along.{Ways}
 use Rattle.topo_model.specs.Drafts.{objects_drafted}
 use Rattle.topo_model.specs.Parts.{contents}
+use Rattle.topo_model.specs.Ways.{ways_of}
 
 -- of each of the arcs the positions of some numbers, which begin with its first and end with its last
 pub record AreRetained (arcs retained : List (List Point)) : Type 0 where
@@ -37,3 +40,8 @@ pub record IsDraft (objects : List (List ℕ × TopoObject)) (retained : List (L
   pub of_layers : IsDraftOf layers objects
   pub retained_are : AreRetained (arcs_of_layers layers) retained
   pub counts_are : counts ≡ map length (arcs_of_layers layers)
+
+-- and these are the ways to the rings of its features that enclose most
+pub record IsSparedDraft (objects : List (List ℕ × TopoObject)) (retained : List (List Point)) (counts : List ℕ) (ways : Ways) : Type 0 where
+  pub draft : IsDraft objects retained counts
+  pub ways_are : ways ≡ ways_of (greatest_ring (arcs_of_layers draft.layers)) objects

@@ -29,6 +29,7 @@ mod reassembling;
 mod rebuilding;
 mod reducing;
 mod retaining;
+mod sparing;
 mod trimming;
 mod way_steps;
 
@@ -42,6 +43,7 @@ pub use position_counting::position_counts;
 pub use reassembling::{reassemble, reassemble_sparing};
 pub use reducing::Reduces;
 pub use retaining::{retained_cells, retained_positions};
+pub use sparing::assemble_draft_sparing;
 pub use topojson_types::{
     ArcRef, CELL_LIMIT, Cell, GRID_LIMIT, SumFault, TopoFeature, TopoObject, TopoShape, Topology,
     Transform, TransformNumber, placed, sums,

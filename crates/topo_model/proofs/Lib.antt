@@ -1,6 +1,7 @@
 pub mod Assembled
 pub mod AssembledSparing
 pub mod Along
+pub mod BestRing
 pub mod Chosen
 pub mod Counted
 pub mod DraftAtZero

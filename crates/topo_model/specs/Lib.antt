@@ -11,5 +11,6 @@ pub mod Places
 pub mod Rebuilding
 pub mod Renumbering
 pub mod Retaining
+pub mod Searching
 pub mod Uses
 pub mod Ways

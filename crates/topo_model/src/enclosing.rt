@@ -2,7 +2,7 @@
 ghost use Rattle.std.specs.Prelude.{◌≡◌, ◌+◌, ◌≤◌, drop, map, nat_lt, unsigned_abs};
 ghost use Rattle.std.specs.List.{AllByRecursion};
 ghost use Rattle.topo_model.specs.Passing.{directed, most_of_arc, Sums};
-ghost use Rattle.geometry.specs.Areas.{sum_limit, twice_ring_area};
+ghost use Rattle.geometry.specs.Areas.{shoelace, sum_limit, twice_ring_area};
 ghost use Rattle.geometry.specs.Joins.{arc_at, stitched};
 ghost use Rattle.geometry.specs.Points.{IsPosition};
 ghost use Rattle.geometry.specs.Units.{threshold_limit};
@@ -38,6 +38,22 @@ fn pass_ref(sum: &mut RingSum, index: ArcRef, arcs: &[Items<Cell>], from: usize)
     }
 }
 
+/// What the positions of a ring that is rebuilt of the arcs with these indexes add up to.
+pub fn ring_sum(refs: &[ArcRef], arcs: &[Items<Cell>]) -> RingSum
+    requires { AllByRecursion (λ arc. AllByRecursion IsPosition arc) arcs.now }
+    ensures { result.sum ≡ shoelace (stitched (map (arc_at arcs.now) refs.now)) }
+{
+    let mut sum = RingSum::new();
+    let Some((first, later)) = refs.split_first() else {
+        return sum;
+    };
+    pass_ref(&mut sum, *first, arcs, 0);
+    'later: for index in later {
+        pass_ref(&mut sum, *index, arcs, 1);
+    }
+    sum
+}
+
 /// Whether twice the area of a ring that is rebuilt of the arcs with these indexes is under the limit. Nothing is under zero, so then
 /// no position is looked at.
 pub fn is_ring_under(refs: &[ArcRef], arcs: &[Items<Cell>], limit: u128) -> bool
@@ -48,13 +64,6 @@ pub fn is_ring_under(refs: &[ArcRef], arcs: &[Items<Cell>], limit: u128) -> bool
     if limit == 0 {
         return false;
     }
-    let mut sum = RingSum::new();
-    let Some((first, later)) = refs.split_first() else {
-        return sum.is_under(limit);
-    };
-    pass_ref(&mut sum, *first, arcs, 0);
-    'later: for index in later {
-        pass_ref(&mut sum, *index, arcs, 1);
-    }
+    let sum = ring_sum(refs, arcs);
     sum.is_under(limit)
 }

@@ -4,9 +4,9 @@
 //! positions or enclose too little are dropped, arcs that no kept line uses are left out, and the others have new indexes. What is left of
 //! an arc is made of it alone (`retained_positions`, `retained_cells`), so that it can be freed before the next is reduced; `assemble` and
 //! `Reduces::reduce` are for who has the numbers of all arcs at once. Where in each feature a ring is protected, it is named by the way to its
-//! polygon, and stays (`reassemble_sparing`, `assemble_draft_sparing`); where none is, no ways are given. It stands on
-//! `simplified_topology`, which says what topology that is and when it is what is built of the layers, and on `arc_table`. The layers above
-//! use the contracts of `assemble_retained` and of `reassemble`.
+//! polygon, and stays (`reassemble_sparing`, `assemble_draft_sparing`); where none is, no ways are given. `rings_to_stay` finds the rings of a
+//! topology that are protected, which no command asks for. It stands on `simplified_topology`, which says what topology that is and when it is
+//! what is built of the layers, and on `arc_table`. The layers above use the contracts of `assemble_retained` and of `reassemble`.
 #![tactic(auto)]
 
 mod arc_uses;
@@ -24,11 +24,13 @@ mod places;
 mod placing;
 mod position_cells;
 mod position_counting;
+mod protecting;
 mod pruning;
 mod reassembling;
 mod rebuilding;
 mod reducing;
 mod retaining;
+mod searching;
 mod sparing;
 mod trimming;
 mod way_steps;
@@ -40,6 +42,7 @@ pub use drafting::drafted_objects;
 pub use given_numbers::positions_of_all;
 pub use position_cells::cells;
 pub use position_counting::position_counts;
+pub use protecting::{protected_rings, rings_to_stay};
 pub use reassembling::{reassemble, reassemble_sparing};
 pub use reducing::Reduces;
 pub use retaining::{retained_cells, retained_positions};

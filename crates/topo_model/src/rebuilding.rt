@@ -59,7 +59,7 @@ impl<'a> Rebuilding<'a> {
 
 /// Whether an open line that is rebuilt of the arcs with these indexes, with equal neighbours as one position, is left with fewer
 /// than two positions, or a ring with fewer than four. No more positions are looked at than that takes.
-fn is_short_rebuilt(closed: bool, refs: &[ArcRef], arcs: &[Items<Cell>]) -> bool
+pub fn is_short_rebuilt(closed: bool, refs: &[ArcRef], arcs: &[Items<Cell>]) -> bool
     ensures { result ≡ is_short closed (clean (stitched (map (arc_at arcs.now) refs.now))) }
 {
     let Some((first, later)) = refs.split_first() else {

@@ -3,7 +3,7 @@ use Rattle.topo_model.specs.Passing.{most_of_arc, sum_with}
 use Rattle.topo_model.proofs.Enclosed.{start}
 use Rattle.topo_model.proofs.Passed.{Open, later_left}
 use Rattle.geometry.specs.Joins.{arc_at, stitched}
-use Rattle.topo_model.proofs.enclosing.is_ring_under.Given as goal
+use Rattle.topo_model.proofs.enclosing.ring_sum.Given as goal
 
 abbrev pub invariant-later : goal.invariant-later
 invariant-later l = record {

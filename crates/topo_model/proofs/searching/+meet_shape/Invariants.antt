@@ -1,0 +1,11 @@
+use Rattle.std.proofs.Common.{◌≡◌, map, drop}
+use Rattle.geometry.specs.Paths.{of_parts}
+use Rattle.simplified_topology.specs.OuterRings.{outer_rings}
+use Rattle.topo_model.specs.Searching.{all_met, at_way}
+use Rattle.topo_model.proofs.searching.+meet_shape.Given as goal
+
+abbrev pub invariant-shapes : goal.invariant-shapes
+invariant-shapes l =
+    (l.way.items ≡ l.initial.way.items)
+    × (all_met l.arcs l.best (at_way l.initial.way.items (of_parts l.number (map outer_rings (drop l.number l.shape-items))))
+    ≡ all_met l.arcs l.initial.best (at_way l.initial.way.items (of_parts 0 (map outer_rings l.shape-items))))

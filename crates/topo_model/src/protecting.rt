@@ -1,0 +1,187 @@
+// The protected rings of topologies, feature by feature.
+ghost use Rattle.std.specs.Prelude.{◌≡◌, ◌∷◌, ◌++◌, [], IfOk, OnOk, map};
+ghost use Rattle.std.specs.List.{AllByRecursion};
+ghost use Rattle.std.specs.Option.{option_copied};
+ghost use Rattle.geometry.specs.Lists.{map_some, some_of, with_some};
+ghost use Rattle.geometry.specs.Points.{IsPosition};
+ghost use Rattle.simplified_topology.specs.Guarded.{arc_positions};
+ghost use Rattle.simplified_topology.specs.Protected.{greatest_ring, protected_of, protected_rings as all_protected};
+ghost use Rattle.simplified_topology.specs.ProtectedRings.{CanStay};
+ghost use Rattle.topojson_types.specs.Decoding.{placed_arcs as all_placed};
+ghost use Rattle.topojson_types.specs.Topologies.{object_features};
+ghost use Rattle.topojson_types.specs.Validity.{IsPlace};
+ghost use Rattle.topo_model.specs.Ways.{way_of, ways_of};
+
+use crate::placing::placed_arcs;
+use crate::searching::{Found, protected_ring};
+use json_value::{Items, OwnText};
+use owned_values::Memory;
+use simplified_topology::protected_rings_can_stay;
+use std::alloc::Global;
+use std::marker::Model;
+use topojson_types::{ArcRef, Cell, TopoFeature, TopoObject, Topology, Transform};
+
+/// What was found for features.
+#[derive(Drop)]
+struct Protecting {
+    ways: Vec<Option<Vec<usize>>>,
+    rings: Vec<Items<ArcRef>>,
+}
+
+impl Model for Protecting {
+    ghost use Rattle.std.specs.Prelude.{map};
+    ghost use Rattle.geometry.specs.Lists.{map_some};
+    ghost use Rattle.topo_model.specs.Searching.{Protecting as OfFeatures};
+
+    ghost Value = { OfFeatures };
+
+    ghost view = { λ p. record { ways = map (map_some (λ w. w.items)) p.ways.items; rings = p.rings.items } };
+}
+
+impl Protecting {
+    /// For no feature.
+    fn none(alloc: Global) -> Protecting
+        ensures { result ≡ record { ways = []; rings = [] } }
+    {
+        Protecting {
+            ways: Vec::new(alloc),
+            rings: Vec::new(alloc),
+        }
+    }
+
+    /// Adds what was found for the next feature.
+    fn push(&mut self, found: Option<Found>) -> Result<(), Memory>
+        ensures ways { OnOk result (self.new.ways ≡ self.old.ways ++ map_some (λ f. f.ring.path) found ∷ []) }
+        ensures rings { OnOk result (self.new.rings ≡ self.old.rings ++ with_some (map_some (λ f. f.ring.part) found) []) }
+    {
+        let Some(found) = found else {
+            self.ways.push(None)?;
+            return Ok(());
+        };
+        let (way, refs) = found.into_parts();
+        self.ways.push(Some(way))?;
+        self.rings.push(refs)?;
+        Ok(())
+    }
+
+    /// The ways and the arc indexes.
+    fn into_parts(self) -> (Vec<Option<Vec<usize>>>, Vec<Items<ArcRef>>)
+        ensures ways { map (map_some (λ w. w.items)) result.0.items ≡ self.ways }
+        ensures rings { result.1.items ≡ self.rings }
+    {
+        let found = self;
+        (found.ways, found.rings)
+    }
+}
+
+/// Adds what is found for a feature.
+fn add_feature(
+    alloc: Global,
+    arcs: &[Items<Cell>],
+    way: &mut Vec<usize>,
+    feature: &TopoFeature,
+    found: &mut Protecting,
+) -> Result<(), Memory>
+    requires { AllByRecursion (λ arc. AllByRecursion IsPosition arc) arcs.now }
+    ensures ways { OnOk result (found.new.ways ≡ found.old.ways ++ map (way_of (greatest_ring arcs.now)) (feature.now ∷ [])) }
+    ensures rings { OnOk result (found.new.rings ≡ found.old.rings ++ some_of (protected_of (greatest_ring arcs.now)) (feature.now ∷ [])) }
+{
+    let ring = protected_ring(alloc, arcs, way, feature)?;
+    found.push(ring)?;
+    Ok(())
+}
+
+/// Adds what is found for features.
+fn add_features(
+    alloc: Global,
+    arcs: &[Items<Cell>],
+    way: &mut Vec<usize>,
+    features: &[TopoFeature],
+    found: &mut Protecting,
+) -> Result<(), Memory>
+    requires { AllByRecursion (λ arc. AllByRecursion IsPosition arc) arcs.now }
+    ensures ways { OnOk result (found.new.ways ≡ found.old.ways ++ map (way_of (greatest_ring arcs.now)) features.now) }
+    ensures rings { OnOk result (found.new.rings ≡ found.old.rings ++ some_of (protected_of (greatest_ring arcs.now)) features.now) }
+{
+    'features: for feature in features {
+        add_feature(alloc, arcs, way, feature, found)?;
+    }
+    Ok(())
+}
+
+/// Adds what is found for the features of an object.
+fn add_object(
+    alloc: Global,
+    arcs: &[Items<Cell>],
+    way: &mut Vec<usize>,
+    object: &TopoObject,
+    found: &mut Protecting,
+) -> Result<(), Memory>
+    requires { AllByRecursion (λ arc. AllByRecursion IsPosition arc) arcs.now }
+    ensures ways { OnOk result (found.new.ways ≡ found.old.ways ++ map (way_of (greatest_ring arcs.now)) (object_features object.now)) }
+    ensures rings { OnOk result (found.new.rings ≡ found.old.rings ++ some_of (protected_of (greatest_ring arcs.now)) (object_features object.now)) }
+{
+    match object {
+        TopoObject::One(feature) => add_feature(alloc, arcs, way, feature, found),
+        TopoObject::Many(features) => add_features(alloc, arcs, way, features.as_slice(), found),
+    }
+}
+
+/// For each feature of all objects, in reading order, the way to the polygon whose outer ring is protected, if one is, and the arc indexes of
+/// these rings: of the outer rings that have four positions or more where they are rebuilt of these arcs, with equal neighbours as one, in
+/// each feature the first of those that enclose most. Each ring is looked at once.
+pub fn protected_rings(
+    alloc: Global,
+    objects: &[(OwnText, TopoObject)],
+    arcs: &[Items<Cell>],
+) -> Result<(Vec<Option<Vec<usize>>>, Vec<Items<ArcRef>>), Memory>
+    requires { AllByRecursion (λ arc. AllByRecursion IsPosition arc) arcs.now }
+    ensures ways { IfOk result (λ r. map (map_some (λ w. w.items)) r.0.items ≡ ways_of (greatest_ring arcs.now) objects.now) }
+    ensures rings { IfOk result (λ r. r.1.items ≡ all_protected (greatest_ring arcs.now) objects.now) }
+{
+    let mut found = Protecting::none(alloc);
+    let mut way = Vec::new(alloc);
+    'objects: for object in objects {
+        add_object(alloc, arcs, &mut way, &object.1, &mut found)?;
+    }
+    Ok(found.into_parts())
+}
+
+/// Those where the positions of the arcs are those that their cells stand for.
+fn rings_of_cells(
+    alloc: Global,
+    objects: &[(OwnText, TopoObject)],
+    arcs: &[Items<Cell>],
+    transform: Option<&Transform>,
+) -> Result<(Vec<Option<Vec<usize>>>, Vec<Items<ArcRef>>), Memory>
+    requires { AllByRecursion (λ arc. AllByRecursion (IsPlace (option_copied transform)) arc) arcs.now }
+    ensures ways { IfOk result (λ r. map (map_some (λ w. w.items)) r.0.items ≡ ways_of (greatest_ring (all_placed (option_copied transform.entry) arcs.now)) objects.now) }
+    ensures rings { IfOk result (λ r. r.1.items ≡ all_protected (greatest_ring (all_placed (option_copied transform.entry) arcs.now)) objects.now) }
+{
+    match transform {
+        None => protected_rings(alloc, objects, arcs),
+        Some(_) => {
+            let placed = placed_arcs(alloc, arcs, transform)?;
+            protected_rings(alloc, objects, &placed)
+        }
+    }
+}
+
+/// Those of a topology, by the positions that its cells stand for. They can be asked to stay when its arcs are reduced.
+pub fn rings_to_stay(
+    alloc: Global,
+    topology: &Topology,
+) -> Result<(Vec<Option<Vec<usize>>>, Vec<Items<ArcRef>>), Memory>
+    ensures ways { IfOk result (λ r. map (map_some (λ w. w.items)) r.0.items ≡ ways_of (greatest_ring (arc_positions topology.now)) topology.now.objects) }
+    ensures rings { IfOk result (λ r. r.1.items ≡ all_protected (greatest_ring (arc_positions topology.now)) topology.now.objects) }
+    ensures can_stay { IfOk result (λ r. CanStay (arc_positions topology.now) r.1.items) }
+{
+    protected_rings_can_stay();
+    let (ways, rings) = rings_of_cells(
+        alloc,
+        topology.objects(),
+        topology.arcs(),
+        topology.transform(),
+    )?;
+    Ok((ways, rings))
+}

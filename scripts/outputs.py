@@ -283,6 +283,72 @@ def try_words():
             try_run(f"{path[:20]} in words", ["build", "--explain", "a=line", "-o", path], (3, said))
 
 
+ISLANDS = (
+    b'{"type":"FeatureCollection","features":['
+    b'{"type":"Feature","id":7,"properties":{"name":"Sark"},"geometry":{"type":"Polygon","coordinates":[[[20,0],[21,0],[21,1],[20,0]]]}},'
+    b'{"type":"Feature","bbox":[0,0,9,9],"properties":null,"geometry":{"type":"Polygon","coordinates":[[[0,0],[9,0],[9,9],[0,0]]]}}]}'
+)
+
+
+def try_losses():
+    """What `--explain` and `--report` say of features that are lost, also through a pipe and where the output replaces the input: the same."""
+    lost = b'feature 0, id 7, name "Sark": nothing of its geometry is left\n'
+    explanations = {
+        "build": b'  layer 0, ' + lost + b'  layer 0: left out "bbox" 1, "crs" 0, other members 0\n',
+        "simplify": b'  object "a", ' + lost,
+    }
+    with new_folder():
+        write("islands", ISLANDS)
+        write("whole", plain(["build", "a=islands"])[1])
+        for command, source in (("build", "islands"), ("simplify", "whole")):
+            words = [command, "--explain", "--report", "run.json", "--min-ring-area", "2"]
+            named = "a=%s" if command == "build" else "%s"
+            status, output, said = plain([*words, named % source])
+            with open("run.json", "rb") as file:
+                report = file.read()
+            expect(f"losses of {command}", (0, True), (status, said.endswith(explanations[command])))
+            with open(source, "rb") as file:
+                cat = subprocess.Popen(["cat"], stdin=file, stdout=subprocess.PIPE)
+                run = subprocess.run([PROGRAM, *words, named % "/dev/stdin"], stdin=cat.stdout, capture_output=True, timeout=120)
+                cat.wait()
+            expect(f"losses of {command} through a pipe", (status, output, said), (run.returncode, run.stdout, run.stderr))
+            with open("run.json", "rb") as file:
+                expect(f"the report of {command} through a pipe", report, file.read())
+            changed = [(source, output, 0o644)]
+            try_run(f"losses of {command} onto its input", [*words, "-o", source, named % source], (0, said), changed)
+            with open("run.json", "rb") as file:
+                expect(f"the report of {command} onto its input", report, file.read())
+
+
+def try_unreported():
+    """What `--explain` says of a report that isn't written."""
+    with new_folder():
+        os.mkdir("below")
+        for path, words in (
+            ("missing/new", "its folder is not there, or it is a link that leads nowhere"),
+            ("below", "a folder, not a file"),
+            ("/dev/full", "the disk is full"),
+        ):
+            status, output, said = plain(["build", "--explain", "a=line"])
+            ended = plain(["build", "--explain", "--report", path, "a=line"])
+            said += f"error: F4 NoReport\n  {path}: {words}\n".encode()
+            expect(f"no report at {path}", (3, output, said), ended)
+        expect("no report, and no words", 3, plain(["build", "--report", "below", "a=line"])[0])
+
+
+def try_too_many_open():
+    """What `--explain` says where more files would be open than may be."""
+    with new_folder():
+        layers = [f"l{number}=line" for number in range(10)]
+
+        def limit():
+            resource.setrlimit(resource.RLIMIT_NOFILE, (8, 8))
+
+        run = subprocess.run([PROGRAM, "build", "--explain", *layers], preexec_fn=limit, capture_output=True, timeout=120)
+        said = b'error: layer 5 F1 Read\n  layer 5 is "l5", the file line\n  line: too many files are open: ulimit -n says how many may be\n'
+        expect("too many open files", (3, b"", said), (run.returncode, run.stdout, run.stderr))
+
+
 def try_parts_of_others():
     with new_folder():
         write("old", OLD, 0o640)
@@ -538,6 +604,9 @@ PARTS = (
     (try_what_is_no_file, 364),
     (try_devices, 160 if IS_ROOT else 180),
     (try_words, 24),
+    (try_losses, 14),
+    (try_unreported, 4),
+    (try_too_many_open, 1),
     (try_parts_of_others, 1055),
     (try_refused, 1140),
     (try_full_disks, 1084),

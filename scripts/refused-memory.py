@@ -164,8 +164,30 @@ ROOF_LAYER = layer(
     ("LineString", "[[2,1],[2,-5]]"),
     ("LineString", "[[10,0],[11,1],[12,0]]"),
 )
+# A layer with a member that isn't read and a crs of metres, of which one feature is lost where small rings go; and its topology whole, and without it.
+NAMED_FEATURES = '"id":7,"properties":{"name":"Sark"}', '"properties":{"name":"Mainland"}'
+NAMED = (
+    '{"type":"FeatureCollection","crs":{"type":"name","properties":{"name":"EPSG:3857"}},"features":['
+    '{"type":"Feature",%s,"geometry":{"type":"Polygon","coordinates":[[[20,0],[21,0],[21,1],[20,0]]]}},'
+    '{"type":"Feature","bbox":[0,0,9,9],%s,"geometry":{"type":"Polygon","coordinates":[[[0,0],[9,0],[9,9],[0,0]]]}}]}'
+) % NAMED_FEATURES
+NAMED_TOPOLOGY = topology(
+    "land",
+    ['{"type":"Polygon",%s,"arcs":[[%d]]}' % (it, at) for at, it in enumerate(NAMED_FEATURES)],
+    "[[[20,0],[21,0],[21,1],[20,0]],[[0,0],[9,0],[9,9],[0,0]]]",
+    "[0,0,21,9]",
+)
+LESS_NAMED = topology(
+    "land",
+    ['{"type":null,%s}' % NAMED_FEATURES[0], '{"type":"Polygon",%s,"arcs":[[0]]}' % NAMED_FEATURES[1]],
+    "[[[0,0],[9,0],[9,9],[0,0]]]",
+    "[0,0,9,9]",
+)
+LOST = 'feature 0, id 7, name "Sark": nothing of its geometry is left'
 FILES = {
     "line.json": LINE,
+    "named.json": NAMED,
+    "named.topojson": NAMED_TOPOLOGY,
     "cut.json": LINE[:40],
     "bend.json": BEND,
     "bend.topojson": BEND_TOPOLOGY,
@@ -207,6 +229,7 @@ SMALL = ("0 0 1 small", "0 1 0 small")
 BUILD, FILE = "B7", "E6"
 # Lines that explain a run, some or all of which aren't there where memory for them is refused.
 KEPT_ALL = "kept 2 of 2 positions of the arcs, 100.0 %"
+KEPT_RING = "kept 4 of 4 positions of the arcs, 100.0 %"
 CUT_SHORT = ('layer 0 is "a", the file cut.json', "line 1, column 41 (byte 40): the text ends too early")
 LINE_COUNTED = '{"rounded":0,"extra":0,"empty":0,"dropped":[],"arcs":1,"kept":2,"removed":0,"chosen":null}'
 LINE_LAYER = layer(("LineString", "[[0,0],[1.5,0.25]]"))
@@ -243,6 +266,25 @@ RUNS = (
     Run("build a=line.json b=cut.json", 1, "", "error: layer 1 J2 Malformed\n", BUILD, 5),
     Run("build a=line.json b=line.json a=line.json", 2, "", "error: layer 2 B2 DuplicateName\n", BUILD, 0),
     Run("build --explain a=line.json", 0, LINE_TOPOLOGY, f"{report(1, 2)}  {KEPT_ALL}\n", BUILD, 20),
+    Run(
+        "build --explain --min-ring-area 2 land=named.json",
+        0,
+        LESS_NAMED,
+        report(1, 4, ("0 0 0 small",))
+        + f"  {KEPT_RING}\n  layer 0, {LOST}\n"
+        + '  layer 0: left out "bbox" 1, "crs" 1, other members 0\n'
+        + '  layer 0: its "crs" is "EPSG:3857": coordinates are taken as they are, so areas are in square units of it, not in square degrees\n',
+        BUILD,
+        30,
+    ),
+    Run(
+        "simplify --explain --min-ring-area 2 named.topojson",
+        0,
+        LESS_NAMED,
+        report(1, 4, ("0 0 0 small",)) + f'  {KEPT_RING}\n  object "land", {LOST}\n',
+        FILE,
+        25,
+    ),
     Run("build --explain a=cut.json", 1, "", "".join(["error: layer 0 J2 Malformed\n", *(f"  {it}\n" for it in CUT_SHORT)]), BUILD, 1),
     Run("simplify --min-area 1 full.topojson", 0, LAND_TOPOLOGY, report(2, 7, SMALL), FILE, 25),
     Run("simplify --min-ring-area 1 full.topojson", 0, LAND_TOPOLOGY, report(2, 7, SMALL), FILE, 25),

@@ -1,9 +1,7 @@
 // What is said of a topology that was built.
-ghost use Rattle.std.specs.Prelude.{◌≡◌, ◌+◌, ◌<◌, ◌≤◌};
+ghost use Rattle.std.specs.Prelude.{◌≡◌, ◌+◌, ◌<◌};
 ghost use Rattle.explanations.specs.Numbers.{thousandths as thousandths_of};
-ghost use Rattle.grid_snap.specs.Axes.{axis_over};
 
-use crate::bounds::Bounds;
 use geojson_types::PLACES;
 use json_writer::{ShortText, add_units};
 use reports::Report;
@@ -84,16 +82,6 @@ pub fn built(alloc: Global, report: &Report) -> Result<String, AllocError> {
     Ok(lines)
 }
 
-/// How far apart the coordinates of a grid of so many cells are, in units: the step of the grid that is built.
-fn step_over(cells: u32, least: i64, greatest: i64) -> u128
-    requires { 2 ≤ cells }
-    ensures { result ≡ (axis_over cells least greatest).step }
-{
-    let length = u128::from(greatest.abs_diff(least));
-    let last = u128::from(cells) - 1;
-    ((length + (last - 1)) / last).max(1)
-}
-
 /// A number of units as a decimal.
 pub(crate) fn decimal_of_units(alloc: Global, units: i64) -> Result<String, AllocError> {
     let mut text = ShortText::new();
@@ -102,25 +90,4 @@ pub(crate) fn decimal_of_units(alloc: Global, units: i64) -> Result<String, Allo
         Ok(digits) => String::from_str(alloc, digits),
         Err(_) => Ok(String::new(alloc)),
     }
-}
-
-/// A number of units as a decimal, or nothing where it is too great for one.
-fn decimal(alloc: Global, units: u128) -> Result<String, AllocError> {
-    match i64::try_from(units) {
-        Ok(units) => decimal_of_units(alloc, units),
-        Err(_) => Ok(String::new(alloc)),
-    }
-}
-
-/// How far apart the coordinates of the grid of so many cells over these positions are.
-pub fn grid_step(alloc: Global, bounds: &Bounds, cells: u32) -> Result<String, AllocError> {
-    let Some(corners) = bounds.corners() else {
-        return Ok(String::new(alloc));
-    };
-    if cells < 2 {
-        return Ok(String::new(alloc));
-    }
-    let across = decimal(alloc, step_over(cells, corners.left, corners.right))?;
-    let up = decimal(alloc, step_over(cells, corners.bottom, corners.top))?;
-    format!(in alloc; "  a step of the grid is {across} by {up}\n")
 }

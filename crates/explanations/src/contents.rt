@@ -157,7 +157,7 @@ fn bounds_line(alloc: Global, least: Position, greatest: Position) -> Result<Str
 }
 
 /// The line for the step of the grid.
-fn step_line(alloc: Global, transform: &Transform) -> Result<String, AllocError> {
+pub(crate) fn step_line(alloc: Global, transform: &Transform) -> Result<String, AllocError> {
     let across = transform.scale.0.text();
     let up = transform.scale.1.text();
     format!(in alloc; "  a step of the grid is {across} by {up}\n")

@@ -10,24 +10,48 @@ fn add_shown(text: &mut String, letter: char) -> Result<(), AllocError> {
     text.push(letter)
 }
 
+/// Whether the text has none of these characters, and none that JSON escapes, by a look at bytes alone.
+fn is_plain(text: &str) -> bool {
+    text.bytes().all(|byte| byte >= 0x20 && byte < 0x7f && byte != b'"' && byte != b'\\')
+}
+
+/// Adds a text with an escape in the place of each character that a terminal would obey.
+pub(crate) fn add_text(shown: &mut String, text: &str) -> Result<(), AllocError> {
+    if is_plain(text) {
+        return shown.push_str(text);
+    }
+    for letter in text.chars() {
+        add_shown(shown, letter)?;
+    }
+    Ok(())
+}
+
 /// The text with an escape in the place of each character that a terminal would obey.
 pub(crate) fn shown(alloc: Global, text: &str) -> Result<String, AllocError> {
     let mut shown = String::new(alloc);
-    for letter in text.chars() {
-        add_shown(&mut shown, letter)?;
-    }
+    add_text(&mut shown, text)?;
     Ok(shown)
 }
 
-/// The text as a JSON text (RFC 8259, section 7), in which the characters that a terminal would obey are escaped too.
-pub(crate) fn quoted(alloc: Global, text: &str) -> Result<String, AllocError> {
-    let mut quoted = String::from_str(alloc, "\"")?;
+/// Adds a text as a JSON text (RFC 8259, section 7), in which the characters that a terminal would obey are escaped too.
+pub(crate) fn add_quoted(quoted: &mut String, text: &str) -> Result<(), AllocError> {
+    quoted.push('"')?;
+    if is_plain(text) {
+        quoted.push_str(text)?;
+        return quoted.push('"');
+    }
     for letter in text.chars() {
         if letter == '"' || letter == '\\' {
             quoted.push('\\')?;
         }
-        add_shown(&mut quoted, letter)?;
+        add_shown(quoted, letter)?;
     }
-    quoted.push('"')?;
+    quoted.push('"')
+}
+
+/// The same by itself.
+pub(crate) fn quoted(alloc: Global, text: &str) -> Result<String, AllocError> {
+    let mut quoted = String::new(alloc);
+    add_quoted(&mut quoted, text)?;
     Ok(quoted)
 }

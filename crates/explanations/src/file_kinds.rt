@@ -13,6 +13,8 @@ pub enum FileKind {
     Folder,
     /// The system doesn't let this user read it.
     NotAllowed,
+    /// It couldn't be opened, as too many files are open.
+    TooManyOpen,
     /// A device, a pipe, or what the system says nothing of.
     Other,
 }
@@ -24,6 +26,9 @@ pub fn unopened(alloc: Global, path: &str, kind: FileKind) -> Result<String, All
         FileKind::Missing => format!(in alloc; "  {path}: no such file\n"),
         FileKind::Folder => format!(in alloc; "  {path}: a folder, not a file\n"),
         FileKind::NotAllowed => format!(in alloc; "  {path}: no permission to read it\n"),
+        FileKind::TooManyOpen => format!(in alloc;
+            "  {path}: too many files are open: ulimit -n says how many may be\n"
+        ),
         FileKind::Regular => format!(in alloc; "  {path}: could not be read\n"),
         FileKind::Other => format!(in alloc; "  {path}: could not be read\n"),
     }

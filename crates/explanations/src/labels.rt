@@ -1,84 +1,143 @@
 // What a feature is called.
-use crate::escaping::{quoted, shown};
+use crate::escaping::{add_quoted, add_text};
+use crate::members::{member_at, next_member, rest_after};
+use geojson_types::{Id, Properties, PropertiesForm};
+use json_cursor::{Name, after_byte, string_at};
+use json_reading::skip;
 use json_value::{Json, OwnText, find};
 use std::alloc::{AllocError, Global};
+use topojson_types::TopoFeature;
 
 /// The members that mostly hold what a feature is called, in any letter case, the best first.
 const NAMES: [&str; 5] = ["name", "name_en", "admin", "title", "label"];
 
-/// The identifier among the members of a feature, after a comma.
-fn identifier(alloc: Global, members: &[(OwnText, Json)]) -> Result<String, AllocError> {
-    match find(members, "id") {
-        Ok(Some(Json::Text(text))) => {
-            let text = quoted(alloc, text.as_str())?;
-            format!(in alloc; ", id {text}")
-        }
-        Ok(Some(Json::Number(number))) => {
-            let text = number.text();
-            format!(in alloc; ", id {text}")
-        }
-        _ => Ok(String::new(alloc)),
+/// How far behind the best the property of this name is with this text, as what a feature is called. An empty text is no better than any.
+fn rank(name: &str, text: &str) -> usize {
+    if text.is_empty() {
+        return NAMES.len();
     }
+    for (number, wanted) in NAMES.iter().enumerate() {
+        if name.eq_ignore_ascii_case(wanted) {
+            return number;
+        }
+    }
+    NAMES.len()
 }
 
-/// A name and a text, after a comma.
-fn named(alloc: Global, name: &str, text: &str) -> Result<String, AllocError> {
-    let name = shown(alloc, name)?;
-    let text = quoted(alloc, text)?;
-    format!(in alloc; ", {name} {text}")
+/// Adds a name and a text, after a comma.
+fn add_named(label: &mut String, name: &str, text: &str) -> Result<(), AllocError> {
+    label.push_str(", ")?;
+    add_text(label, name)?;
+    label.push_str(" ")?;
+    add_quoted(label, text)
 }
 
-/// The text of the first property of this name, whatever the case of its letters, with the name as it is written, unless the text is empty.
-fn text_named<'a>(properties: &'a [(OwnText, Json)], wanted: &str) -> Option<(&'a str, &'a str)> {
+/// Adds an identifier that is a text, after a comma.
+fn add_text_id(label: &mut String, text: &str) -> Result<(), AllocError> {
+    label.push_str(", id ")?;
+    add_quoted(label, text)
+}
+
+/// Adds an identifier that is a number of this text, after a comma.
+fn add_number_id(label: &mut String, text: &str) -> Result<(), AllocError> {
+    label.push_str(", id ")?;
+    label.push_str(text)
+}
+
+/// The text among these properties that a person would take for a name, with its own name: or else the first of them that is a text.
+fn name_among(properties: &[(OwnText, Json)]) -> Option<(&str, &str)> {
+    let mut best = None;
+    let mut best_rank = NAMES.len() + 1;
     for property in properties {
         let name = property.0.as_str();
-        if name.eq_ignore_ascii_case(wanted) {
-            if let Some(text) = property.1.as_text() {
-                if !text.is_empty() {
-                    return Some((name, text));
-                }
+        if let Some(text) = property.1.as_text() {
+            let rank = rank(name, text);
+            if rank < best_rank {
+                best = Some((name, text));
+                best_rank = rank;
             }
         }
     }
-    None
+    best
 }
 
-/// The first of these properties whose value is a text.
-fn first_text(properties: &[(OwnText, Json)]) -> Option<(&str, &str)> {
-    for property in properties {
-        if let Some(text) = property.1.as_text() {
-            return Some((property.0.as_str(), text));
+/// The same among the properties of this text; nothing for want of memory, too.
+fn name_in<'a>(alloc: Global, text: &'a [u8]) -> Option<(Name<'a>, Name<'a>)> {
+    let mut best = None;
+    let mut best_rank = NAMES.len() + 1;
+    let mut rest = skip(after_byte(b'{', text)?);
+    for _ in 0..text.len() {
+        let Some((name, value)) = member_at(alloc, rest) else {
+            break;
+        };
+        let after = match string_at(alloc, value).ok()? {
+            Some((text, after)) => {
+                let rank = rank(name.as_str(), text.as_str());
+                if rank == 0 {
+                    return Some((name, text));
+                }
+                if rank < best_rank {
+                    best = Some((name, text));
+                    best_rank = rank;
+                }
+                after
+            }
+            None => rest_after(alloc, value)?,
+        };
+        match next_member(after) {
+            Some(more) => rest = more,
+            None => break,
         }
     }
-    None
+    best
 }
 
-/// The text among these properties that a person would take for a name, with its own name.
-fn name_among(properties: &[(OwnText, Json)]) -> Option<(&str, &str)> {
-    for wanted in NAMES {
-        let found = text_named(properties, wanted);
-        if found.is_some() {
-            return found;
-        }
+/// Adds what is found among properties.
+fn add_name(alloc: Global, label: &mut String, properties: &Properties) -> Result<(), AllocError> {
+    match properties.form() {
+        PropertiesForm::Values(members) => match name_among(members) {
+            Some((name, text)) => add_named(label, name, text),
+            None => Ok(()),
+        },
+        PropertiesForm::Text(text) => match name_in(alloc, text) {
+            Some((name, text)) => add_named(label, name.as_str(), text.as_str()),
+            None => Ok(()),
+        },
     }
-    first_text(properties)
 }
 
-/// What the feature with these members is called: its identifier, and its name, or else the first of its properties that is a text.
-pub(crate) fn label(alloc: Global, members: &[(OwnText, Json)]) -> Result<String, AllocError> {
-    let mut label = identifier(alloc, members)?;
+/// Adds what a feature of a topology is called: its identifier, and its name, or else the first of its properties that is a text.
+pub(crate) fn add_label(
+    alloc: Global,
+    label: &mut String,
+    feature: &TopoFeature,
+) -> Result<(), AllocError> {
+    match &feature.id {
+        Some(Id::Text(text)) => add_text_id(label, text.as_str())?,
+        Some(Id::Number(number)) => add_number_id(label, number.text())?,
+        None => {}
+    }
+    match &feature.properties {
+        Some(properties) => add_name(alloc, label, properties),
+        None => Ok(()),
+    }
+}
+
+/// What the feature that a value is is called, in the same way.
+pub(crate) fn label_of(alloc: Global, value: &Json) -> Result<String, AllocError> {
+    let mut label = String::new(alloc);
+    let Some(members) = value.as_object() else {
+        return Ok(label);
+    };
+    match find(members, "id") {
+        Ok(Some(Json::Text(text))) => add_text_id(&mut label, text.as_str())?,
+        Ok(Some(Json::Number(number))) => add_number_id(&mut label, number.text())?,
+        _ => {}
+    }
     if let Ok(Some(Json::Object(properties))) = find(members, "properties") {
         if let Some((name, text)) = name_among(properties.as_slice()) {
-            label.push_str(named(alloc, name, text)?.as_str())?;
+            add_named(&mut label, name, text)?;
         }
     }
     Ok(label)
-}
-
-/// What the feature that a value is is called.
-pub(crate) fn label_of(alloc: Global, value: &Json) -> Result<String, AllocError> {
-    match value.as_object() {
-        None => Ok(String::new(alloc)),
-        Some(members) => label(alloc, members),
-    }
 }

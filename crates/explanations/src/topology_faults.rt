@@ -1,11 +1,10 @@
 // Why the file of a topology is refused.
-use crate::census::parts_of;
 use crate::escaping::{quoted, shown};
 use crate::json_faults::json_fault;
 use crate::labels::label_of;
 use crate::read_faults::read_words;
 use crate::topology_walk::{Found, Site, walk_topology};
-use crate::trees::{objects_of, tree, type_of};
+use crate::trees::{objects_of, parts_of, tree, type_of};
 use geojson_meaning::geojson_type;
 use inputs::FileFault;
 use json_reading::TOPOLOGY_DEPTH;

@@ -65,6 +65,14 @@ pub(crate) fn objects_of(topology: &Json) -> &[(OwnText, Json)] {
     }
 }
 
+/// The geometries of a collection with these members, or none where they aren't there.
+pub(crate) fn parts_of(members: &[(OwnText, Json)]) -> &[Json] {
+    match find(members, "geometries") {
+        Ok(Some(Json::Array(values))) => values.as_slice(),
+        _ => &[],
+    }
+}
+
 /// The text of the member `type`.
 pub(crate) fn type_of(value: &Json) -> Option<&str> {
     let members = value.as_object()?;

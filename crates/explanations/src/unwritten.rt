@@ -25,6 +25,8 @@ pub enum WriteFailure {
     NoReader,
     /// All names for the new file beside it are taken.
     NamesTaken,
+    /// Too many files are open.
+    TooManyOpen,
     /// Anything else.
     Other,
 }
@@ -43,6 +45,8 @@ fn words(failure: Option<WriteFailure>) -> &'static str {
         Some(WriteFailure::BadName) => "no file can have this name",
         Some(WriteFailure::NoReader) => "the program that reads it has ended",
         Some(WriteFailure::NamesTaken) => "a thousand new files of other runs stand beside it",
+        Some(WriteFailure::TooManyOpen) =>
+            "too many files are open: ulimit -n says how many may be",
         Some(WriteFailure::Other) | None => "could not be written",
     }
 }

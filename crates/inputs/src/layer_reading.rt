@@ -4,6 +4,7 @@ ghost use Rattle.inputs.specs.Reading.{IsLayerOf, ReadsLayer};
 ghost use Rattle.inputs.specs.Sources.{plus, AllReadTo, FailsToReadAll};
 
 use crate::fault::BuildFault;
+use crate::watch::Watch;
 use byte_ends::{Feed, MAX_INPUT, ReadFault, Source, read_all};
 use geojson_meaning::{Counts, GeoFaultKind, Layer};
 use geojson_model::read_layer_text;
@@ -39,12 +40,25 @@ fn layer_of(
     }
 }
 
+/// Shows a layer that is read, which these bytes spell.
+fn show<K: Watch>(
+    alloc: Global,
+    bytes: &[u8],
+    read: &Result<(Layer, Counts), BuildFault>,
+    watch: &mut K,
+) {
+    if let Ok((layer, _counts)) = read {
+        watch.layer_read(alloc, bytes, layer);
+    }
+}
+
 /// Reads a source to its end, and gives the layer of this number that its bytes spell.
-fn read_source<R: Feed>(
+fn read_source<R: Feed, K: Watch>(
     alloc: Global,
     source: &mut Source<R>,
     layer: usize,
     exact: bool,
+    watch: &mut K,
 ) -> Result<(Layer, Counts), BuildFault>
     ensures { ReadsLayer layer exact source.old source.new result }
 {
@@ -53,7 +67,9 @@ fn read_source<R: Feed>(
         Err(ReadFault::Memory) => return Err(BuildFault::Memory),
         Err(fault) => return Err(BuildFault::Read { layer, fault }),
     };
-    layer_of(alloc, &bytes, layer, exact)
+    let read = layer_of(alloc, &bytes, layer, exact);
+    show(alloc, &bytes, &read, watch);
+    read
 }
 
 /// The counts of two parts, added.
@@ -69,17 +85,18 @@ fn sum(one: Counts, other: Counts) -> Counts
 
 /// Reads each source to its end, one after another, and gives the layers that they spell under their names, and what was
 /// counted in all of them.
-pub fn read_layers<R: Feed>(
+pub fn read_layers<R: Feed, K: Watch>(
     alloc: Global,
     sources: &mut [(OwnText, Source<R>)],
     exact: bool,
+    watch: &mut K,
 ) -> Result<(Vec<(OwnText, Layer)>, Counts), BuildFault>
     ensures { MatchResult result (λ r. AllReadTo exact sources.old sources.new r.0.items r.1) (λ e. FailsToReadAll exact sources.old sources.new e) }
 {
     let mut layers = Vec::new(alloc);
     let mut counts = Counts::none();
     'sources: for layer in 0..sources.len() {
-        let (read, counted) = read_source(alloc, &mut sources[layer].1, layer, exact)?;
+        let (read, counted) = read_source(alloc, &mut sources[layer].1, layer, exact, watch)?;
         let name = sources[layer].0.copy(alloc)?;
         layers.push((name, read))?;
         counts = sum(counts, counted);

@@ -21,6 +21,8 @@ pub(crate) struct System {
     pending: Option<Target>,
     /// The file that an output has replaced last, or the device that took it.
     replaced: Option<Target>,
+    /// Whether the last file couldn't be opened, as too many are open.
+    is_full: bool,
     /// Why the last output couldn't be begun, written or kept, if the system said why.
     failure: Option<WriteFailure>,
     /// How many new files of other runs stood beside that of the last output.
@@ -36,6 +38,7 @@ impl System {
             counts: Counts::none(),
             pending: None,
             replaced: None,
+            is_full: false,
             failure: None,
             other_parts: 0,
             notes: Notes::none(),
@@ -69,8 +72,26 @@ fn keep(target: Option<Target>, output: BufWriter<PartFile>) -> Result<Target, O
     };
     match replace(&target, output) {
         Ok(()) => Ok(target),
-        Err(error) => Err(Some(failure_by(error.kind()))),
+        Err(error) => Err(Some(failure_of(&error))),
     }
+}
+
+// The system's numbers for an error at opening where as many files are open as the process or the whole system may have.
+const PROCESS_IS_FULL: i32 = 24;
+
+const SYSTEM_IS_FULL: i32 = 23;
+
+// Whether a file couldn't be opened as too many are open.
+fn is_full(error: &io::Error) -> bool {
+    matches!(error.raw_os_error(), Some(PROCESS_IS_FULL | SYSTEM_IS_FULL))
+}
+
+// What an error says of an output.
+fn failure_of(error: &io::Error) -> WriteFailure {
+    if is_full(error) {
+        return WriteFailure::TooManyOpen;
+    }
+    failure_by(error.kind())
 }
 
 // What an error of this kind says of an output.
@@ -135,6 +156,7 @@ impl Files for System {
     fn open(&mut self, path: &str) -> Option<Source<FromRead<File>>> {
         let opened = File::open(&self.rt, path);
         self.counts.count_open(opened.is_ok());
+        self.is_full = opened.as_ref().is_err_and(is_full);
         let file = opened.ok()?;
         Some(Source::new(FromRead::new(file)))
     }
@@ -148,6 +170,9 @@ impl Files for System {
     }
 
     fn look(&mut self, path: &str) -> FileKind {
+        if self.is_full {
+            return FileKind::TooManyOpen;
+        }
         match &self.replaced {
             Some(target) if target.is_at(&self.rt, path) => FileKind::Other,
             _ => kind_of(&self.rt, path),
@@ -157,7 +182,7 @@ impl Files for System {
     fn begin(&mut self, path: &str) -> Option<Sink<ToWrite<BufWriter<PartFile>>>> {
         let begun = begin(&self.rt, path);
         self.counts.count_begin(begun.is_ok());
-        self.failure = begun.as_ref().err().map(|error| failure_by(error.kind()));
+        self.failure = begun.as_ref().err().map(failure_of);
         let (target, output, other_parts) = begun.ok()?;
         self.pending = Some(target);
         self.other_parts = other_parts;

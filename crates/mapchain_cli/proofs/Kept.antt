@@ -94,28 +94,28 @@ only_outputs then after next path is same one = record {
   outputs = inr (subst (λ (s : FileState). SettlesOne then.counts.outputs s.counts.outputs) (sym is) one);
 }
 
-reported : (then after : FileState) (path : List ℕ) (outcome : Outcome) (text : List ℕ) (old new : Drained) (status : ℕ)
-    → IsReported (used then after) path outcome text old new status → Followed then after (Some path)
-reported then after path outcome text old new status (run, is, inl (h, same, exit)) =
+reported : (then after : FileState) (path : List ℕ) (explains : Bool) (outcome : Outcome) (text : List ℕ) (old new : Drained) (status : ℕ)
+    → IsReported (used then after) path explains outcome text old new status → Followed then after (Some path)
+reported then after path explains outcome text old new status (run, is, inl (h, same, exit)) =
     let kept = h.kept in
     record { holds = λ other but. kept.others other but; outputs = inr (inr (inl (true, ap (λ (c : Counts). c.outputs) kept.counted))) }
-reported then after path outcome text old new status (run, is, inr (inl unbegun, printed, exit)) =
+reported then after path explains outcome text old new status (run, is, inr (inl unbegun, printed, exit)) =
     only_outputs then after (begun None path then) path unbegun refl (inl refl)
-reported then after path outcome text old new status (run, is, inr (inr (inl broken), printed, exit)) =
+reported then after path explains outcome text old new status (run, is, inr (inr (inl broken), printed, exit)) =
     only_outputs then after (discarded (ended_of broken.output) (begun (Some broken.fresh) path then)) path broken.away refl (inr (inr refl))
-reported then after path outcome text old new status (run, is, inr (inr (inr held), printed, exit)) =
+reported then after path explains outcome text old new status (run, is, inr (inr (inr held), printed, exit)) =
     only_outputs then after (not_kept (ended_of held.output) (begun (Some held.fresh) path then)) path held.away refl (inr (inl (false, refl)))
 
-reports_to : (then after : FileState) (report : Option (List ℕ)) (outcome : Outcome) (text : List ℕ) (old new : Drained) (status : ℕ)
-    → ReportsTo report (used then after) outcome text old new status → Followed then after report
-reports_to then after None outcome text old new status h =
+reports_to : (then after : FileState) (report : Option (List ℕ)) (explains : Bool) (outcome : Outcome) (text : List ℕ) (old new : Drained) (status : ℕ)
+    → ReportsTo report (used then after) explains outcome text old new status → Followed then after report
+reports_to then after None explains outcome text old new status h =
     record { holds = ap (λ (s : FileState). s.contents) h.0; outputs = inl (ap (λ (s : FileState). s.counts.outputs) h.0) }
-reports_to then after (Some path) outcome text old new status h = reported then after path outcome text old new status h
+reports_to then after (Some path) explains outcome text old new status h = reported then after path explains outcome text old new status h
 
 explained : (then after : FileState) (detail : Detail) (outcome : Outcome) (old new : Drained) (status : ℕ)
     → IsExplained (used then after) detail outcome old new status → Followed then after detail.report
 explained then after detail outcome old new status h =
-    let follows = reports_to h.reread after detail.report outcome h.explanation h.explained new status h.reports in
+    let follows = reports_to h.reread after detail.report detail.explains outcome h.explanation h.explained new status h.reports in
     record {
       holds = holds_after detail.report then h.reread after h.reads.contents follows.holds;
       outputs = one_after then h.reread after h.reads.outputs follows.outputs;

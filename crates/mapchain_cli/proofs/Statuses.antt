@@ -203,19 +203,19 @@ at_unreported : (path : List ℕ) (n status : ℕ) → status ≡ unreported n �
 at_unreported path zero status e = inr (e, refl, λ is. cc)
 at_unreported path (suc n) status e = inl e
 
-reported_status : (report : Option (List ℕ)) (files : FileUse) (outcome : Outcome) (text : List ℕ) (old new : Drained) (status : ℕ)
-    → ReportsTo report files outcome text old new status → HasStatus report outcome status
-reported_status None files outcome text old new status h = inl h.2
-reported_status (Some path) files outcome text old new status (run, is, inl h) = inl h.2
-reported_status (Some path) files outcome text old new status (run, is, inr h) = at_unreported path (status_after outcome) status h.2
+reported_status : (report : Option (List ℕ)) (files : FileUse) (explains : Bool) (outcome : Outcome) (text : List ℕ) (old new : Drained) (status : ℕ)
+    → ReportsTo report files explains outcome text old new status → HasStatus report outcome status
+reported_status None files explains outcome text old new status h = inl h.2
+reported_status (Some path) files explains outcome text old new status (run, is, inl h) = inl h.2
+reported_status (Some path) files explains outcome text old new status (run, is, inr h) = at_unreported path (status_after outcome) status h.2
 
 follow_status : (explains : Bool) (report : Option (List ℕ)) (files : FileUse) (detail : Detail) (outcome : Outcome) (old new : Drained) (status : ℕ)
     → detail.report ≡ report → Follows explains report files detail outcome old new status → HasStatus report outcome status
 follow_status false None files detail outcome old new status is h = inl h.2
 follow_status false (Some path) files detail outcome old new status is h =
-    subst (λ (r : Option (List ℕ)). HasStatus r outcome status) is (reported_status detail.report _ outcome h.explanation h.explained new status h.reports)
+    subst (λ (r : Option (List ℕ)). HasStatus r outcome status) is (reported_status detail.report _ detail.explains outcome h.explanation h.explained new status h.reports)
 follow_status true report files detail outcome old new status is h =
-    subst (λ (r : Option (List ℕ)). HasStatus r outcome status) is (reported_status detail.report _ outcome h.explanation h.explained new status h.reports)
+    subst (λ (r : Option (List ℕ)). HasStatus r outcome status) is (reported_status detail.report _ detail.explains outcome h.explanation h.explained new status h.reports)
 
 pub carried_status : (files : FileUse) (output : Option (List ℕ)) (detail : Detail) (request : Request) (old new : Streams) (status : ℕ)
     → (h : IsCarriedOut files output detail request old new status) → HasStatus detail.report h.outcome status

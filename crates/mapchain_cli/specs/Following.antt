@@ -93,32 +93,43 @@ abbrev pub unreported : ℕ → ℕ
 unreported zero = failed
 unreported (suc n) = suc n
 
--- the report of the run is written to the file of this path, or it couldn't be, which is reported
-abbrev pub IsReported : FileUse → List ℕ → Outcome → List ℕ → Drained → Drained → ℕ → Type 0
-IsReported files path outcome explanation old new status = (run : RunReport) × IsReportOf outcome explanation (status_after outcome) run ×
-    ((PutsReport files path run × (new ≡ old) × (status ≡ status_after outcome))
-    ⊎ (IsUnwritten files path run × Prints old new no_report × (status ≡ unreported (status_after outcome))))
-
--- where it is asked for
-abbrev pub ReportsTo : Option (List ℕ) → FileUse → Outcome → List ℕ → Drained → Drained → ℕ → Type 0
-ReportsTo None files outcome explanation old new status = (files.after ≡ files.before) × (new ≡ old) × (status ≡ status_after outcome)
-ReportsTo (Some path) files outcome explanation old new status = IsReported files path outcome explanation old new status
-
--- ---- an explanation, and then the report
-
 -- where that is asked an explanation is printed in brief
 abbrev pub PrintsIf : Bool → Drained → Drained → List ℕ → Type 0
 PrintsIf true old new text = Prints old new (brief text)
 PrintsIf false old new text = new ≡ old
 
--- files are only read for an explanation, which is reported in brief where that is asked, and the report of the run has all of it
+-- its line is printed, and then a reason, where that is asked
+abbrev pub TellsUnwritten : Bool → Drained → Drained → Type 0
+TellsUnwritten explains old new = (told : Drained) × (reason : List ℕ) × Prints old told no_report × PrintsIf explains told new reason
+
+-- the report of the run is written to the file of this path, or it couldn't be, which is reported
+abbrev pub IsReported : FileUse → List ℕ → Bool → Outcome → List ℕ → Drained → Drained → ℕ → Type 0
+IsReported files path explains outcome explanation old new status = (run : RunReport) × IsReportOf outcome explanation (status_after outcome) run ×
+    ((PutsReport files path run × (new ≡ old) × (status ≡ status_after outcome))
+    ⊎ (IsUnwritten files path run × TellsUnwritten explains old new × (status ≡ unreported (status_after outcome))))
+
+-- where it is asked for
+abbrev pub ReportsTo : Option (List ℕ) → FileUse → Bool → Outcome → List ℕ → Drained → Drained → ℕ → Type 0
+ReportsTo None files explains outcome explanation old new status = (files.after ≡ files.before) × (new ≡ old) × (status ≡ status_after outcome)
+ReportsTo (Some path) files explains outcome explanation old new status = IsReported files path explains outcome explanation old new status
+
+-- ---- an explanation, and then the report
+
+-- where a topology was built or simplified nothing is read again
+abbrev pub ReadsNothing : Outcome → FileState → FileState → Type 0
+ReadsNothing (Ok (Some report)) old new = new ≡ old
+ReadsNothing (Ok None) old new = Unit {0}
+ReadsNothing (Err ending) old new = Unit {0}
+
+-- files are only read for an explanation, if at all, which is reported in brief where that is asked, and the report of the run has all of it
 pub record IsExplained (files : FileUse) (detail : Detail) (outcome : Outcome) (old new : Drained) (status : ℕ) : Type 0 where
   pub explanation : List ℕ
   pub reread : FileState
   pub reads : OnlyReads (used files.before reread)
+  pub unread : ReadsNothing outcome files.before reread
   pub explained : Drained
   pub prints : PrintsIf detail.explains old explained explanation
-  pub reports : ReportsTo detail.report (used reread files.after) outcome explanation explained new status
+  pub reports : ReportsTo detail.report (used reread files.after) detail.explains outcome explanation explained new status
 
 -- nothing more is done where nothing is asked
 abbrev pub Follows : Bool → Option (List ℕ) → FileUse → Detail → Outcome → Drained → Drained → ℕ → Type 0

@@ -11,6 +11,7 @@ use crate::files::Files;
 use crate::running::answer;
 use command_words::Request;
 use effective_area::HeapLinks;
+use explanations::Observed;
 use inputs::{BuildFault, FileFault};
 use reports::Report;
 use std::alloc::Global;
@@ -37,6 +38,7 @@ fn unkept(is_build: bool, sent: u64) -> Ending
 pub(crate) fn deliver<F: Files>(
     alloc: Global,
     reducer: &mut HeapLinks,
+    observed: &mut Observed,
     request: &Request<'_>,
     path: &str,
     files: &mut F,
@@ -49,7 +51,7 @@ pub(crate) fn deliver<F: Files>(
     let Some(mut output) = files.begin(path) else {
         return Err(unkept(is_build, 0));
     };
-    match answer(alloc, reducer, request, files, &mut output) {
+    match answer(alloc, reducer, observed, request, files, &mut output) {
         Ok(report) => {
             let sent = output.sent();
             if files.keep(output.into_inner()) {

@@ -1,13 +1,14 @@
 // What is said in words of how a request came out.
 ghost use Rattle.mapchain_cli.specs.Files.{OnlyReads, used};
+ghost use Rattle.mapchain_cli.specs.Following.{ReadsNothing};
 
 use crate::ending::Ending;
 use crate::files::Files;
 use byte_ends::{MAX_INPUT, ReadFault, read_all};
 use command_words::{Order, Request};
 use explanations::{
-    Bounds, FileKind, bad_area, bad_share, built, built_layer, grid_step, layer_fault, other_parts,
-    simplified_topology, topology_contents, topology_fault, unopened, unwritten_output,
+    FileKind, Observed, bad_area, bad_share, built, layer_fault, other_parts, topology_contents,
+    topology_fault, unopened, unwritten_output,
 };
 use inputs::{BuildFault, FileFault};
 use reports::Report;
@@ -93,65 +94,10 @@ fn explain_file<F: Files>(
     topology_fault(alloc, path, bytes.as_deref(), fault)
 }
 
-/// What became of a layer that was built.
-fn explain_built_layer<F: Files>(
-    alloc: Global,
-    layer: usize,
-    path: &str,
-    report: &Report,
-    bounds: &mut Bounds,
-    files: &mut F,
-) -> Result<String, AllocError>
-    ensures { OnlyReads (used (F.state files.old) (F.state files.new)) }
-{
-    match read_again(alloc, path, files) {
-        Some(bytes) => built_layer(
-            alloc,
-            layer,
-            bytes.as_slice(),
-            report.dropped.as_slice(),
-            bounds,
-        ),
-        None => Ok(String::new(alloc)),
-    }
-}
-
-/// What became of layers that were built, on a grid of so many cells, if on one.
-fn explain_built<F: Files>(
-    alloc: Global,
-    layers: &[(&str, &str)],
-    grid: Option<u32>,
-    report: &Report,
-    files: &mut F,
-) -> Result<String, AllocError>
-    ensures { OnlyReads (used (F.state files.old) (F.state files.new)) }
-{
+/// What became of what was built or simplified, of which nothing is read again.
+fn explain_made(alloc: Global, report: &Report, observed: &Observed) -> Result<String, AllocError> {
     let mut text = built(alloc, report)?;
-    let mut bounds = Bounds::none();
-    'layers: for (layer, (_name, path)) in layers.iter().enumerate() {
-        let of_layer = explain_built_layer(alloc, layer, path, report, &mut bounds, files)?;
-        text.push_str(of_layer.as_str())?;
-    }
-    if let Some(cells) = grid {
-        text.push_str(grid_step(alloc, &bounds, cells)?.as_str())?;
-    }
-    Ok(text)
-}
-
-/// What became of a topology that was simplified.
-fn explain_simplified<F: Files>(
-    alloc: Global,
-    path: &str,
-    report: &Report,
-    files: &mut F,
-) -> Result<String, AllocError>
-    ensures { OnlyReads (used (F.state files.old) (F.state files.new)) }
-{
-    let mut text = built(alloc, report)?;
-    if let Some(bytes) = read_again(alloc, path, files) {
-        let of_file = simplified_topology(alloc, bytes.as_slice(), report.dropped.as_slice())?;
-        text.push_str(of_file.as_str())?;
-    }
+    text.push_str(observed.lines()?)?;
     Ok(text)
 }
 
@@ -165,23 +111,16 @@ fn explain_summary<F: Files>(alloc: Global, path: &str, files: &mut F) -> Result
     }
 }
 
-/// What became of a request that is done, with this report of a build or of simplifying.
+/// What is said of a request that is done and has no report.
 fn explain_done<F: Files>(
     alloc: Global,
     request: &Request<'_>,
-    report: Option<&Report>,
     files: &mut F,
 ) -> Result<String, AllocError>
     ensures { OnlyReads (used (F.state files.old) (F.state files.new)) }
 {
-    match (request, report) {
-        (Request::Build { layers, grid, .. }, Some(report)) => {
-            explain_built(alloc, layers.as_slice(), *grid, report, files)
-        }
-        (Request::Simplify { path, .. }, Some(report)) => {
-            explain_simplified(alloc, path, report, files)
-        }
-        (Request::Stat { path, .. }, _) => explain_summary(alloc, path, files),
+    match request {
+        Request::Stat { path, .. } => explain_summary(alloc, path, files),
         _ => Ok(String::new(alloc)),
     }
 }
@@ -265,12 +204,15 @@ fn explain<F: Files>(
     alloc: Global,
     order: &Order<'_>,
     outcome: &Result<Option<Report>, Ending>,
+    observed: &Observed,
     files: &mut F,
 ) -> Result<String, AllocError>
-    ensures { OnlyReads (used (F.state files.old) (F.state files.new)) }
+    ensures reads { OnlyReads (used (F.state files.old) (F.state files.new)) }
+    ensures unread { ReadsNothing outcome.now (F.state files.old) (F.state files.new) }
 {
     let mut text = match outcome {
-        Ok(report) => explain_done(alloc, &order.request, report.as_ref(), files)?,
+        Ok(Some(report)) => explain_made(alloc, report, observed)?,
+        Ok(None) => explain_done(alloc, &order.request, files)?,
         Err(ending) => explain_refused(alloc, order, ending, files)?,
     };
     text.push_str(explain_parts(alloc, order, files)?.as_str())?;
@@ -282,9 +224,16 @@ pub(crate) fn explanation_of<F: Files>(
     alloc: Global,
     order: &Order<'_>,
     outcome: &Result<Option<Report>, Ending>,
+    observed: &Observed,
     files: &mut F,
 ) -> String
-    ensures { OnlyReads (used (F.state files.old) (F.state files.new)) }
+    ensures reads { OnlyReads (used (F.state files.old) (F.state files.new)) }
+    ensures unread { ReadsNothing outcome.now (F.state files.old) (F.state files.new) }
 {
-    explain(alloc, order, outcome, files).unwrap_or(String::new(alloc))
+    explain(alloc, order, outcome, observed, files).unwrap_or(String::new(alloc))
+}
+
+/// Why the report of the run isn't written to the file of this path: nothing for want of memory.
+pub(crate) fn unwritten_report<F: Files>(alloc: Global, path: &str, files: &F) -> String {
+    unwritten_output(alloc, Some(path), files.write_failure()).unwrap_or(String::new(alloc))
 }

@@ -15,8 +15,9 @@ ghost use Rattle.mapchain_cli.specs.Files.{IsOpened, Opened, RefusedAfter, used}
 use crate::files::Files;
 use byte_ends::{Drain, Feed, ReadFault, Sink, Source, flush_after};
 use effective_area::HeapLinks;
+use explanations::Observed;
 use inputs::FileFault;
-use mapchain_engine::{Guards, Level, simplify, stat, stat_with_crossings, to_geo};
+use mapchain_engine::{Guards, Level, simplify_watched, stat, stat_with_crossings, to_geo};
 use reports::{Report, Summary, summary_text};
 use std::alloc::Global;
 
@@ -56,6 +57,7 @@ pub(crate) fn decode_object<F: Files, V: Drain>(
 pub(crate) fn simplify_file<F: Files, V: Drain>(
     alloc: Global,
     reducer: &mut HeapLinks,
+    observed: &mut Observed,
     guards: Guards,
     level: Level,
     ring_limit: u128,
@@ -72,7 +74,16 @@ pub(crate) fn simplify_file<F: Files, V: Drain>(
         (λ s u. IsSimplifyFault guards level ring_limit s u out.old out.new) e) }
 {
     let mut source = open_file(path, files)?;
-    let simplified = simplify(alloc, reducer, &mut source, guards, level, ring_limit, out);
+    let simplified = simplify_watched(
+        alloc,
+        reducer,
+        &mut source,
+        guards,
+        level,
+        ring_limit,
+        out,
+        observed,
+    );
     files.done_with(&source);
     let report = simplified?;
     Ok(report)

@@ -3,17 +3,17 @@ ghost use Rattle.std.specs.Prelude.{◌≡◌, false, true};
 ghost use Rattle.command_words.specs.Asked.{detail};
 ghost use Rattle.mapchain_cli.specs.Files.{used};
 ghost use Rattle.reports.specs.Printing.{Prints};
-ghost use Rattle.mapchain_cli.specs.Following.{Follows, IsFaultOf, IsReportOf, IsReported, IsUnwritten, PutsReport, PrintsIf, no_report};
+ghost use Rattle.mapchain_cli.specs.Following.{Follows, IsFaultOf, IsReportOf, IsReported, IsUnwritten, PutsReport, PrintsIf, TellsUnwritten, no_report};
 ghost use Rattle.mapchain_cli.specs.Following as spec;
 ghost use Rattle.mapchain_cli.specs.Performing as performing;
 
 use crate::ending::Ending;
-use crate::explaining::explanation_of;
+use crate::explaining::{explanation_of, unwritten_report};
 use crate::files::Files;
 use crate::printing::status_after;
 use byte_ends::{Drain, Sink, flush_after};
 use command_words::Order;
-use explanations::put_brief;
+use explanations::{Observed, put_brief};
 use reports::{FAILED, Report, RunFault, RunReport, print_text, write_run_report};
 use std::alloc::Global;
 
@@ -62,15 +62,6 @@ fn unreported(status: u8) -> u8
     if status == 0 { FAILED } else { status }
 }
 
-/// Prints that the report of the run couldn't be written, and gives the exit status.
-fn print_unreported<W: Drain>(status: u8, err: &mut Sink<W>) -> u8
-    ensures reported { Prints err.old err.new no_report }
-    ensures status { result ≡ spec.unreported status }
-{
-    print_text(b"error: F4 NoReport\n", err);
-    unreported(status)
-}
-
 /// Puts the report of a run in the place of the file of this path, and answers whether that was done.
 fn put_report<F: Files>(path: &str, run: &RunReport<'_>, files: &mut F) -> bool
     ensures written { result ≡ true → PutsReport (used (F.state files.old) (F.state files.new)) path.now run.now }
@@ -89,22 +80,40 @@ fn put_report<F: Files>(path: &str, run: &RunReport<'_>, files: &mut F) -> bool
     }
 }
 
-/// Writes the report of a run to the file of this path, or says that it can't be. The answer is the exit status.
-fn report_run<F: Files, W: Drain>(
+/// Prints that the report of the run couldn't be written to the file of this path, and why, if that is asked.
+fn print_unreported<F: Files, W: Drain>(
+    alloc: Global,
     path: &str,
+    explains: bool,
+    files: &F,
+    err: &mut Sink<W>,
+)
+    ensures { TellsUnwritten explains err.old err.new }
+{
+    print_text(b"error: F4 NoReport\n", err);
+    let reason = unwritten_report(alloc, path, files);
+    print_if(explains, reason.as_str(), err);
+}
+
+/// Writes the report of a run to the file of this path, or says that it can't be, and why, if that is asked. The answer is the exit status.
+fn report_run<F: Files, W: Drain>(
+    alloc: Global,
+    path: &str,
+    explains: bool,
     outcome: &Result<Option<Report>, Ending>,
     explanation: &str,
     files: &mut F,
     err: &mut Sink<W>,
 ) -> u8
-    ensures { IsReported (used (F.state files.old) (F.state files.new)) path.now outcome.now explanation.now err.old err.new result }
+    ensures { IsReported (used (F.state files.old) (F.state files.new)) path.now explains outcome.now explanation.now err.old err.new result }
 {
     let run = run_report(outcome, explanation);
     let status = run.status;
     if put_report(path, &run, files) {
         return status;
     }
-    print_unreported(status, err)
+    print_unreported(alloc, path, explains, files, err);
+    unreported(status)
 }
 
 /// Prints an explanation in brief where that is asked.
@@ -117,11 +126,17 @@ fn print_if<W: Drain>(is_asked: bool, text: &str, err: &mut Sink<W>)
     }
 }
 
+/// Whether more is to be said of a run than how it came out.
+pub(crate) fn is_followed(order: &Order<'_>) -> bool {
+    order.explains || order.report.is_some()
+}
+
 /// Explains a run that came out so, and writes its report, each where that is asked. The answer is the exit status.
 pub(crate) fn follow<F: Files, W: Drain>(
     alloc: Global,
     order: &Order<'_>,
     outcome: &Result<Option<Report>, Ending>,
+    observed: &Observed,
     files: &mut F,
     err: &mut Sink<W>,
 ) -> u8
@@ -131,10 +146,13 @@ pub(crate) fn follow<F: Files, W: Drain>(
     if !order.explains && order.report.is_none() {
         return status_after(outcome);
     }
-    let explanation = explanation_of(alloc, order, outcome, files);
+    let explanation = explanation_of(alloc, order, outcome, observed, files);
     print_if(order.explains, explanation.as_str(), err);
     match order.report {
         None => status_after(outcome),
-        Some(path) => report_run(path, outcome, explanation.as_str(), files, err),
+        Some(path) => {
+            let text = explanation.as_str();
+            report_run(alloc, path, order.explains, outcome, text, files, err)
+        }
     }
 }

@@ -19,7 +19,7 @@ mod running;
 pub use command_words::name_and_path;
 pub use counts::Counts;
 pub use ending::Ending;
-pub use explanations::{FileKind, WriteFailure};
+pub use explanations::{FileKind, Observed, WriteFailure};
 pub use files::Files;
 pub use json_value::OwnText;
 pub use notes::Notes;

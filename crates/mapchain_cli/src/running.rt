@@ -19,15 +19,16 @@ use crate::delivering::deliver;
 use crate::ending::Ending;
 use crate::file_running::{decode_object, simplify_file, summarise};
 use crate::files::Files;
-use crate::following::follow;
+use crate::following::{follow, is_followed};
 use crate::options::{level_and_limit, options_of};
 use crate::printing::{print_outcome, print_words_fault};
 use byte_ends::{Drain, ReadFault, Sink, Source};
 use command_words::{Order, Request, WordsFault, joined_words, read_words};
 use effective_area::HeapLinks;
+use explanations::Observed;
 use inputs::BuildFault;
 use json_value::OwnText;
-use mapchain_engine::{Guards, Options, build};
+use mapchain_engine::{Guards, Options, build_watched};
 use reports::Report;
 use std::alloc::Global;
 
@@ -60,6 +61,7 @@ fn open_layers<F: Files>(
 fn build_layers<F: Files, V: Drain>(
     alloc: Global,
     reducer: &mut HeapLinks,
+    observed: &mut Observed,
     layers: &[(&str, &str)],
     options: &Options,
     files: &mut F,
@@ -74,7 +76,14 @@ fn build_layers<F: Files, V: Drain>(
         × RefusesLayers (used (F.state files.old) (F.state files.new)) options.now (texts_of layers.now) out.old out.new fault)) }
 {
     let mut sources = open_layers(alloc, layers, files)?;
-    let built = build(alloc, reducer, sources.as_mut_slice(), options, out);
+    let built = build_watched(
+        alloc,
+        reducer,
+        sources.as_mut_slice(),
+        options,
+        out,
+        observed,
+    );
     files.done_with_all(&sources);
     let report = built?;
     Ok(report)
@@ -84,6 +93,7 @@ fn build_layers<F: Files, V: Drain>(
 pub(crate) fn answer<F: Files, V: Drain>(
     alloc: Global,
     reducer: &mut HeapLinks,
+    observed: &mut Observed,
     request: &Request<'_>,
     files: &mut F,
     out: &mut Sink<V>,
@@ -113,7 +123,15 @@ pub(crate) fn answer<F: Files, V: Drain>(
                 ring_area,
                 *no_crossings,
             )?;
-            let report = build_layers(alloc, reducer, layers.as_slice(), &options, files, out)?;
+            let report = build_layers(
+                alloc,
+                reducer,
+                observed,
+                layers.as_slice(),
+                &options,
+                files,
+                out,
+            )?;
             Ok(Some(report))
         }
         Request::Simplify {
@@ -128,7 +146,7 @@ pub(crate) fn answer<F: Files, V: Drain>(
             };
             let (level, ring_limit) = level_and_limit(alloc, area, *keep, ring_area, guards)?;
             let report = simplify_file(
-                alloc, reducer, guards, level, ring_limit, path, files, out,
+                alloc, reducer, observed, guards, level, ring_limit, path, files, out,
             )?;
             Ok(Some(report))
         }
@@ -144,10 +162,11 @@ pub(crate) fn answer<F: Files, V: Drain>(
 }
 
 /// Does what is asked for, by this reducer where lines are reduced, over standard output or over an output that takes the place of the
-/// file of this path. Gives the report of a build or of simplifying, or why it isn't done.
+/// file of this path. Gives the report of a build or of simplifying, or why it isn't done; what is observed says more of it.
 pub fn perform<F: Files, V: Drain>(
     alloc: Global,
     reducer: &mut HeapLinks,
+    observed: &mut Observed,
     request: &Request<'_>,
     output: Option<&str>,
     files: &mut F,
@@ -158,8 +177,8 @@ pub fn perform<F: Files, V: Drain>(
     ensures reduced { IfOk result (λ _. CallsFor (used (F.state files.old) (F.state files.new)) request.now reducer.old.calls reducer.new.calls) }
 {
     match output {
-        None => answer(alloc, reducer, request, files, out),
-        Some(path) => deliver(alloc, reducer, request, path, files),
+        None => answer(alloc, reducer, observed, request, files, out),
+        Some(path) => deliver(alloc, reducer, observed, request, path, files),
     }
 }
 
@@ -177,10 +196,19 @@ fn carry_out<F: Files, V: Drain, W: Drain>(
         (record { out = out.old; err = err.old }) (record { out = out.new; err = err.new }) result }
 {
     let mut reducer = HeapLinks::new();
+    let mut observed = Observed::new(alloc, is_followed(order));
     let request = &order.request;
-    let outcome = perform(alloc, &mut reducer, request, order.output, files, out);
+    let outcome = perform(
+        alloc,
+        &mut reducer,
+        &mut observed,
+        request,
+        order.output,
+        files,
+        out,
+    );
     print_outcome(order.quiet, &outcome, err);
-    follow(alloc, order, &outcome, files, err)
+    follow(alloc, order, &outcome, &observed, files, err)
 }
 
 /// Runs the program on these words, in which an option whose value may be any text and that value are one word.

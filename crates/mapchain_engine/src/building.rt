@@ -13,7 +13,7 @@ use crate::build_laws::layer_laws;
 use crate::options::Options;
 use byte_ends::{Drain, Feed, Sink, Source, flush_after};
 use effective_area::Reducer;
-use inputs::{BuildFault, check_names, read_layers};
+use inputs::{BuildFault, Unwatched, Watch, check_names, read_layers};
 use json_value::OwnText;
 use layer_topology::{topology_of_layers, written_laws, written_under_law};
 use reports::{Report, report_of};
@@ -44,12 +44,13 @@ fn building_laws()
 }
 
 /// Builds the topology of named layers, whose names are taken, and writes it.
-fn build_layers<Q: Reducer, R: Feed, W: Drain>(
+fn build_layers<Q: Reducer, R: Feed, W: Drain, K: Watch>(
     alloc: Global,
     reducer: &mut Q,
     sources: &mut [(OwnText, Source<R>)],
     options: &Options,
     sink: &mut Sink<W>,
+    watch: &mut K,
 ) -> Result<Report, BuildFault>
     requires names { name_fault (map (λ s. s.0) sources.old) ≡ None }
     requires texts { AllByRecursion IsUtf8 (map (λ s. s.0) sources.old) }
@@ -58,7 +59,7 @@ fn build_layers<Q: Reducer, R: Feed, W: Drain>(
     ensures refused { IfErr result (λ e. IsLateFault options.now sources.old sources.new sink.old sink.new e) }
 {
     building_laws();
-    let (layers, counts) = read_layers(alloc, sources, options.exact)?;
+    let (layers, counts) = read_layers(alloc, sources, options.exact, watch)?;
     let (topology, dropped, removed, chosen) = topology_of_layers(
         alloc,
         reducer,
@@ -71,6 +72,7 @@ fn build_layers<Q: Reducer, R: Feed, W: Drain>(
     )?;
     let report = report_of(counts, dropped, topology.arcs(), removed, chosen);
     let sent = send(&topology, sink);
+    watch.built(alloc, &topology, report.dropped.as_slice());
     drop(topology);
     match sent {
         Ok(()) => Ok(report),
@@ -117,6 +119,27 @@ pub fn build<Q: Reducer, R: Feed, W: Drain>(
     ensures decided { (bytes : Texts) (outcome : Outcome) → name_fault (map (λ s. s.0) sources.old) ≡ None
         → HaveBytesFor outcome sources.old bytes → HasOutcome options.now.exact bytes outcome → Follows options.now outcome result }
 {
+    build_watched(alloc, reducer, sources, options, sink, &mut Unwatched)
+}
+
+/// The same, and a `Watch` looks on: `build` by another name, with the same contract.
+pub fn build_watched<Q: Reducer, R: Feed, W: Drain, K: Watch>(
+    alloc: Global,
+    reducer: &mut Q,
+    sources: &mut [(OwnText, Source<R>)],
+    options: &Options,
+    sink: &mut Sink<W>,
+    watch: &mut K,
+) -> Result<Report, BuildFault>
+    ensures early { (e : BuildFault) → name_fault (map (λ s. s.0) sources.old) ≡ Some e
+        → (result ≡ Err e) × (sources.new ≡ sources.old) × (sink.new ≡ sink.old) }
+    ensures built { IfOk result (λ report. IsBuilt options.now sources.old sources.new sink.old sink.new report) }
+    ensures reduced { IfOk result (λ _. CallsForLayers options.now sources.old sources.new (Q.calls reducer.old) (Q.calls reducer.new)) }
+    ensures refused { IfErr result (λ e. (name_fault (map (λ s. s.0) sources.old) ≡ Some e)
+        ⊎ IsLateFault options.now sources.old sources.new sink.old sink.new e) }
+    ensures decided { (bytes : Texts) (outcome : Outcome) → name_fault (map (λ s. s.0) sources.old) ≡ None
+        → HaveBytesFor outcome sources.old bytes → HasOutcome options.now.exact bytes outcome → Follows options.now outcome result }
+{
     check_names(alloc, sources)?;
-    build_layers(alloc, reducer, sources, options, sink)
+    build_layers(alloc, reducer, sources, options, sink, watch)
 }

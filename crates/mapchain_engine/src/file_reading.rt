@@ -6,7 +6,7 @@ ghost use Rattle.mapchain_engine.specs.Files.{FailsToGive, IsBlankOf, IsNoTopolo
 
 use byte_ends::{Feed, MAX_INPUT, ReadFault, Source, read_all};
 use geojson_types::Counts;
-use inputs::FileFault;
+use inputs::{FileFault, Unwatched, Watch};
 use json_reading::JsonFault;
 use std::alloc::Global;
 use topojson_decoder::{Keeping, Parts, Refusal, read_parts, read_text};
@@ -44,6 +44,21 @@ fn topology_of(alloc: Global, bytes: &[u8]) -> Result<(Topology, Counts), FileFa
     }
 }
 
+/// The same, and a `Watch` looks on.
+fn topology_of_watched<K: Watch>(
+    alloc: Global,
+    bytes: &[u8],
+    watch: &mut K,
+) -> Result<(Topology, Counts), FileFault>
+    ensures { IsTopologyOf bytes.now result }
+{
+    let read = topology_of(alloc, bytes);
+    if read.is_ok() {
+        watch.file_read(alloc, bytes);
+    }
+    read
+}
+
 /// What the bytes spell, of whose features nothing is kept but that they are there; or why they spell no topology.
 fn blank_of(alloc: Global, bytes: &[u8]) -> Result<Parts, FileFault>
     ensures { IsBlankOf bytes.now result }
@@ -72,8 +87,19 @@ pub fn read_file<R: Feed>(
 ) -> Result<(Topology, Counts), FileFault>
     ensures { ReadsTopology source.old source.new result }
 {
+    read_watched(alloc, source, &mut Unwatched)
+}
+
+/// The same, and a `Watch` looks on.
+pub(crate) fn read_watched<R: Feed, K: Watch>(
+    alloc: Global,
+    source: &mut Source<R>,
+    watch: &mut K,
+) -> Result<(Topology, Counts), FileFault>
+    ensures { ReadsTopology source.old source.new result }
+{
     match bytes_of(alloc, source) {
-        Ok(bytes) => topology_of(alloc, &bytes),
+        Ok(bytes) => topology_of_watched(alloc, &bytes, watch),
         Err(fault) => Err(fault),
     }
 }

@@ -23,7 +23,7 @@ mod simplifying;
 mod summarising;
 
 pub use build_laws::read_layers_are_taken;
-pub use building::build;
+pub use building::{build, build_watched};
 pub use crossings::stat_with_crossings;
 pub use decoding::to_geo;
 pub use effective_area::threshold;
@@ -41,5 +41,5 @@ pub use layer_topology::{Guards, Level};
 pub use options::Options;
 pub use reports::{Report, Summary, report_text, summary_text};
 pub use simplify_laws::{simplified_is_one_outcome, simplified_text_is_utf8, text_is_simplified};
-pub use simplifying::simplify;
+pub use simplifying::{simplify, simplify_watched};
 pub use summarising::stat;

@@ -12,12 +12,12 @@ ghost use Rattle.mapchain_engine.specs.Geo.{SendsText};
 ghost use Rattle.mapchain_engine.specs.SimplifyOutcomes.{FollowsSimplified, simplified};
 ghost use Rattle.mapchain_engine.specs.Simplified.{CallsForTopology, IsReadAndSimplified, IsSimplified, IsSimplifyFault};
 
-use crate::file_reading::read_file;
+use crate::file_reading::read_watched;
 use crate::reducing::simplify_topology;
 use crate::simplify_laws::simplified_text_is_utf8;
 use byte_ends::{Drain, Feed, Sink, Source, flush_after};
 use effective_area::Reducer;
-use inputs::FileFault;
+use inputs::{FileFault, Unwatched, Watch};
 use layer_topology::{Guards, Level, simplified_under_law};
 use reports::Report;
 use std::alloc::Global;
@@ -26,13 +26,14 @@ use topojson_writer::write_topology;
 
 /// Reads a source to its end, and gives what is left of the topology that its bytes spell where its arcs are reduced, with the
 /// report.
-fn read_and_simplify<Q: Reducer, R: Feed>(
+fn read_and_simplify<Q: Reducer, R: Feed, K: Watch>(
     alloc: Global,
     reducer: &mut Q,
     source: &mut Source<R>,
     guards: Guards,
     level: Level,
     ring_limit: u128,
+    watch: &mut K,
 ) -> Result<(Topology, Report), FileFault>
     requires level { is_simplifying_level guards level ≡ true }
     requires limit { ring_limit ≤ threshold_limit }
@@ -40,7 +41,7 @@ fn read_and_simplify<Q: Reducer, R: Feed>(
     ensures reduced { IfOk result (λ _. CallsForTopology guards level source.old source.new (Q.calls reducer.old) (Q.calls reducer.new)) }
     ensures refused { IfErr result (λ e. FailsToGive source.old source.new e) }
 {
-    let (topology, counts) = read_file(alloc, source)?;
+    let (topology, counts) = read_watched(alloc, source, watch)?;
     let less = simplify_topology(alloc, reducer, topology, counts, guards, level, ring_limit)?;
     Ok(less)
 }
@@ -87,10 +88,38 @@ pub fn simplify<Q: Reducer, R: Feed, W: Drain>(
     ensures decided { (bytes : List ℕ) (outcome : Result (List ℕ × Reported) Fault) → source.old.left ≡ Some bytes → FileHasOutcome (simplified guards level ring_limit) bytes outcome
         → FollowsSimplified sink.old sink.new outcome result }
 {
+    let watch = &mut Unwatched;
+    simplify_watched(
+        alloc, reducer, source, guards, level, ring_limit, sink, watch,
+    )
+}
+
+/// The same, and a `Watch` looks on: `simplify` by another name, with the same contract.
+pub fn simplify_watched<Q: Reducer, R: Feed, W: Drain, K: Watch>(
+    alloc: Global,
+    reducer: &mut Q,
+    source: &mut Source<R>,
+    guards: Guards,
+    level: Level,
+    ring_limit: u128,
+    sink: &mut Sink<W>,
+    watch: &mut K,
+) -> Result<Report, FileFault>
+    requires level { is_simplifying_level guards level ≡ true }
+    requires limit { ring_limit ≤ threshold_limit }
+    ensures written { IfOk result (λ report. IsSimplified guards level ring_limit source.old source.new sink.old sink.new report) }
+    ensures reduced { IfOk result (λ _. CallsForTopology guards level source.old source.new (Q.calls reducer.old) (Q.calls reducer.new)) }
+    ensures refused { IfErr result (λ e. IsSimplifyFault guards level ring_limit source.old source.new sink.old sink.new e) }
+    ensures decided { (bytes : List ℕ) (outcome : Result (List ℕ × Reported) Fault) → source.old.left ≡ Some bytes → FileHasOutcome (simplified guards level ring_limit) bytes outcome
+        → FollowsSimplified sink.old sink.new outcome result }
+{
     simplified_text_is_utf8();
     simplified_under_law();
-    let (less, report) = read_and_simplify(alloc, reducer, source, guards, level, ring_limit)?;
+    let (less, report) = read_and_simplify(
+        alloc, reducer, source, guards, level, ring_limit, watch,
+    )?;
     let sent = send(&less, sink);
+    watch.simplified(alloc, &less, report.dropped.as_slice());
     drop(less);
     match sent {
         Ok(_) => Ok(report),

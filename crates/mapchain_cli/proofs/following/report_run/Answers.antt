@@ -5,5 +5,4 @@ use Rattle.mapchain_cli.proofs.following.report_run.Goals as goal
 pub returns : goal.returns
 returns g c =
     let is = c.run_report-run.ensures in
-    let reported = c.print_unreported.ensures in
-    (c.run_report-run.result, is, inr (c.if-put_report.ensures.unwritten refl, reported.reported, reported.status ∙ ap unreported is.status))
+    (c.run_report-run.result, is, inr (c.if-put_report.ensures.unwritten refl, c.print_unreported.ensures, c.unreported.ensures ∙ ap unreported is.status))

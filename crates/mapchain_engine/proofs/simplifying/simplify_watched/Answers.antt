@@ -1,7 +1,7 @@
 use Rattle.std.proofs.lemmas.Result.{err_from_is_err_and}
 use Rattle.mapchain_engine.proofs.SimplifyDecided.{fault_follows, simplified_follows}
 use Rattle.mapchain_engine.proofs.Whole.{cut_short, not_given, sent_whole}
-use Rattle.mapchain_engine.proofs.simplifying.simplify.Goals as goal
+use Rattle.mapchain_engine.proofs.simplifying.simplify_watched.Goals as goal
 
 pub returns-in_err-less-clause-refused : goal.returns-in_err-less-clause-refused
 returns-in_err-less-clause-refused g c =

@@ -2,7 +2,7 @@ use Rattle.std.proofs.Common.{◌∙◌, ap, refl, map, Err}
 use Rattle.std.proofs.lemmas.Result.{err_from_is_err_and}
 use Rattle.mapchain_engine.proofs.Built.{early_names}
 use Rattle.mapchain_engine.proofs.Decided as decided
-use Rattle.mapchain_engine.proofs.building.build.Goals as goal
+use Rattle.mapchain_engine.proofs.building.build_watched.Goals as goal
 
 pub returns-in_err-check_names-clause-early : goal.returns-in_err-check_names-clause-early
 returns-in_err-check_names-clause-early g c e early =

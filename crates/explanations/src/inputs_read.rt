@@ -1,0 +1,84 @@
+// What is said of an input that was taken: members that aren't read, and coordinates that seem to be something else.
+use crate::bounds::corners_of;
+use crate::escaping::quoted;
+use crate::unread::Unread;
+use geojson_meaning::Layer;
+use json_reading::{Fault, LAYER_DEPTH, value_at};
+use json_value::{Json, OwnText, find, need_text};
+use std::alloc::{AllocError, Global};
+
+/// The line for members that aren't read, if there are any. `place` is what stands before it: the layer, or nothing.
+fn unread_line(alloc: Global, place: &str, unread: &Unread<'_>) -> Result<String, AllocError> {
+    let bbox = unread.bbox;
+    let crs = unread.crs;
+    let others = unread.others;
+    if bbox == 0 && crs == 0 && others == 0 {
+        return Ok(String::new(alloc));
+    }
+    format!(in alloc; "  {place}left out \"bbox\" {bbox}, \"crs\" {crs}, other members {others}\n")
+}
+
+/// The line for a layer whose positions seem to have their latitude first, if they do. `place` is what stands before it.
+fn swapped_line(alloc: Global, place: &str, layer: &Layer) -> Result<String, AllocError> {
+    match corners_of(layer) {
+        Some(corners) if corners.seem_swapped() => format!(in alloc;
+            "  {place}every x is from -90 to 90 and some y isn't: if these are degrees, latitude and longitude are swapped, as GeoJSON has the longitude first\n"
+        ),
+        _ => Ok(String::new(alloc)),
+    }
+}
+
+/// The coordinate reference systems of degrees that GeoJSON of 2008 names mostly: how their names end.
+const DEGREES: [&str; 4] = ["CRS84", "EPSG::4326", "EPSG:4326", "EPSG::4269"];
+
+/// The name that the member `crs` of GeoJSON of 2008 gives, of this value.
+fn crs_name(crs: &Json) -> Option<&str> {
+    let Ok(Some(Json::Object(properties))) = find(crs.as_object()?, "properties") else {
+        return None;
+    };
+    need_text(properties.as_slice(), "name").ok()
+}
+
+/// The line for a layer that names a coordinate reference system which isn't of degrees. What stands from the value of its `crs` on is
+/// given, and `place` is what stands before the line.
+fn crs_line(alloc: Global, place: &str, bytes: &[u8]) -> Result<String, AllocError> {
+    let value = match value_at(alloc, LAYER_DEPTH, bytes) {
+        Ok((value, _)) => value,
+        Err(Fault::Memory) => return Err(AllocError),
+        Err(Fault::Malformed { .. }) => return Ok(String::new(alloc)),
+    };
+    let Some(name) = crs_name(&value) else {
+        return Ok(String::new(alloc));
+    };
+    if DEGREES.iter().any(|ending| name.ends_with(*ending)) {
+        return Ok(String::new(alloc));
+    }
+    let name = quoted(alloc, name)?;
+    format!(in alloc;
+        "  {place}its \"crs\" is {name}: coordinates are taken as they are, so areas are in square units of it, not in square degrees\n"
+    )
+}
+
+/// What is said of the layer of this number, which the bytes spell: a line for the members that aren't read; one where it says that its
+/// coordinates aren't degrees; and one where latitude and longitude seem to be swapped.
+pub(crate) fn layer_lines(
+    alloc: Global,
+    number: usize,
+    bytes: &[u8],
+    layer: &Layer,
+) -> Result<String, AllocError> {
+    let place = format!(in alloc; "layer {number}: ")?;
+    let unread = Unread::of_layer(alloc, bytes)?;
+    let mut lines = unread_line(alloc, place.as_str(), &unread)?;
+    if let Some(crs) = unread.layer_crs {
+        lines.push_str(crs_line(alloc, place.as_str(), crs)?.as_str())?;
+    }
+    lines.push_str(swapped_line(alloc, place.as_str(), layer)?.as_str())?;
+    Ok(lines)
+}
+
+/// What is said of the topology that the bytes spell: a line for the members that aren't read.
+pub(crate) fn file_lines(alloc: Global, bytes: &[u8]) -> Result<String, AllocError> {
+    let unread = Unread::of_topology(alloc, bytes)?;
+    unread_line(alloc, "", &unread)
+}

@@ -1,0 +1,26 @@
+// Looking on while inputs are read.
+use geojson_meaning::{Dropped, Layer};
+use std::alloc::Global;
+use topojson_types::Topology;
+
+/// What looks on while inputs are read and a topology is made of them, so that more can be said of the run and nothing is read again for
+/// it. Nothing that is written rests on it.
+pub trait Watch {
+    /// The next layer is read, which these bytes spell.
+    fn layer_read(&mut self, _alloc: Global, _bytes: &[u8], _layer: &Layer) {}
+
+    /// The file of a topology is read, which these bytes spell.
+    fn file_read(&mut self, _alloc: Global, _bytes: &[u8]) {}
+
+    /// The topology of the layers is written, without these lines and rings, in reading order.
+    fn built(&mut self, _alloc: Global, _topology: &Topology, _dropped: &[Dropped]) {}
+
+    /// What is left of the topology of a file is written, without these lines and rings, in reading order.
+    fn simplified(&mut self, _alloc: Global, _topology: &Topology, _dropped: &[Dropped]) {}
+}
+
+/// Nobody looks on.
+#[derive(Drop)]
+pub struct Unwatched;
+
+impl Watch for Unwatched {}

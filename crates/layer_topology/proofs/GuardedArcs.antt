@@ -1,5 +1,5 @@
 -- Arcs of which some are reduced at once and the others stay whole.
-use Rattle.std.proofs.Common.{◌≡◌, ℕ, zero, suc, Bool, true, false, cond, List, [], ◌∷◌, map, length, refl, subst, sym, ap, ◌∙◌, arith}
+use Rattle.std.proofs.Common.{◌≡◌, ℕ, zero, suc, Bool, true, false, cond, List, [], ◌∷◌, map, length, Option, refl, subst, sym, ap, ◌∙◌, arith}
 use Rattle.std.specs.Prelude.{not}
 use Rattle.build_meaning.specs.Built.{built, untrimmed}
 use Rattle.build_meaning.specs.Laws.{AreSound}
@@ -10,9 +10,10 @@ use Rattle.geometry.specs.Joins.{or_empty, first_of}
 use Rattle.geometry.specs.Lists.{tail}
 use Rattle.geometry.specs.Points.{Point}
 use Rattle.guarded_meaning.specs.Elimination.{Guard, reduce_arcs}
-use Rattle.guarded_meaning.specs.Guards.{guarded_by}
 use Rattle.guarded_meaning.specs.Laws.{ArcsRise}
 use Rattle.guarded_meaning.specs.Lists.{EachTo}
+use Rattle.layer_topology.specs.GuardedLevels.{guarded_chosen, guarded_threshold, reduced_by}
+use Rattle.layer_topology.specs.declared.level.Level.{Level}
 use Rattle.simplified_topology.specs.Assembled.{arcs_of_layers}
 use Rattle.simplified_topology.specs.Guarded.{all_indexes, arc_positions, spread, guarded_arc_indexes}
 use Rattle.simplified_topology.specs.Simplified.{EachFromFirstToLast, retained, retained_arcs}
@@ -73,21 +74,25 @@ module _ (passes : ℕ → Bool) where
           ap (λ b. cond (not b) (retained (all_indexes ps) ps ∷ rest) rest) e ∙ ap (λ a. a ∷ rest) (all_retained ps) ∙ ap (λ more. ps ∷ more) (f kept)
 
   -- of arcs that are split by such flags, the first reduced, and put together again
-  pub guarded_are : (guard : Guard) (t : ℕ) (flags : List Bool) (arcs marked others reduced whole left : List (List Point)) → flags ≡ answers passes 0 (length arcs)
-      → EachFromFirstToLast (reduce_arcs guard t (keep_from passes 0 arcs)) (keep_from passes 0 arcs)
-      → marked ≡ chosen flags arcs → others ≡ chosen (map not flags) arcs → reduced ≡ retained_arcs (reduce_arcs guard t marked) marked → whole ≡ others
+  pub guarded_are : (by : List (List Point) → List (List ℕ)) (flags : List Bool) (arcs marked others reduced whole left : List (List Point)) → flags ≡ answers passes 0 (length arcs)
+      → EachFromFirstToLast (by (keep_from passes 0 arcs)) (keep_from passes 0 arcs)
+      → marked ≡ chosen flags arcs → others ≡ chosen (map not flags) arcs → reduced ≡ retained_arcs (by marked) marked → whole ≡ others
       → ((all : List (List Point)) → length all ≡ length flags → reduced ≡ chosen flags all → whole ≡ chosen (map not flags) all → left ≡ all)
-      → left ≡ retained_arcs (spread passes 0 (reduce_arcs guard t (keep_from passes 0 arcs)) arcs) arcs
-  guarded_are guard t flags arcs marked others reduced whole left are through m o r w f =
-      let kept = reduce_arcs guard t (keep_from passes 0 arcs) in
+      → left ≡ retained_arcs (spread passes 0 (by (keep_from passes 0 arcs)) arcs) arcs
+  guarded_are by flags arcs marked others reduced whole left are through m o r w f =
+      let kept = by (keep_from passes 0 arcs) in
       let all : List (List Point) = retained_arcs (spread passes 0 kept arcs) arcs in
       let many : length all ≡ length arcs = spread_many passes 0 kept arcs in
       let not_are : map not flags ≡ answers (λ i. not (passes i)) 0 (length arcs) = ap (map not) are ∙ nots passes 0 (length arcs) in
       let first : marked ≡ keep_from passes 0 arcs = m ∙ chosen_as passes (length arcs) flags arcs are refl in
       let second : others ≡ keep_from (λ i. not (passes i)) 0 arcs = o ∙ chosen_as (λ i. not (passes i)) (length arcs) (map not flags) arcs not_are refl in
       f all (many ∙ sym (ap length are ∙ answers_many passes 0 (length arcs)))
-      (r ∙ ap (λ xs. retained_arcs (reduce_arcs guard t xs) xs) first ∙ sym (spread_left passes 0 kept arcs through) ∙ sym (chosen_as passes (length arcs) flags all are (sym many)))
+      (r ∙ ap (λ xs. retained_arcs (by xs) xs) first ∙ sym (spread_left passes 0 kept arcs through) ∙ sym (chosen_as passes (length arcs) flags all are (sym many)))
       (w ∙ second ∙ sym (spread_others 0 kept arcs) ∙ sym (chosen_as (λ i. not (passes i)) (length arcs) (map not flags) all not_are (sym many)))
+
+  -- those that are marked are those that pass
+  pub marked_are : (flags : List Bool) (arcs marked : List (List Point)) → flags ≡ answers passes 0 (length arcs) → marked ≡ chosen flags arcs → marked ≡ keep_from passes 0 arcs
+  marked_are flags arcs marked are m = m ∙ chosen_as passes (length arcs) flags arcs are refl
 
 -- ---- the arcs of layers
 
@@ -95,26 +100,42 @@ answers_same : {X : Type 0} (f g : ℕ → X) → ((n : ℕ) → f n ≡ g n) �
 answers_same f g same n zero = refl
 answers_same f g same n (suc count) = ap (λ x. x ∷ answers f (suc n) count) (same n) ∙ ap (λ xs. g n ∷ xs) (answers_same f g same (suc n) count)
 
-module _ (ls : Named) (t : ℕ) where
+module _ (ls : Named) (level : Level) where
   abbrev used : ℕ → Bool
   used = is_used (untrimmed 0 0 ls).objects
 
-  -- the lists of the arcs that the draft uses, spread over all, are those of the layers' arcs
-  spread_of_layers : ZeroLaw → spread used 0 (reduce_arcs (guarded_by true []) t (keep_from used 0 (arcs_of_layers ls))) (arcs_of_layers ls) ≡ guarded_arc_indexes true t ls
-  spread_of_layers stays = ap (λ arcs. spread used 0 (reduce_arcs (guarded_by true []) t arcs) (arcs_of_layers ls)) (sym (built_positions ls ∙ built_arcs ls stays))
+  -- the threshold of the arcs of what is built of the layers at zero
+  abbrev t : ℕ
+  t = guarded_threshold true [] level (arc_positions (built 0 0 ls))
 
-  pub left_of_layers : ZeroLaw → ArcsRise → DraftUsesAtZero → (objects : List (List ℕ × TopoObject)) (flags : List Bool) (arcs left : List (List Point)) → IsDraftOf ls objects → arcs ≡ arcs_of_layers ls
-      → flags ≡ answers (is_used (objects_pruned with_refs objects)) 0 (length arcs)
-      → ((passes : ℕ → Bool) → flags ≡ answers passes 0 (length arcs) → EachFromFirstToLast (reduce_arcs (guarded_by true []) t (keep_from passes 0 arcs)) (keep_from passes 0 arcs)
-      → left ≡ retained_arcs (spread passes 0 (reduce_arcs (guarded_by true []) t (keep_from passes 0 arcs)) arcs) arcs)
-      → left ≡ retained_arcs (guarded_arc_indexes true t ls) (arcs_of_layers ls)
-  left_of_layers stays rise uses objects flags arcs left draft are flagged f =
-      let arcs_are : arc_positions (built 0 0 ls) ≡ keep_from used 0 (arcs_of_layers ls) = built_positions ls ∙ built_arcs ls stays in
-      let through : EachFromFirstToLast (reduce_arcs (guarded_by true []) t (keep_from used 0 arcs)) (keep_from used 0 arcs) =
-      subst (λ xs. EachFromFirstToLast (reduce_arcs (guarded_by true []) t (keep_from used 0 xs)) (keep_from used 0 xs)) (sym are)
-      (subst (λ xs. EachFromFirstToLast (reduce_arcs (guarded_by true []) t xs) (keep_from used 0 (arcs_of_layers ls))) arcs_are (built_through ls stays rise true t draft.sound)) in
-      let same : answers (is_used (objects_pruned with_refs objects)) 0 (length arcs) ≡ answers used 0 (length arcs) =
-      answers_same (is_used (objects_pruned with_refs objects)) used (λ n. ap (λ os. is_used (objects_pruned with_refs os) n) draft.drafted ∙ uses ls n draft.sound) 0 (length arcs) in
-      f used (flagged ∙ same) through
-      ∙ ap (λ xs. retained_arcs (spread used 0 (reduce_arcs (guarded_by true []) t (keep_from used 0 xs)) xs) xs) are
-      ∙ ap (λ kept. retained_arcs kept (arcs_of_layers ls)) (spread_of_layers stays)
+  -- these arcs are those that the draft uses
+  arcs_are : ZeroLaw → arc_positions (built 0 0 ls) ≡ keep_from used 0 (arcs_of_layers ls)
+  arcs_are stays = built_positions ls ∙ built_arcs ls stays
+
+  -- the lists of the arcs that the draft uses, spread over all, are those of the layers' arcs
+  spread_of_layers : ZeroLaw → spread used 0 (reduced_by level (keep_from used 0 (arcs_of_layers ls))) (arcs_of_layers ls) ≡ guarded_arc_indexes true t ls
+  spread_of_layers stays = ap (λ arcs. spread used 0 (reduced_by level arcs) (arcs_of_layers ls)) (sym (arcs_are stays))
+
+  module _ (uses : DraftUsesAtZero) (objects : List (List ℕ × TopoObject)) (flags : List Bool) (arcs : List (List Point)) (draft : IsDraftOf ls objects) (are : arcs ≡ arcs_of_layers ls)
+      (flagged : flags ≡ answers (is_used (objects_pruned with_refs objects)) 0 (length arcs)) where
+    flags_are : flags ≡ answers used 0 (length arcs)
+    flags_are = flagged
+        ∙ answers_same (is_used (objects_pruned with_refs objects)) used (λ n. ap (λ os. is_used (objects_pruned with_refs os) n) draft.drafted ∙ uses ls n draft.sound) 0 (length arcs)
+
+    pub left_of_layers : ZeroLaw → ArcsRise → (left : List (List Point))
+        → ((passes : ℕ → Bool) → flags ≡ answers passes 0 (length arcs) → EachFromFirstToLast (reduced_by level (keep_from passes 0 arcs)) (keep_from passes 0 arcs)
+        → left ≡ retained_arcs (spread passes 0 (reduced_by level (keep_from passes 0 arcs)) arcs) arcs)
+        → left ≡ retained_arcs (guarded_arc_indexes true t ls) (arcs_of_layers ls)
+    left_of_layers stays rise left f =
+        let through : EachFromFirstToLast (reduced_by level (keep_from used 0 arcs)) (keep_from used 0 arcs) =
+        subst (λ xs. EachFromFirstToLast (reduced_by level (keep_from used 0 xs)) (keep_from used 0 xs)) (sym are)
+        (subst (λ xs. EachFromFirstToLast (reduced_by level xs) (keep_from used 0 (arcs_of_layers ls))) (arcs_are stays) (built_through ls stays rise true t draft.sound)) in
+        f used flags_are through
+        ∙ ap (λ xs. retained_arcs (spread used 0 (reduced_by level (keep_from used 0 xs)) xs) xs) are
+        ∙ ap (λ kept. retained_arcs kept (arcs_of_layers ls)) (spread_of_layers stays)
+
+    -- and the threshold is that of these arcs
+    pub chosen_of_layers : ZeroLaw → (chosen : Option ℕ) → ((passes : ℕ → Bool) → flags ≡ answers passes 0 (length arcs) → chosen ≡ guarded_chosen true [] level (keep_from passes 0 arcs))
+        → chosen ≡ guarded_chosen true [] level (arc_positions (built 0 0 ls))
+    chosen_of_layers stays chosen f =
+        f used flags_are ∙ ap (λ xs. guarded_chosen true [] level (keep_from used 0 xs)) are ∙ ap (guarded_chosen true [] level) (sym (arcs_are stays))

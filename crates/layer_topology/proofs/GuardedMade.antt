@@ -6,21 +6,30 @@ use Rattle.build_meaning.specs.Laws.{AreSound}
 use Rattle.build_meaning.specs.Layers.{Named}
 use Rattle.build_meaning.proofs.Renumbered.{built_has_no_transform}
 use Rattle.build_meaning.specs.Trimming.{trimmed}
+use Rattle.elimination_meaning.specs.Laws.{NoneIsNew}
 use Rattle.geometry.specs.Points.{Point}
-use Rattle.grid_snap.specs.Axes.{Axes}
+use Rattle.grid_snap.specs.Axes.{Axes, cell}
 use Rattle.layer_topology.specs.declared.guards.Guards.{Guards}
+use Rattle.layer_topology.specs.declared.level.Level.{Level}
 use Rattle.layer_topology.specs.GuardedLaws.{GuardedIsAssembledOf}
+use Rattle.layer_topology.specs.GuardedLevels.{guarded_chosen, guarded_threshold, level_chosen_under, level_threshold_under, made_chosen, made_threshold}
 use Rattle.layer_topology.specs.GuardedWritten.{made_under, written_under}
+use Rattle.layer_topology.specs.Levels.{level_chosen, level_threshold}
 use Rattle.layer_topology.specs.Written.{snapped_to, written, AreTaken}
 use Rattle.layer_topology.proofs.Laid.{snapped}
 use Rattle.simplified_topology.specs.Assembled.{assembled}
-use Rattle.simplified_topology.specs.Celled.{EachCell}
+use Rattle.simplified_topology.specs.Celled.{celled, EachCell, LiesBack}
 use Rattle.simplified_topology.specs.GridLaws.{BuiltCellsAreOn, SnappedAreOn}
-use Rattle.simplified_topology.specs.Guarded.{guarded_arc_indexes, guarded_contents, guarded_indexes}
+use Rattle.simplified_topology.specs.GridTransforms.{transform_of}
+use Rattle.simplified_topology.specs.Guarded.{arc_positions, guarded_arc_indexes, guarded_contents, guarded_indexes}
 use Rattle.simplified_topology.specs.GuardedLaws.{GuardedIsAssembled}
 use Rattle.simplified_topology.specs.Quantized.{AreOn, IsOn, named_grid, named_points, quantized}
 use Rattle.simplified_topology.specs.Simplified.{simplified_by}
+use Rattle.simplified_topology.proofs.BuiltCells.{built_cells}
+use Rattle.simplified_topology.proofs.Celled.{all_lie_back}
+use Rattle.simplified_topology.proofs.GuardedLayers.{built_positions}
 use Rattle.simplified_topology.proofs.Left.{left_cells}
+use Rattle.simplified_topology.proofs.OnGrid.{all_lie}
 use Rattle.topojson_types.specs.Topologies.{Contents}
 
 -- ---- what is assembled of layers
@@ -39,6 +48,30 @@ unfolding guarded_contents
 assembled_cells cells assembles g t limit ls on sound =
     subst (EachCell (IsOn g)) (assembles true None t limit ls (tt, all_free (named_points ls)) sound).contents
     (left_cells (IsOn g) (guarded_indexes true t (built 0 0 ls)) limit (built 0 0 ls) (cells g 0 0 ls on))
+
+-- ---- the arcs of what is built at zero are the same on the grid
+
+grid_arcs : NoneIsNew → (g : Option Axes) (ls : Named) → AreOn g ls → arc_positions (quantized g (built 0 0 ls)) ≡ arc_positions (built 0 0 ls)
+unfolding celled
+grid_arcs new None ls on = refl
+grid_arcs new (Some g) ls on =
+    all_lie_back (transform_of g) (cell g) (built 0 0 ls).arcs (built_cells new (LiesBack (transform_of g) (cell g)) 0 0 ls (all_lie g on.0 (named_points ls) on.1)).0 ∙ sym (built_positions ls)
+
+written_arcs : NoneIsNew → SnappedAreOn → (count : Option ℕ) (ls : Named) → AreTaken count ls → arc_positions (built 0 0 (snapped_to count ls)) ≡ arc_positions (written count 0 0 ls)
+unfolding written
+written_arcs new on count ls taken = sym (grid_arcs new (named_grid count ls) (snapped_to count ls) (snapped on count ls taken).on)
+
+-- so the threshold of snapped layers is that of what is written of the layers
+module _ (new : NoneIsNew) (on : SnappedAreOn) (guards : Guards) (level : Level) (count : Option ℕ) (ls s : Named) (moved : s ≡ snapped_to count ls) (taken : AreTaken count ls) where
+  pub same_threshold : made_threshold guards level s ≡ level_threshold_under guards count level ls
+  same_threshold =
+      ap (made_threshold guards level) moved
+      ∙ ap (λ arcs. cond guards.no_crossings (guarded_threshold true [] level arcs) (level_threshold count level ls)) (written_arcs new on count ls taken)
+
+  pub same_chosen : made_chosen guards level s ≡ level_chosen_under guards count level ls
+  same_chosen =
+      ap (made_chosen guards level) moved
+      ∙ ap (λ arcs. cond guards.no_crossings (guarded_chosen true [] level arcs) (level_chosen count level ls)) (written_arcs new on count ls taken)
 
 -- ---- with guards and without
 

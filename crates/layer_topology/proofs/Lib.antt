@@ -1,4 +1,6 @@
 pub mod Agreeing
+pub mod AtOnce
+pub mod AtOnceRows
 pub mod AtZero
 pub mod Chosen
 pub mod Covered

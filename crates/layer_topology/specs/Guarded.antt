@@ -1,5 +1,5 @@
 -- What is left of a topology where guards are asked for.
-use Rattle.std.specs.Prelude.{◌≡◌, ◌&&◌, ℕ, ◌≤◌, Bool, not, true, false, List, if◌then◌else◌}
+use Rattle.std.specs.Prelude.{◌≡◌, ℕ, ◌≤◌, Bool, true, false, List, if◌then◌else◌}
 use Rattle.geometry.specs.declared.address.Dropped.{Dropped}
 use Rattle.layer_topology.specs.Levels.{is_level}
 use Rattle.layer_topology.specs.declared.guards.Guards.{Guards}
@@ -13,10 +13,10 @@ use Rattle.topojson_types.specs.Topologies.{Contents}
 abbrev pub no_guards : Guards
 no_guards = record { no_crossings = false }
 
--- a topology may be simplified at this level under these guards: at any threshold, and by a share where crossings may be made
-abbrev pub is_simplifying_level : Guards → Level → Bool
-is_simplifying_level guards (Fixed t) = true
-is_simplifying_level guards (Share p q) = not guards.no_crossings && is_level (Share p q)
+-- a topology may be simplified at this level: at any threshold, and by a share
+abbrev pub is_simplifying_level : Level → Bool
+is_simplifying_level (Fixed t) = true
+is_simplifying_level (Share p q) = is_level (Share p q)
 
 -- with all arcs reduced at once, where crossings may not be made, and otherwise each by itself, and without the lines and rings that are
 -- then small by a limit

@@ -1,10 +1,15 @@
 -- What is true of what is left of a topology, and of what is written of layers, where guards are asked for.
-use Rattle.std.specs.Prelude.{◌≡◌, ℕ, ◌≤◌, true, Option, map}
+use Rattle.std.specs.Prelude.{◌≡◌, ℕ, ◌≤◌, ℤ, Bool, true, List, Option, map}
 use Rattle.std.specs.List.{AllByRecursion}
 use Rattle.build_meaning.specs.Layers.{Named, names_of}
 use Rattle.geojson_types.specs.Nesting.{feature_nesting}
+use Rattle.geometry.specs.Points.{Point}
+use Rattle.guarded_meaning.specs.Elimination.{reduced_arcs}
+use Rattle.guarded_meaning.specs.Guards.{guarded_by}
 use Rattle.layer_topology.specs.declared.guards.Guards.{Guards}
-use Rattle.layer_topology.specs.Guarded.{simplified_under, CrossesNoMore}
+use Rattle.layer_topology.specs.declared.level.Level.{Level}
+use Rattle.layer_topology.specs.Guarded.{is_simplifying_level, simplified_under, CrossesNoMore}
+use Rattle.layer_topology.specs.GuardedLevels.{guarded_threshold, KeepsShare, KeepsShareUnder}
 use Rattle.layer_topology.specs.GuardedWritten.{written_under}
 use Rattle.layer_topology.specs.Written.{snapped_to, written, AreTaken}
 use Rattle.simplified_topology.specs.Assembled.{assembled}
@@ -28,6 +33,14 @@ pub record IsLeftOf (guards : Guards) (t limit : ℕ) (y : Contents) : Type 0 wh
 
 abbrev pub SimplifiedUnderLaw : Type 0
 SimplifiedUnderLaw = (guards : Guards) (t limit : ℕ) (y : Contents) → IsLeftOf guards t limit y
+
+-- at the threshold that is chosen for it the share of the positions between the ends of arcs stays that are reduced at once
+abbrev pub ShareStaysAtOnce : Type 0
+ShareStaysAtOnce = (no_crossings : Bool) (rings : List (List ℤ)) (level : Level) (arcs : List (List Point)) → is_simplifying_level level ≡ true →
+    KeepsShare level arcs (reduced_arcs (guarded_by no_crossings rings) (guarded_threshold no_crossings rings level arcs) arcs)
+
+abbrev pub ShareStaysUnder : Type 0
+ShareStaysUnder = (guards : Guards) (level : Level) (arcs : List (List Point)) → is_simplifying_level level ≡ true → KeepsShareUnder guards level arcs
 
 -- ---- layers
 

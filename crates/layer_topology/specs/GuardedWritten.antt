@@ -1,5 +1,5 @@
 -- The topology that is written of layers where guards are asked for.
-use Rattle.std.specs.Prelude.{ℕ, Bool, true, ◌&&◌, not, List, [], Option, if◌then◌else◌}
+use Rattle.std.specs.Prelude.{ℕ, true, List, [], Option, if◌then◌else◌}
 use Rattle.build_meaning.specs.Built.{built, removed_count}
 use Rattle.build_meaning.specs.Expected.{expected_dropped}
 use Rattle.build_meaning.specs.Layers.{Named}
@@ -7,8 +7,7 @@ use Rattle.effective_area.specs.Calls.{Call}
 use Rattle.geometry.specs.declared.address.Dropped.{Dropped}
 use Rattle.layer_topology.specs.declared.guards.Guards.{Guards}
 use Rattle.layer_topology.specs.declared.level.Level.{Level}
-use Rattle.layer_topology.specs.declared.level.Level.TheVariants.{Fixed, Share}
-use Rattle.layer_topology.specs.Levels.{is_level, level_calls}
+use Rattle.layer_topology.specs.Levels.{level_calls}
 use Rattle.layer_topology.specs.Written.{snapped_to, written}
 use Rattle.simplified_topology.specs.Assembled.{assembled, assembled_dropped, assembled_removed_count}
 use Rattle.simplified_topology.specs.Guarded.{guarded_arc_indexes, guarded_contents}
@@ -44,12 +43,7 @@ lines_dropped_under guards count t limit ls = made_dropped_under guards t limit 
 abbrev pub positions_removed_under : Guards → Option ℕ → ℕ → ℕ → Named → ℕ
 positions_removed_under guards count t limit ls = made_removed_under guards t limit (snapped_to count ls)
 
--- ---- levels
-
--- the level may be asked for with these guards: a share only where crossings may be made
-abbrev pub is_level_under : Guards → Level → Bool
-is_level_under guards (Fixed t) = is_level (Fixed t)
-is_level_under guards (Share p q) = not guards.no_crossings && is_level (Share p q)
+-- ---- calls
 
 -- what a reducer is asked for: nothing where crossings may not be made, as all arcs are then reduced at once
 abbrev pub calls_under : Guards → Option ℕ → Level → Named → List Call

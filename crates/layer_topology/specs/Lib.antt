@@ -1,5 +1,6 @@
 pub mod Guarded
 pub mod GuardedLaws
+pub mod GuardedLevels
 pub mod GuardedWritten
 pub mod Laws
 pub mod Levels

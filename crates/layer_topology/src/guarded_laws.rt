@@ -1,8 +1,8 @@
 // Laws of the definitions. A function here changes nothing: its contract is the law.
-ghost use Rattle.layer_topology.specs.GuardedLaws.{GuardedAtZero, GuardedIsAssembledOf, SimplifiedUnderLaw, WrittenUnderLaw};
+ghost use Rattle.layer_topology.specs.GuardedLaws.{GuardedAtZero, GuardedIsAssembledOf, ShareStaysAtOnce, ShareStaysUnder, SimplifiedUnderLaw, WrittenUnderLaw};
 
 use crate::laws::{simplifies_to_written, written_laws};
-use guarded_meaning::kept_by_weight;
+use guarded_meaning::{kept_by_weight, share_stays};
 use simplified_topology::{
     guarded_crossings_never_rise, guarded_is_assembled, guarded_is_valid, guarded_keeps,
     guarded_none_stays_none, reduced_is_valid, simplified_keeps, snapped_are_on,
@@ -21,6 +21,15 @@ pub fn simplified_under_law()
     guarded_keeps();
     guarded_crossings_never_rise();
     guarded_none_stays_none();
+}
+
+/// Of arcs that are reduced at once at least the share stays that is asked for, whatever holds corners: of the positions between the ends, before
+/// any line is dropped.
+pub fn share_stays_at_once()
+    ensures at_once { ShareStaysAtOnce }
+    ensures under { ShareStaysUnder }
+{
+    share_stays();
 }
 
 /// What is written of layers under the guards that are asked for is valid, has the layers' names and the same identifiers and properties as

@@ -5,6 +5,7 @@
 //! `topology_of_layers` and the laws of `laws.rt`.
 #![tactic(auto)]
 
+mod at_once;
 mod cells;
 mod choosing;
 mod guarded_laws;
@@ -19,9 +20,11 @@ mod splitting;
 mod topology;
 mod transforms;
 
+pub use at_once::kept_at_once;
 pub use choosing::{reduced_line, weigh_arcs};
 pub use guarded_laws::{
-    guarded_at_zero, guarded_is_assembled_of, simplified_under_law, written_under_law,
+    guarded_at_zero, guarded_is_assembled_of, share_stays_at_once, simplified_under_law,
+    written_under_law,
 };
 pub use guards::Guards;
 pub use laws::{simplifies_to_written, written_laws};

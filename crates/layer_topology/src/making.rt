@@ -10,12 +10,14 @@ ghost use Rattle.cutter.specs.Slices.{split_of};
 ghost use Rattle.elimination_meaning.specs.Elimination.{reduce};
 ghost use Rattle.geometry.specs.Units.{threshold_limit};
 ghost use Rattle.simplified_topology.specs.Quantized.{AreInputs, IsCount, named_grid};
-ghost use Rattle.layer_topology.specs.GuardedWritten.{calls_under, is_level_under, lines_dropped_under, made_dropped_under, made_removed_under, made_under};
+ghost use Rattle.layer_topology.specs.Guarded.{is_simplifying_level};
+ghost use Rattle.layer_topology.specs.GuardedLevels.{guarded_chosen, guarded_threshold, level_chosen_under, level_threshold_under, made_chosen, made_threshold};
+ghost use Rattle.layer_topology.specs.GuardedWritten.{calls_under, lines_dropped_under, made_dropped_under, made_removed_under, made_under};
 ghost use Rattle.layer_topology.specs.GuardedWritten.{positions_removed_under, written_under};
-ghost use Rattle.layer_topology.specs.Levels.{calls_at, chosen_at, is_level, level_chosen, level_threshold, threshold_at};
+ghost use Rattle.layer_topology.specs.Levels.{calls_at, chosen_at, is_level, threshold_at};
 ghost use Rattle.layer_topology.specs.Written.{AreTaken, snapped_to};
 ghost use Rattle.simplified_topology.specs.Assembled.{arcs_of_layers, assembled, assembled_dropped, assembled_removed_count};
-ghost use Rattle.simplified_topology.specs.Guarded.{guarded_arc_indexes};
+ghost use Rattle.simplified_topology.specs.Guarded.{arc_positions, guarded_arc_indexes};
 ghost use Rattle.simplified_topology.specs.Simplified.{retained_arcs};
 ghost use Rattle.linework.specs.Linework.{linework};
 ghost use Rattle.topojson_types.specs.Validity.{AreDistinct};
@@ -31,7 +33,7 @@ use crate::topology::on_grid;
 use arc_table::Table;
 use cutter::{Pieces, cut};
 use effective_area::Reducer;
-use elimination_meaning::zero_law;
+use elimination_meaning::{nothing_is_new, zero_law};
 use geojson_types::{Dropped, Layer, Position};
 use grid_snap::Grid;
 use guarded_meaning::arcs_rise;
@@ -147,47 +149,59 @@ fn reduced_topology<Q: Reducer>(
     }
 }
 
-/// Of each arc of layers the positions that stay where those that the draft of the layers uses are reduced at once, no crossing may be
-/// made, and the others stay whole.
+/// Of each arc of layers the positions that stay where those that the draft of the layers uses are reduced at once at a level, no crossing
+/// may be made, and the others stay whole; and the threshold, where it was chosen.
 fn left_of_draft(
     alloc: Global,
     objects: &[(OwnText, TopoObject)],
     arcs: Vec<Items<Position>>,
-    threshold: u128,
-) -> Result<Vec<Items<Cell>>, Memory>
-    ensures { IfOk result (λ left. (ls : Named) → IsDraftOf ls objects.now → arcs.items ≡ arcs_of_layers ls
-        → left.items ≡ retained_arcs (guarded_arc_indexes true threshold ls) (arcs_of_layers ls)) }
+    level: Level,
+) -> Result<(Vec<Items<Cell>>, Option<u128>), Memory>
+    requires { is_simplifying_level level ≡ true }
+    ensures left { IfOk result (λ r. (ls : Named) → IsDraftOf ls objects.now → arcs.items ≡ arcs_of_layers ls
+        → r.0.items ≡ retained_arcs (guarded_arc_indexes true (guarded_threshold true [] level (arc_positions (built 0 0 ls))) ls) (arcs_of_layers ls)) }
+    ensures chosen { IfOk result (λ r. (ls : Named) → IsDraftOf ls objects.now → arcs.items ≡ arcs_of_layers ls
+        → r.1 ≡ guarded_chosen true [] level (arc_positions (built 0 0 ls))) }
 {
     draft_uses_at_zero();
     zero_law();
     arcs_rise();
     let used = draft_arcs(alloc, objects, arcs.len())?;
-    guarded_arcs(alloc, arcs, &used, threshold)
+    guarded_arcs(alloc, arcs, &used, level)
 }
 
 /// The topology that is assembled of a draft of layers whose arcs are reduced at once, where no crossing may be made, without rings under
-/// the limit, the lines and rings that are dropped, in reading order, and how many positions were removed from the arcs that stay.
+/// the limit, the lines and rings that are dropped, in reading order, how many positions were removed from the arcs that stay, and the
+/// threshold, where it was chosen.
 fn assembled_topology(
     alloc: Global,
     objects: Vec<(OwnText, TopoObject)>,
     arcs: Vec<Items<Position>>,
-    threshold: u128,
+    level: Level,
     ring_limit: u128,
-) -> Result<(Topology, Vec<Dropped>, u64), Memory>
+) -> Result<(Topology, Vec<Dropped>, u64, Option<u128>), Memory>
+    requires level { is_simplifying_level level ≡ true }
     requires draft { (ls : Named) × IsDraftOf ls objects.items × (arcs.items ≡ arcs_of_layers ls) }
     requires limit { ring_limit ≤ threshold_limit }
     ensures topology { IfOk result (λ r. (ls : Named) → IsDraftOf ls objects.items → arcs.items ≡ arcs_of_layers ls
-        → r.0 ≡ assembled (guarded_arc_indexes true threshold ls) ring_limit ls) }
+        → r.0 ≡ assembled (guarded_arc_indexes true (guarded_threshold true [] level (arc_positions (built 0 0 ls))) ls) ring_limit ls) }
     ensures dropped { IfOk result (λ r. (ls : Named) → IsDraftOf ls objects.items → arcs.items ≡ arcs_of_layers ls
-        → r.1.items ≡ assembled_dropped (guarded_arc_indexes true threshold ls) ring_limit ls) }
+        → r.1.items ≡ assembled_dropped (guarded_arc_indexes true (guarded_threshold true [] level (arc_positions (built 0 0 ls))) ls) ring_limit ls) }
     ensures removed_count { IfOk result (λ r. (ls : Named) → IsDraftOf ls objects.items → arcs.items ≡ arcs_of_layers ls
-        → r.2 ≡ saturated (assembled_removed_count (guarded_arc_indexes true threshold ls) ring_limit ls)) }
+        → r.2 ≡ saturated (assembled_removed_count (guarded_arc_indexes true (guarded_threshold true [] level (arc_positions (built 0 0 ls))) ls) ring_limit ls)) }
+    ensures chosen { IfOk result (λ r. (ls : Named) → IsDraftOf ls objects.items → arcs.items ≡ arcs_of_layers ls
+        → r.3 ≡ guarded_chosen true [] level (arc_positions (built 0 0 ls))) }
     ensures few { IfOk result (λ r. length r.0.arcs < 2 ^ 63) }
 {
     guarded_arc_indexes_reach();
     let counts = position_counts(alloc, &arcs)?;
-    match left_of_draft(alloc, &objects, arcs, threshold) {
-        Ok(left) => assemble_draft(alloc, objects, left, &counts, ring_limit),
+    match left_of_draft(alloc, &objects, arcs, level) {
+        Ok((left, chosen)) => {
+            let (topology, dropped, removed_count) = assemble_draft(
+                alloc, objects, left, &counts, ring_limit,
+            )?;
+            Ok((topology, dropped, removed_count, chosen))
+        }
         Err(fault) => {
             drop(objects);
             Err(fault)
@@ -201,22 +215,27 @@ fn guarded_topology(
     alloc: Global,
     seed: u64,
     layers: Vec<(OwnText, Layer)>,
-    threshold: u128,
+    level: Level,
     ring_limit: u128,
-) -> Result<(Topology, Vec<Dropped>, u64), Memory>
+) -> Result<(Topology, Vec<Dropped>, u64, Option<u128>), Memory>
+    requires level { is_simplifying_level level ≡ true }
     requires sound { AreSound layers.items }
     requires names { AreDistinct (names_of layers.items) }
     requires limit { ring_limit ≤ threshold_limit }
-    ensures topology { IfOk result (λ r. r.0 ≡ assembled (guarded_arc_indexes true threshold layers.items) ring_limit layers.items) }
-    ensures dropped { IfOk result (λ r. r.1.items ≡ assembled_dropped (guarded_arc_indexes true threshold layers.items) ring_limit layers.items) }
-    ensures removed_count { IfOk result (λ r. r.2 ≡ saturated (assembled_removed_count (guarded_arc_indexes true threshold layers.items) ring_limit layers.items)) }
+    ensures topology { IfOk result (λ r. r.0
+        ≡ assembled (guarded_arc_indexes true (guarded_threshold true [] level (arc_positions (built 0 0 layers.items))) layers.items) ring_limit layers.items) }
+    ensures dropped { IfOk result (λ r. r.1.items
+        ≡ assembled_dropped (guarded_arc_indexes true (guarded_threshold true [] level (arc_positions (built 0 0 layers.items))) layers.items) ring_limit layers.items) }
+    ensures removed_count { IfOk result (λ r. r.2
+        ≡ saturated (assembled_removed_count (guarded_arc_indexes true (guarded_threshold true [] level (arc_positions (built 0 0 layers.items))) layers.items) ring_limit layers.items)) }
+    ensures chosen { IfOk result (λ r. r.3 ≡ guarded_chosen true [] level (arc_positions (built 0 0 layers.items))) }
     ensures few { IfOk result (λ r. length r.0.arcs < 2 ^ 63) }
 {
     match shared_arcs(alloc, seed, &layers) {
         Ok(table) => {
             let (arcs, refs) = table.into_parts();
             let objects = drafted_objects(alloc, layers, refs)?;
-            assembled_topology(alloc, objects, arcs, threshold, ring_limit)
+            assembled_topology(alloc, objects, arcs, level, ring_limit)
         }
         Err(fault) => {
             drop(layers);
@@ -236,25 +255,21 @@ fn topology_under<Q: Reducer>(
     level: Level,
     ring_limit: u128,
 ) -> Result<(Topology, Vec<Dropped>, u64, Option<u128>), Memory>
-    requires level { is_level_under guards level ≡ true }
+    requires level { is_level level ≡ true }
     requires sound { AreSound layers.items }
     requires names { AreDistinct (names_of layers.items) }
     requires limit { ring_limit ≤ threshold_limit }
-    ensures topology { IfOk result (λ r. r.0 ≡ made_under guards (threshold_at level (arcs_of_layers layers.items)) ring_limit layers.items) }
-    ensures dropped { IfOk result (λ r. r.1.items ≡ made_dropped_under guards (threshold_at level (arcs_of_layers layers.items)) ring_limit layers.items) }
-    ensures removed_count { IfOk result (λ r. r.2 ≡ saturated (made_removed_under guards (threshold_at level (arcs_of_layers layers.items)) ring_limit layers.items)) }
-    ensures chosen { IfOk result (λ r. r.3 ≡ chosen_at level (arcs_of_layers layers.items)) }
+    ensures topology { IfOk result (λ r. r.0 ≡ made_under guards (made_threshold guards level layers.items) ring_limit layers.items) }
+    ensures dropped { IfOk result (λ r. r.1.items ≡ made_dropped_under guards (made_threshold guards level layers.items) ring_limit layers.items) }
+    ensures removed_count { IfOk result (λ r. r.2 ≡ saturated (made_removed_under guards (made_threshold guards level layers.items) ring_limit layers.items)) }
+    ensures chosen { IfOk result (λ r. r.3 ≡ made_chosen guards level layers.items) }
     ensures called { IfOk result (λ _. Q.calls reducer.new ≡ Q.calls reducer.old ++ (if guards.no_crossings then [] else calls_at level (arcs_of_layers layers.items))) }
     ensures few { IfOk result (λ r. length r.0.arcs < 2 ^ 63) }
 {
-    match level {
-        Level::Fixed(threshold) if guards.no_crossings => {
-            let (topology, dropped, removed_count) = guarded_topology(
-                alloc, seed, layers, threshold, ring_limit,
-            )?;
-            Ok((topology, dropped, removed_count, None))
-        }
-        _ => reduced_topology(alloc, reducer, seed, layers, level, ring_limit),
+    if guards.no_crossings {
+        guarded_topology(alloc, seed, layers, level, ring_limit)
+    } else {
+        reduced_topology(alloc, reducer, seed, layers, level, ring_limit)
     }
 }
 
@@ -276,9 +291,9 @@ fn snapped_layers(
 /// The topology of named layers: they are snapped to the grid that is asked for, if one is, the lines and rings are cut into the arcs
 /// that they share, each arc is reduced once at the threshold (twice an area, in square units) that the level gives or for which all arcs
 /// keep its share, rings that then enclose less than half the ring limit are left out, and positions on a grid become cells of it. Where
-/// the guards forbid crossings, the arcs that the topology has at zero are reduced at once in place of that, and the others stay whole. With
-/// it come the lines and rings that are dropped, in reading order, how many positions were removed from the arcs that stay, a count that
-/// stays at `u64::MAX` where it would pass it, and the threshold, where it was chosen.
+/// the guards forbid crossings, the arcs that the topology has at zero are reduced at once in place of that, a share is one of their positions,
+/// and the others stay whole. With it come the lines and rings that are dropped, in reading order, how many positions were removed from the
+/// arcs that stay, a count that stays at `u64::MAX` where it would pass it, and the threshold, where it was chosen.
 pub fn topology_of_layers<Q: Reducer>(
     alloc: Global,
     reducer: &mut Q,
@@ -289,18 +304,20 @@ pub fn topology_of_layers<Q: Reducer>(
     level: Level,
     ring_limit: u128,
 ) -> Result<(Topology, Vec<Dropped>, u64, Option<u128>), Memory>
-    requires level { is_level_under guards level ≡ true }
+    requires level { is_level level ≡ true }
     requires taken { AreTaken grid layers.items }
     requires limit { ring_limit ≤ threshold_limit }
-    ensures topology { IfOk result (λ r. r.0 ≡ written_under guards grid (level_threshold grid level layers.items) ring_limit layers.items) }
-    ensures dropped { IfOk result (λ r. r.1.items ≡ lines_dropped_under guards grid (level_threshold grid level layers.items) ring_limit layers.items) }
-    ensures removed_count { IfOk result (λ r. r.2 ≡ saturated (positions_removed_under guards grid (level_threshold grid level layers.items) ring_limit layers.items)) }
-    ensures chosen { IfOk result (λ r. r.3 ≡ level_chosen grid level layers.items) }
+    ensures topology { IfOk result (λ r. r.0 ≡ written_under guards grid (level_threshold_under guards grid level layers.items) ring_limit layers.items) }
+    ensures dropped { IfOk result (λ r. r.1.items ≡ lines_dropped_under guards grid (level_threshold_under guards grid level layers.items) ring_limit layers.items) }
+    ensures removed_count { IfOk result
+        (λ r. r.2 ≡ saturated (positions_removed_under guards grid (level_threshold_under guards grid level layers.items) ring_limit layers.items)) }
+    ensures chosen { IfOk result (λ r. r.3 ≡ level_chosen_under guards grid level layers.items) }
     ensures called { IfOk result (λ _. Q.calls reducer.new ≡ Q.calls reducer.old ++ calls_under guards grid level layers.items) }
     ensures few { IfOk result (λ r. length r.0.arcs < 2 ^ 63) }
 {
     snapped_are_on();
     built_cells_are_on();
+    nothing_is_new();
     guarded_is_assembled();
     guarded_is_assembled_of();
     let (snapped, grid) = snapped_layers(layers, grid);

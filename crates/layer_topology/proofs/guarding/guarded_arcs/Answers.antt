@@ -1,11 +1,14 @@
-use Rattle.std.proofs.Common.{[], true}
-use Rattle.std.proofs.lemmas.Result.{IfOk-weaker}
-use Rattle.guarded_meaning.specs.Guards.{guarded_by}
-use Rattle.layer_topology.proofs.GuardedArcs.{guarded_are}
+use Rattle.std.proofs.Common.{[], ◌∙◌, ap, true}
+use Rattle.layer_topology.specs.GuardedLevels.{guarded_chosen, reduced_by}
+use Rattle.layer_topology.proofs.GuardedArcs.{guarded_are, marked_are}
 use Rattle.layer_topology.proofs.guarding.guarded_arcs.Goals as goal
 
-pub returns : goal.returns
-returns c =
-    IfOk-weaker c.joined_arcs.result _ _
-    (λ left h passes are through. guarded_are passes (guarded_by true []) c.args.threshold c.args.used.now c.args.arcs.items c.in_ok-marked.marked.items c.in_ok-marked.others.items c.in_ok-reduced.reduced.items
-    c.in_ok-whole.whole.items left.items are through c.in_ok-marked.ensures.marked c.in_ok-marked.ensures.others c.in_ok-reduced.ensures c.in_ok-whole.ensures h) c.joined_arcs.ensures
+pub returns-clause-left : goal.returns-clause-left
+returns-clause-left c passes are through =
+    guarded_are passes (reduced_by c.args.level) c.args.used.now c.args.arcs.items c.in_ok-marked.marked.items c.in_ok-marked.others.items c.in_ok-reduced.reduced.items c.in_ok-whole.whole.items
+    c.in_ok-left.left.items are through c.in_ok-marked.ensures.marked c.in_ok-marked.ensures.others c.in_ok-reduced.ensures.left c.in_ok-whole.ensures c.in_ok-left.ensures
+
+pub returns-clause-chosen : goal.returns-clause-chosen
+returns-clause-chosen c passes are =
+    c.in_ok-reduced.ensures.chosen
+    ∙ ap (guarded_chosen true [] c.args.level) (marked_are passes c.args.used.now c.args.arcs.items c.in_ok-marked.marked.items are c.in_ok-marked.ensures.marked)

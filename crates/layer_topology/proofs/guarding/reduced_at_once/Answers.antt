@@ -8,5 +8,5 @@ use Rattle.layer_topology.proofs.guarding.reduced_at_once.Goals as goal
 
 pub positions_of_all-requires : goal.positions_of_all-requires
 positions_of_all-requires c =
-    ap length c.deref-2.ensures.value ∙ sym (length-map c.in_ok-kept.kept.items (λ k. k.items)) ∙ ap (λ (ks : List (List ℕ)). length ks) c.in_ok-kept.ensures
-    ∙ as_many c.arcs_rise.ensures (guarded_by true []) c.args.threshold c.deref.result.now ∙ ap (λ (arcs : List (List Point)). length arcs) (c.deref.ensures.value ∙ sym c.deref-3.ensures.value)
+    ap length c.deref-2.ensures.value ∙ sym (length-map c.in_ok-kept.kept.items (λ k. k.items)) ∙ ap (λ (ks : List (List ℕ)). length ks) c.in_ok-kept.ensures.kept
+    ∙ as_many c.arcs_rise.ensures (guarded_by true []) _ c.deref.result.now ∙ ap (λ (arcs : List (List Point)). length arcs) (c.deref.ensures.value ∙ sym c.deref-3.ensures.value)

@@ -25,3 +25,9 @@ returns-in_ok-objects-in-Ok-clause-removed_count c =
     let of = draft_of_table c.args.layers.items c.in-Ok.table c.into_parts-arcs.result.0.items c.into_parts-arcs.result.1.items c.in_ok-objects-in-Ok.objects.items (rw c.deref.ensures.value at c.in-Ok.ensures) c.into_parts-arcs.ensures.arcs
     c.into_parts-arcs.ensures.refs c.requires.sound c.requires.names c.in_ok-objects-in-Ok.ensures in
     IfOk-weaker c.assembled_topology.result _ _ (λ r h. h c.args.layers.items of.0 of.1) c.assembled_topology.ensures.removed_count
+
+pub returns-in_ok-objects-in-Ok-clause-chosen : goal.returns-in_ok-objects-in-Ok-clause-chosen
+returns-in_ok-objects-in-Ok-clause-chosen c =
+    let of = draft_of_table c.args.layers.items c.in-Ok.table c.into_parts-arcs.result.0.items c.into_parts-arcs.result.1.items c.in_ok-objects-in-Ok.objects.items (rw c.deref.ensures.value at c.in-Ok.ensures) c.into_parts-arcs.ensures.arcs
+    c.into_parts-arcs.ensures.refs c.requires.sound c.requires.names c.in_ok-objects-in-Ok.ensures in
+    IfOk-weaker c.assembled_topology.result _ _ (λ r h. h c.args.layers.items of.0 of.1) c.assembled_topology.ensures.chosen

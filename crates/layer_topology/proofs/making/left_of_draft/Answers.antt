@@ -4,13 +4,21 @@ use Rattle.build_meaning.specs.Trimming.{is_used}
 use Rattle.simplified_topology.specs.Simplified.{objects_pruned}
 use Rattle.topo_model.specs.DraftUses.{with_refs}
 use Rattle.topo_model.specs.Uses.{answers}
-use Rattle.layer_topology.proofs.GuardedArcs.{left_of_layers}
+use Rattle.layer_topology.proofs.GuardedArcs.{chosen_of_layers, left_of_layers}
 use Rattle.layer_topology.proofs.making.left_of_draft.Goals as goal
 
-pub returns : goal.returns
-returns c =
+pub returns-clause-left : goal.returns-clause-left
+returns-clause-left c =
     let many : c.len.result ≡ length c.args.arcs.items = search rules in
     let flagged = c.deref.ensures.value ∙ c.in_ok-used.ensures ∙ ap (answers (is_used (objects_pruned with_refs c.args.objects.now)) 0) many in
     IfOk-weaker c.guarded_arcs.result _ _
-    (λ left h ls draft are. left_of_layers ls c.args.threshold c.zero_law.ensures c.arcs_rise.ensures c.draft_uses_at_zero.ensures c.args.objects.now c.deref.result.now c.args.arcs.items left.items draft are
-    flagged h) c.guarded_arcs.ensures
+    (λ r h ls draft are. left_of_layers ls c.args.level c.draft_uses_at_zero.ensures c.args.objects.now c.deref.result.now c.args.arcs.items draft are flagged c.zero_law.ensures c.arcs_rise.ensures r.0.items h)
+    c.guarded_arcs.ensures.left
+
+pub returns-clause-chosen : goal.returns-clause-chosen
+returns-clause-chosen c =
+    let many : c.len.result ≡ length c.args.arcs.items = search rules in
+    let flagged = c.deref.ensures.value ∙ c.in_ok-used.ensures ∙ ap (answers (is_used (objects_pruned with_refs c.args.objects.now)) 0) many in
+    IfOk-weaker c.guarded_arcs.result _ _
+    (λ r h ls draft are. chosen_of_layers ls c.args.level c.draft_uses_at_zero.ensures c.args.objects.now c.deref.result.now c.args.arcs.items draft are flagged c.zero_law.ensures r.1 h)
+    c.guarded_arcs.ensures.chosen

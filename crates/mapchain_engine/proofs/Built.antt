@@ -10,7 +10,7 @@ use Rattle.json_value.specs.Limits.{layer_depth, topology_depth}
 use Rattle.json_value.specs.Text.{json_text}
 use Rattle.geojson_types.specs.declared.counts.Counts.{Counts}
 use Rattle.geojson_types.specs.declared.layer.FeatureSet.TheVariants as set
-use Rattle.simplified_topology.specs.Guarded.{guarded_contents}
+use Rattle.simplified_topology.specs.Guarded.{arc_positions, guarded_contents}
 use Rattle.topojson_types.specs.Decoding.{decoded}
 use Rattle.topojson_types.specs.Topologies.{Contents}
 use Rattle.topojson_types.specs.Validity.{AreDistinct}
@@ -28,7 +28,7 @@ use Rattle.inputs.specs.Sent.{build_fault_of}
 use Rattle.inputs.specs.Names.{name_fault, IsRefusedFor}
 use Rattle.inputs.specs.Reading.{FailsToRead}
 use Rattle.inputs.specs.Sources.{Sources, Named, AllRead, FailsAt, FailsToReadAll}
-use Rattle.mapchain_engine.proofs.SoundLayers.{AllTaken, all_taken, are_taken, layers_nest, layers_number, layers_texts, names_read}
+use Rattle.mapchain_engine.proofs.SoundLayers.{AllTaken, all_taken, are_taken, layers_nest, layers_number, layers_texts, names_read, simplifying_level_of}
 use Rattle.mapchain_engine.proofs.NamesDistinct.{distinct_names}
 use Rattle.mapchain_engine.proofs.SimplifiedTexts.{numbers_kept, texts_kept}
 use Rattle.inputs.proofs.SourcesRead.{untroubled_all}
@@ -47,7 +47,7 @@ module _ (laws : BuildingLaws) (o : Options) where
   guarded : (ls : Named) → AreTaken o.grid ls → o.guards.no_crossings ≡ true → IsGuarded o ls (written_for o ls)
   guarded ls are e =
       let under = laws.under o.guards o.grid (threshold_for o ls) o.ring_limit ls are in
-      record { valid = under.valid; whole = laws.written.back o.grid 0 0 ls are; labels_stay = under.labels_stay; crosses = under.crosses e; left = sym under.simplified }
+      record { valid = under.valid; whole = laws.written.back o.grid 0 0 ls are; labels_stay = under.labels_stay; crosses = under.crosses e; left = sym under.simplified; share = laws.share o.guards o.level (arc_positions (whole_for o ls)) (simplifying_level_of o) }
 
   says : (ls : Named) → AllTaken ls → AreDistinct (names_of ls) → AllByRecursion (λ n. IsUtf8 n) (names_of ls) → length (written_for o ls).arcs < 2 ^ 63 → SaysTopology o ls (text_for o ls)
   says ls taken distinct texts few =

@@ -1,5 +1,5 @@
 -- What was built is read again as what was built.
-use Rattle.std.proofs.Common.{◌≡◌, ℕ, false, cond, List, [], ◌∷◌, ◌++◌, ◌∙◌, ap, refl, subst, sym, length, Option, Some, Result, Ok}
+use Rattle.std.proofs.Common.{◌≡◌, ℕ, Bool, true, false, cond, List, [], ◌∷◌, ◌++◌, ◌∙◌, ap, refl, subst, sym, length, Option, Some, Result, Ok}
 use Rattle.std.proofs.Math.Seq.{take-length}
 use Rattle.std.proofs.lemmas.List.{append_cancel_left}
 use Rattle.std.specs.Io.KnownBytes.{Appends}
@@ -23,8 +23,9 @@ use Rattle.layer_topology.specs.declared.level.Level.TheVariants.{Fixed}
 use Rattle.layer_topology.specs.Guarded.{simplified_under}
 use Rattle.layer_topology.specs.GuardedLaws.{GuardedAtZero, WrittenUnderLaw}
 use Rattle.layer_topology.specs.GuardedWritten.{written_under}
-use Rattle.layer_topology.specs.Levels.{chosen_at, threshold_at}
-use Rattle.mapchain_engine.specs.Building.{expected_for, snapped_for, threshold_for, written_for, IsBuilt}
+use Rattle.layer_topology.specs.GuardedLevels.{guarded_chosen, guarded_threshold}
+use Rattle.layer_topology.specs.Levels.{chosen_at, level_chosen, level_threshold, threshold_at}
+use Rattle.mapchain_engine.specs.Building.{chosen_for, expected_for, snapped_for, threshold_for, whole_for, written_for, IsBuilt}
 use Rattle.mapchain_engine.specs.BuildLaws.{ReadAreTaken}
 use Rattle.mapchain_engine.specs.declared.options.Options.{Options}
 use Rattle.json_value.specs.Limits.{topology_depth}
@@ -118,7 +119,7 @@ module _ (one_value : OneValue) (o : Options) (olds news : Sources) (sink_old si
 
   -- at a level by which its arcs are reduced at this threshold
   simplified_text : GuardedAtZero → WrittenUnderLaw → AreTaken o.grid is.layers → (guards : Guards) (level : Level) (t limit : ℕ)
-      → topology_threshold level is.builds.topology.contents ≡ t → threshold_for o is.layers ≡ 0 → o.ring_limit ≡ 0
+      → topology_threshold guards level is.builds.topology.contents ≡ t → threshold_for o is.layers ≡ 0 → o.ring_limit ≡ 0
       → (after : Fed) (out_old out_new : Drained) (simplified : Report) → IsSimplified guards level limit source after out_old out_new simplified
       → Takes out_old out_new (json_text (topology_value (written_under guards o.grid t limit is.layers))) (length (json_text (topology_value (written_under guards o.grid t limit is.layers))))
   simplified_text at_zero law are guards level t limit at zero none after out_old out_new simplified s =
@@ -134,7 +135,7 @@ module _ (one_value : OneValue) (valid : ReadsValid) (may : ReadAreTaken) (o p :
     (zero : threshold_for o full.layers ≡ 0) (none : o.ring_limit ≡ 0) (grid : p.grid ≡ o.grid) (same : small.layers ≡ full.layers)
     (source after : Fed) (out_old out_new : Drained) (simplified : Report) (from : IsWrittenTo sink_old sink_new source) where
   -- at a level by which the arcs of the first are reduced at the threshold of the second
-  built_at : GuardedAtZero → WrittenUnderLaw → (level : Level) → topology_threshold level full.builds.topology.contents ≡ threshold_for p small.layers
+  built_at : GuardedAtZero → WrittenUnderLaw → (level : Level) → topology_threshold p.guards level full.builds.topology.contents ≡ threshold_for p small.layers
       → IsSimplified p.guards level p.ring_limit source after out_old out_new simplified → Takes out_old out_new small.text (length small.text)
   built_at at_zero law level at s =
       let says = small.builds.topology in
@@ -153,22 +154,53 @@ module _ (one_value : OneValue) (valid : ReadsValid) (may : ReadAreTaken) (o p :
       ap arc_positions full.builds.topology.shared ∙ has ∙ ap (λ g. arcs_of_layers (snapped_to g full.layers)) (sym grid)
       ∙ ap (λ ls. arcs_of_layers (snapped_to p.grid ls)) (sym same)
 
-  same_chosen : HasEachArc o full.layers → IsSimplified p.guards p.level p.ring_limit source after out_old out_new simplified → simplified.chosen ≡ more_report.chosen
-  same_chosen has s =
+  -- and they are those of what is written of the second's layers at zero
+  arcs_at_zero : GuardedAtZero → arc_positions full.builds.topology.contents ≡ arc_positions (whole_for p small.layers)
+  arcs_at_zero at_zero =
+      ap arc_positions (zero_is one_value o olds news sink_old sink_new report full source from at_zero (taken valid may o olds news sink_old sink_new report full) zero none)
+      ∙ ap (λ g. arc_positions (written_on g 0 0 full.layers)) (sym grid) ∙ ap (λ ls. arc_positions (written_on p.grid 0 0 ls)) (sym same)
+
+  -- so at one level both have the same threshold, with guards by what is written at zero, and without by the arcs of the layers
+  same_thresholds : GuardedAtZero → (p.guards.no_crossings ≡ false → HasEachArc o full.layers) → topology_threshold p.guards p.level full.builds.topology.contents ≡ threshold_for p small.layers
+  same_thresholds at_zero has = by p.guards.no_crossings has
+    where
+      by : (b : Bool) → (b ≡ false → HasEachArc o full.layers)
+          → cond b (guarded_threshold true [] p.level (arc_positions full.builds.topology.contents)) (threshold_at p.level (arc_positions full.builds.topology.contents))
+          ≡ cond b (guarded_threshold true [] p.level (arc_positions (whole_for p small.layers))) (level_threshold p.grid p.level small.layers)
+      by true has = ap (guarded_threshold true [] p.level) (arcs_at_zero at_zero)
+      by false has = ap (threshold_at p.level) (same_arcs (has refl))
+
+  chosen_same : GuardedAtZero → (p.guards.no_crossings ≡ false → HasEachArc o full.layers) → topology_chosen p.guards p.level full.builds.topology.contents ≡ chosen_for p small.layers
+  chosen_same at_zero has = by p.guards.no_crossings has
+    where
+      by : (b : Bool) → (b ≡ false → HasEachArc o full.layers)
+          → cond b (guarded_chosen true [] p.level (arc_positions full.builds.topology.contents)) (chosen_at p.level (arc_positions full.builds.topology.contents))
+          ≡ cond b (guarded_chosen true [] p.level (arc_positions (whole_for p small.layers))) (level_chosen p.grid p.level small.layers)
+      by true has = ap (guarded_chosen true [] p.level) (arcs_at_zero at_zero)
+      by false has = ap (chosen_at p.level) (same_arcs (has refl))
+
+  same_chosen : GuardedAtZero → (p.guards.no_crossings ≡ false → HasEachArc o full.layers) → IsSimplified p.guards p.level p.ring_limit source after out_old out_new simplified
+      → simplified.chosen ≡ more_report.chosen
+  same_chosen at_zero has s =
       ap (λ (r : Report). r.chosen) s.reported
-      ∙ ap (topology_chosen p.level) (same_contents one_value o olds news sink_old sink_new report full source from after s.contents s.counts s.read)
-      ∙ ap (chosen_at p.level) (same_arcs has) ∙ sym (ap (λ (r : Report). r.chosen) small.reported)
+      ∙ ap (topology_chosen p.guards p.level) (same_contents one_value o olds news sink_old sink_new report full source from after s.contents s.counts s.read)
+      ∙ chosen_same at_zero has ∙ sym (ap (λ (r : Report). r.chosen) small.reported)
+
+-- a threshold that is given is the same with guards and without
+given : (b : Bool) (t : ℕ) → cond b t t ≡ t
+given true t = refl
+given false t = refl
 
 pub simplifies_to_built : OneValue → GuardedAtZero → WrittenUnderLaw → ReadsValid → ReadAreTaken → SimplifiesToBuilt
 simplifies_to_built one_value at_zero law valid may o p olds news sink_old sink_new report full more_olds more_news more_old more_new more_report small zero none grid same source after out_old out_new simplified from =
     built_at one_value valid may o p olds news sink_old sink_new report full more_olds more_news more_old more_new more_report small zero none grid same source after out_old out_new simplified from at_zero law
-    (Fixed (threshold_for p small.layers)) refl
+    (Fixed (threshold_for p small.layers)) (given p.guards.no_crossings (threshold_for p small.layers))
 
 pub simplifies_by_level : OneValue → GuardedAtZero → WrittenUnderLaw → ReadsValid → ReadAreTaken → SimplifiesByLevel
 simplifies_by_level one_value at_zero law valid may o p olds news sink_old sink_new report full more_olds more_news more_old more_new more_report small zero none grid same has source after out_old out_new simplified from s = (
   built_at one_value valid may o p olds news sink_old sink_new report full more_olds more_news more_old more_new more_report small zero none grid same source after out_old out_new simplified from at_zero law p.level
-      (ap (threshold_at p.level) (same_arcs one_value valid may o p olds news sink_old sink_new report full more_olds more_news more_old more_new more_report small zero none grid same source after out_old out_new simplified from has)) s,
-  same_chosen one_value valid may o p olds news sink_old sink_new report full more_olds more_news more_old more_new more_report small zero none grid same source after out_old out_new simplified from has s,
+      (same_thresholds one_value valid may o p olds news sink_old sink_new report full more_olds more_news more_old more_new more_report small zero none grid same source after out_old out_new simplified from at_zero has) s,
+  same_chosen one_value valid may o p olds news sink_old sink_new report full more_olds more_news more_old more_new more_report small zero none grid same source after out_old out_new simplified from at_zero has s,
 )
 
 pub decodes_back : OneValue → DecodesBack

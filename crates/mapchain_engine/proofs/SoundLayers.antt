@@ -21,10 +21,11 @@ use Rattle.build_meaning.specs.Laws.{IsSound, AreSound}
 use Rattle.build_meaning.specs.Layers.{names_of}
 use Rattle.simplified_topology.specs.Quantized.{IsCount, AreInputs, named_points}
 use Rattle.simplified_topology.specs.GridLaws.{EachFeature}
-use Rattle.layer_topology.specs.declared.guards.Guards.{Guards}
-use Rattle.layer_topology.specs.GuardedWritten.{is_level_under}
+use Rattle.layer_topology.specs.Guarded.{is_simplifying_level}
+use Rattle.layer_topology.specs.Levels.{is_level}
 use Rattle.layer_topology.specs.Written.{AreTaken}
 use Rattle.layer_topology.specs.declared.level.Level.{Level}
+use Rattle.layer_topology.specs.declared.level.Level.TheVariants.{Fixed, Share}
 use Rattle.topojson_types.specs.Validity.{AreDistinct}
 use Rattle.mapchain_engine.specs.declared.options.Options.{Options}
 use Rattle.mapchain_engine.specs.BuildLaws.{LayerLaws}
@@ -106,29 +107,36 @@ pub layers_inputs : (ls : Named) → AllTaken ls → AreInputs ls
 layers_inputs [] h = tt
 layers_inputs (l ∷ ls) h = all_append IsInput (features_points l.1.features) (named_points ls) (inputs_joined l.1.features h.0) (layers_inputs ls h.1)
 
-counted : (grid : Option ℕ) (guards : Guards) (level : Level) (limit : ℕ) → is_in_range grid guards level limit ≡ true → IsCount grid
-counted None guards level limit h = tt
-counted (Some n) guards level limit h = (grind (arith, nat_tests, h), grind (arith, nat_tests, h))
+counted : (grid : Option ℕ) (level : Level) (limit : ℕ) → is_in_range grid level limit ≡ true → IsCount grid
+counted None level limit h = tt
+counted (Some n) level limit h = (grind (arith, nat_tests, h), grind (arith, nat_tests, h))
 
 -- a grid that is asked for is one that may be
 pub count_of : (o : Options) → IsCount o.grid
-count_of o = counted o.grid o.guards o.level o.ring_limit o.in_range
+count_of o = counted o.grid o.level o.ring_limit o.in_range
 
-limited : (grid : Option ℕ) (guards : Guards) (level : Level) (limit : ℕ) → is_in_range grid guards level limit ≡ true → limit ≤ threshold_limit
-limited None guards level limit h = grind (arith, nat_tests, h)
-limited (Some n) guards level limit h = grind (arith, nat_tests, h)
+limited : (grid : Option ℕ) (level : Level) (limit : ℕ) → is_in_range grid level limit ≡ true → limit ≤ threshold_limit
+limited None level limit h = grind (arith, nat_tests, h)
+limited (Some n) level limit h = grind (arith, nat_tests, h)
 
 -- a ring limit of options is one that may be
 pub limit_of : (o : Options) → o.ring_limit ≤ threshold_limit
-limit_of o = limited o.grid o.guards o.level o.ring_limit o.in_range
+limit_of o = limited o.grid o.level o.ring_limit o.in_range
 
-levelled : (grid : Option ℕ) (guards : Guards) (level : Level) (limit : ℕ) → is_in_range grid guards level limit ≡ true → is_level_under guards level ≡ true
-levelled None guards level limit h = grind (arith, h)
-levelled (Some n) guards level limit h = grind (arith, h)
+levelled : (grid : Option ℕ) (level : Level) (limit : ℕ) → is_in_range grid level limit ≡ true → is_level level ≡ true
+levelled None level limit h = grind (arith, h)
+levelled (Some n) level limit h = grind (arith, h)
 
 -- a level of options is one that may be
-pub level_of : (o : Options) → is_level_under o.guards o.level ≡ true
-level_of o = levelled o.grid o.guards o.level o.ring_limit o.in_range
+pub level_of : (o : Options) → is_level o.level ≡ true
+level_of o = levelled o.grid o.level o.ring_limit o.in_range
+
+simplifying : (level : Level) → is_level level ≡ true → is_simplifying_level level ≡ true
+simplifying (Fixed t) h = refl
+simplifying (Share p q) h = h
+
+pub simplifying_level_of : (o : Options) → is_simplifying_level o.level ≡ true
+simplifying_level_of o = simplifying o.level (level_of o)
 
 pub are_taken : (o : Options) (ls : Named) → AllTaken ls → AreDistinct (names_of ls) → AreTaken o.grid ls
 are_taken o ls h distinct = record { count = count_of o; sound = layers_sound ls h; inputs = layers_inputs ls h; names = distinct }

@@ -1,5 +1,5 @@
 -- From what is read and what is sent to what is answered.
-use Rattle.std.proofs.Common.{◌≡◌, ℕ, List, subst, refl, map-id, Option, Some, None, Ok, Err}
+use Rattle.std.proofs.Common.{◌≡◌, ℕ, true, List, subst, refl, map-id, Option, Some, None, Ok, Err}
 use Rattle.std.specs.Prelude.{map}
 use Rattle.byte_ends.specs.Ends.{Fed, Drained}
 use Rattle.byte_ends.specs.Writes.{WritesAll}
@@ -7,13 +7,15 @@ use Rattle.geometry.specs.Points.{Point}
 use Rattle.inputs.specs.declared.file_fault.FileFault.{FileFault}
 use Rattle.inputs.specs.declared.file_fault.FileFault.TheVariants.{Read, Json, Topo, NoObject, Write, Memory}
 use Rattle.json_value.specs.Text.{json_text}
+use Rattle.simplified_topology.specs.Guarded.{arc_positions}
 use Rattle.simplified_topology.specs.Thresholds.{placed_cells}
 use Rattle.reports.specs.declared.report.Report.{Report}
 use Rattle.topojson_types.specs.declared.transform.Transform.{Transform}
 use Rattle.topojson_types.specs.Topologies.{Contents}
 use Rattle.topojson_types.specs.Transforms.{place}
 use Rattle.topojson_types.specs.Values.{topology_value}
-use Rattle.layer_topology.specs.GuardedLaws.{SimplifiedUnderLaw}
+use Rattle.layer_topology.specs.Guarded.{is_simplifying_level}
+use Rattle.layer_topology.specs.GuardedLaws.{ShareStaysUnder, SimplifiedUnderLaw}
 use Rattle.layer_topology.specs.declared.guards.Guards.{Guards}
 use Rattle.layer_topology.specs.declared.level.Level.{Level}
 use Rattle.mapchain_engine.specs.Files.{FailsToGive}
@@ -40,11 +42,11 @@ not_given guards level limit old new sink (Write sent) f = absurd f.2
 -- ---- the text of what is left is sent
 
 module _ (guards : Guards) (level : Level) (limit : ℕ) (old new : Fed) (sink_old sink_new : Drained) (less : Contents) (report : Report) (is : IsReadAndSimplified guards level limit old new less report) where
-  pub sent_whole : SimplifiedIsUtf8 → SimplifiedUnderLaw → (sent : ℕ) → SendsText sink_old sink_new (json_text (topology_value less)) (Ok sent) → IsSimplified guards level limit old new sink_old sink_new report
-  sent_whole utf8 law sent w =
+  pub sent_whole : SimplifiedIsUtf8 → SimplifiedUnderLaw → ShareStaysUnder → is_simplifying_level level ≡ true → (sent : ℕ) → SendsText sink_old sink_new (json_text (topology_value less)) (Ok sent) → IsSimplified guards level limit old new sink_old sink_new report
+  sent_whole utf8 law stays may sent w =
       let all = subst (λ z. WritesAll sink_old sink_new 0 (json_text (topology_value z)) sent) is.left w.0 in
       let read = is.read in
-      record { contents = is.contents; counts = is.counts; read = is.read; utf8 = utf8 guards level limit read.bytes is.contents is.counts read.spells; written = all.took; sound = all.sound; flushed = w.1; reported = is.reported; crosses = (law guards (topology_threshold level is.contents) limit is.contents).crosses }
+      record { contents = is.contents; counts = is.counts; read = is.read; utf8 = utf8 guards level limit read.bytes is.contents is.counts read.spells; written = all.took; sound = all.sound; flushed = w.1; reported = is.reported; crosses = (law guards (topology_threshold guards level is.contents) limit is.contents).crosses; share = stays guards level (arc_positions is.contents) may }
 
   pub cut_short : (e : FileFault) → SendsText sink_old sink_new (json_text (topology_value less)) (Err e) → IsSimplifyFault guards level limit old new sink_old sink_new e
   cut_short (Write sent) w =

@@ -22,11 +22,12 @@ use Rattle.cutter.specs.Segments.{line_segments}
 use Rattle.effective_area.specs.Calls.{Call}
 use Rattle.linework.specs.Linework.{linework}
 use Rattle.layer_topology.specs.Guarded.{simplified_under, CrossesNoMore}
-use Rattle.layer_topology.specs.GuardedLaws.{WrittenUnderLaw}
+use Rattle.layer_topology.specs.GuardedLaws.{ShareStaysUnder, WrittenUnderLaw}
+use Rattle.layer_topology.specs.GuardedLevels.{level_chosen_under, level_threshold_under, KeepsShareUnder}
 use Rattle.layer_topology.specs.GuardedWritten.{calls_under, lines_dropped_under, positions_removed_under, written_under}
 use Rattle.layer_topology.specs.Laws.{WrittenLaws}
-use Rattle.layer_topology.specs.Levels.{level_chosen, level_threshold}
 use Rattle.layer_topology.specs.Written.{snapped_to, written as written_on}
+use Rattle.simplified_topology.specs.Guarded.{arc_positions}
 use Rattle.simplified_topology.specs.Laws.{labels}
 use Rattle.topojson_meaning.specs.Laws.{ReadsBack, TextIsRead}
 use Rattle.topojson_meaning.specs.Texts.{TextIsUtf8}
@@ -45,13 +46,13 @@ use Rattle.inputs.specs.Sources.{Sources, Named, AllRead, FailsAt, AreUntroubled
 abbrev pub snapped_for : Options → Named → Named
 snapped_for o layers = snapped_to o.grid layers
 
--- the threshold at which their arcs are reduced: the one that is given, or the greatest that keeps the share that is asked for
+-- the threshold at which their arcs are reduced: the one that is given, or the greatest that keeps the share that is asked for, under the guards
 abbrev pub threshold_for : Options → Named → ℕ
-threshold_for o layers = level_threshold o.grid o.level layers
+threshold_for o layers = level_threshold_under o.guards o.grid o.level layers
 
 -- the threshold at which the layers' arcs are reduced, where it was chosen for a share
 abbrev pub chosen_for : Options → Named → Option ℕ
-chosen_for o layers = level_chosen o.grid o.level layers
+chosen_for o layers = level_chosen_under o.guards o.grid o.level layers
 
 -- what a reducer is asked for: to reduce each of their arcs at the threshold that is given, in order, and nothing for a share, nor where no
 -- crossing may be made
@@ -76,6 +77,7 @@ expected_for o layers = expected (threshold_for o layers) o.ring_limit (snapped_
 pub record BuildingLaws : Type 0 where
   pub written : WrittenLaws
   pub under : WrittenUnderLaw
+  pub share : ShareStaysUnder
   pub read : ReadsBack
   pub spelled : TextIsRead
   pub utf8 : TextIsUtf8
@@ -85,13 +87,15 @@ pub record BuildingLaws : Type 0 where
 
 -- Where no crossing may be made, the topology is valid, and it is what is left of the one that is written of the layers at zero where this is simplified
 -- under the same guards. Decoding that one gives each layer's features whole; the topology has the same names, identifiers and properties, and
--- no more of its segments cross, lie on one another, or touch but at an end of both, and none where none of that one's do.
+-- no more of its segments cross, lie on one another, or touch but at an end of both, and none where none of that one's do. Of the positions
+-- between the ends of that one's arcs at least the share that is asked for stays, before lines are dropped.
 pub record IsGuarded (o : Options) (layers : Named) (contents : Contents) : Type 0 where
   pub valid : IsTopology contents
   pub whole : AllByRecursion (λ l. decoded (whole_for o layers) l.0 ≡ Some (set.Many l.1.features)) (expected 0 0 (snapped_for o layers))
   pub labels_stay : labels contents ≡ labels (whole_for o layers)
   pub crosses : CrossesNoMore (whole_for o layers) contents
   pub left : contents ≡ simplified_under o.guards (threshold_for o layers) o.ring_limit (whole_for o layers)
+  pub share : KeepsShareUnder o.guards o.level (arc_positions (whole_for o layers))
 
 -- The text is UTF-8, and JSON (RFC 8259) of a topology (TopoJSON 1.0) whose objects have the names of the layers, in order. Decoding each gives
 -- the features that are expected of its layer, snapped to the grid that is asked for, at the threshold and the least ring area, unless no

@@ -68,12 +68,13 @@ SimplifiesToBuilt = (o p : Options) (olds news : Sources) (sink_old sink_new : D
 abbrev pub HasEachArc : Options → Named → Type 0
 HasEachArc o layers = arc_positions (written_for o layers) ≡ arcs_of_layers (snapped_for o layers)
 
--- The topology that a build at a threshold and a ring limit of zero wrote, where each arc of the layers is in it, simplified by the level and the
--- ring limit of another build of the same layers on the same grid, and under its guards, is byte for byte what that one writes, and both choose the same threshold.
+-- The topology that a build at a threshold and a ring limit of zero wrote, simplified by the level and the ring limit of another build of the same
+-- layers on the same grid, and under its guards, is byte for byte what that one writes, and both choose the same threshold, where each arc of the
+-- layers is in it, or no crossing may be made.
 abbrev pub SimplifiesByLevel : Type 0
 SimplifiesByLevel = (o p : Options) (olds news : Sources) (sink_old sink_new : Drained) (report : Report) (full : IsBuilt o olds news sink_old sink_new report)
     (more_olds more_news : Sources) (more_old more_new : Drained) (more_report : Report) (small : IsBuilt p more_olds more_news more_old more_new more_report)
-    → threshold_for o full.layers ≡ 0 → o.ring_limit ≡ 0 → p.grid ≡ o.grid → small.layers ≡ full.layers → HasEachArc o full.layers
+    → threshold_for o full.layers ≡ 0 → o.ring_limit ≡ 0 → p.grid ≡ o.grid → small.layers ≡ full.layers → (p.guards.no_crossings ≡ false → HasEachArc o full.layers)
     → (source after : Fed) (out_old out_new : Drained) (simplified : Report) → IsWrittenTo sink_old sink_new source
     → IsSimplified p.guards p.level p.ring_limit source after out_old out_new simplified
     → Takes out_old out_new small.text (length small.text) × (simplified.chosen ≡ more_report.chosen)

@@ -8,7 +8,8 @@ use Rattle.inputs.specs.declared.file_fault.FileFault.{FileFault}
 use Rattle.inputs.specs.declared.file_fault.FileFault.TheVariants.{Write}
 use Rattle.json_value.specs.Text.{json_text}
 use Rattle.layer_topology.specs.Guarded.{simplified_under, dropped_under, removed_count_under, CrossesNoMore}
-use Rattle.layer_topology.specs.Levels.{calls_at, chosen_at, threshold_at}
+use Rattle.layer_topology.specs.GuardedLevels.{chosen_under, threshold_under, KeepsShareUnder}
+use Rattle.layer_topology.specs.Levels.{calls_at}
 use Rattle.layer_topology.specs.declared.guards.Guards.{Guards}
 use Rattle.layer_topology.specs.declared.level.Level.{Level}
 use Rattle.simplified_topology.specs.Guarded.{arc_positions}
@@ -21,25 +22,26 @@ use Rattle.mapchain_engine.specs.Files.{IsTopologyRead, FailsToGive}
 
 -- ---- what is left of a topology
 
--- the threshold at which its arcs are reduced: the one that is given, or the greatest that keeps the share that is asked for. The share is of
--- the positions between the ends of all its arcs as they stand, also of those that no line uses, by the positions that the cells stand for
-abbrev pub topology_threshold : Level → Contents → ℕ
-topology_threshold level y = threshold_at level (arc_positions y)
+-- the threshold at which its arcs are reduced: the one that is given, or the greatest that keeps the share that is asked for, under the guards.
+-- The share is of the positions between the ends of all its arcs as they stand, also of those that no line uses, by the positions that the
+-- cells stand for
+abbrev pub topology_threshold : Guards → Level → Contents → ℕ
+topology_threshold guards level y = threshold_under guards level (arc_positions y)
 
 -- this threshold, where it is chosen for a share
-abbrev pub topology_chosen : Level → Contents → Option ℕ
-topology_chosen level y = chosen_at level (arc_positions y)
+abbrev pub topology_chosen : Guards → Level → Contents → Option ℕ
+topology_chosen guards level y = chosen_under guards level (arc_positions y)
 
 -- the text (TopoJSON 1.0) of what is left of a topology where its arcs are reduced at the threshold, under the guards that are asked for
 abbrev pub simplified_contents_text : Guards → Level → ℕ → Contents → List ℕ
-simplified_contents_text guards level limit y = json_text (topology_value (simplified_under guards (topology_threshold level y) limit y))
+simplified_contents_text guards level limit y = json_text (topology_value (simplified_under guards (topology_threshold guards level y) limit y))
 
 -- what was counted in reading the topology, the lines and rings that are dropped, the arcs that are left, their positions, those that were
 -- removed from these arcs, and the threshold, where it was chosen
 abbrev pub report_of : Guards → Level → ℕ → Contents → Counts → Report
 report_of guards level limit y counts =
-    report_with counts (dropped_under guards (topology_threshold level y) limit y) (simplified_under guards (topology_threshold level y) limit y).arcs
-    (saturated (removed_count_under guards (topology_threshold level y) limit y)) (topology_chosen level y)
+    report_with counts (dropped_under guards (topology_threshold guards level y) limit y) (simplified_under guards (topology_threshold guards level y) limit y).arcs
+    (saturated (removed_count_under guards (topology_threshold guards level y) limit y)) (topology_chosen guards level y)
 
 -- ---- reading and writing
 
@@ -48,7 +50,7 @@ pub record IsReadAndSimplified (guards : Guards) (level : Level) (limit : ℕ) (
   pub contents : Contents
   pub counts : Counts
   pub read : IsTopologyRead old new contents counts
-  pub left : less ≡ simplified_under guards (topology_threshold level contents) limit contents
+  pub left : less ≡ simplified_under guards (topology_threshold guards level contents) limit contents
   pub reported : report ≡ report_of guards level limit contents counts
 
 -- what a reducer is asked for: to reduce each arc at a threshold, by the positions that it stands for, in order, but nothing where all are
@@ -65,7 +67,8 @@ pub record CallsForTopology (guards : Guards) (level : Level) (old new : Fed) (b
   pub called : after ≡ before ++ calls_of guards level contents
 
 -- the source was read to its end, its bytes spell a topology, the text of what is left of it is UTF-8, the sink took the whole of
--- it and passed it on, and this is its report; where crossings may not be made, what is left crosses no more than the topology
+-- it and passed it on, and this is its report; where crossings may not be made, what is left crosses no more than the topology, and at least
+-- the share that is asked for stays of the positions between the ends of its arcs, before lines are dropped
 pub record IsSimplified (guards : Guards) (level : Level) (limit : ℕ) (old new : Fed) (sink_old sink_new : Drained) (report : Report) : Type 0 where
   pub contents : Contents
   pub counts : Counts
@@ -75,7 +78,8 @@ pub record IsSimplified (guards : Guards) (level : Level) (limit : ℕ) (old new
   pub sound : sink_new.failures ≡ 0
   pub flushed : sink_new.flushed ≡ true
   pub reported : report ≡ report_of guards level limit contents counts
-  pub crosses : guards.no_crossings ≡ true → CrossesNoMore contents (simplified_under guards (topology_threshold level contents) limit contents)
+  pub crosses : guards.no_crossings ≡ true → CrossesNoMore contents (simplified_under guards (topology_threshold guards level contents) limit contents)
+  pub share : KeepsShareUnder guards level (arc_positions contents)
 
 -- the device failed when it had taken a prefix of that text
 pub record IsSimplifiedInPart (guards : Guards) (level : Level) (limit : ℕ) (old new : Fed) (sink_old sink_new : Drained) (sent : ℕ) : Type 0 where

@@ -15,7 +15,7 @@ use byte_ends::{Drain, Feed, Sink, Source, flush_after};
 use effective_area::Reducer;
 use inputs::{BuildFault, Unwatched, Watch, check_names, read_layers};
 use json_value::OwnText;
-use layer_topology::{topology_of_layers, written_laws, written_under_law};
+use layer_topology::{share_stays_at_once, topology_of_layers, written_laws, written_under_law};
 use reports::{Report, report_of};
 use std::alloc::Global;
 use topojson_meaning::{reads_back, topology_text_is_read, topology_text_is_utf8};
@@ -37,6 +37,7 @@ fn building_laws()
 {
     written_laws();
     written_under_law();
+    share_stays_at_once();
     reads_back();
     topology_text_is_read();
     topology_text_is_utf8();

@@ -1,17 +1,20 @@
 // Reducing all arcs of a topology that was read at once.
-ghost use Rattle.std.specs.Prelude.{◌≡◌, ◌≤◌, IfOk, length, map, true};
+ghost use Rattle.std.specs.Prelude.{◌≡◌, ◌≤◌, [], IfOk, length, map, true};
 ghost use Rattle.std.specs.List.{AllByRecursion};
 ghost use Rattle.std.specs.Option.{option_copied};
 ghost use Rattle.byte_ends.specs.Ends.{saturated};
 ghost use Rattle.geometry.specs.Units.{threshold_limit};
+ghost use Rattle.layer_topology.specs.Guarded.{is_simplifying_level};
+ghost use Rattle.layer_topology.specs.GuardedLevels.{guarded_chosen, guarded_threshold};
+ghost use Rattle.simplified_topology.specs.Guarded as spec;
 ghost use Rattle.simplified_topology.specs.Guarded.{guarded_contents, guarded_dropped, guarded_indexes, guarded_removed_count};
 ghost use Rattle.topojson_types.specs.Decoding.{placed_arcs};
 ghost use Rattle.topojson_types.specs.Validity.{IsArc};
 
 use byte_ends::Memory;
 use geojson_types::{Dropped, Position};
-use guarded_reduction::reduce_guarded;
 use json_value::Items;
+use layer_topology::{Level, kept_at_once};
 use simplified_topology::guarded_indexes_reach;
 use std::alloc::Global;
 use topo_model::Reduces;
@@ -34,30 +37,47 @@ pub(crate) fn arc_positions(
     Ok(lines)
 }
 
-/// Of each arc of a topology the numbers of the cells that stay where all arcs are reduced at once and no crossing may be made.
-fn kept_cells(alloc: Global, topology: &Topology, t: u128) -> Result<Vec<Vec<usize>>, Memory>
-    ensures { IfOk result (λ kept. map (λ k. k.items) kept.items ≡ guarded_indexes true t topology.now) }
+/// Of each arc of a topology the numbers of the cells that stay where all arcs are reduced at once at a level and no crossing may be made, and
+/// the threshold, where it was chosen.
+fn kept_cells(
+    alloc: Global,
+    topology: &Topology,
+    level: Level,
+) -> Result<(Vec<Vec<usize>>, Option<u128>), Memory>
+    requires { is_simplifying_level level ≡ true }
+    ensures kept { IfOk result
+        (λ r. map (λ k. k.items) r.0.items ≡ guarded_indexes true (guarded_threshold true [] level (spec.arc_positions topology.now)) topology.now) }
+    ensures chosen { IfOk result (λ r. r.1 ≡ guarded_chosen true [] level (spec.arc_positions topology.now)) }
 {
     let lines = arc_positions(alloc, topology.transform(), topology.arcs())?;
-    reduce_guarded(alloc, &lines, true, &[], t)
+    let (kept, chosen) = kept_at_once(alloc, &lines, true, &[], level)?;
+    Ok((kept, chosen))
 }
 
-/// What is left of a topology where all arcs are reduced at once at a threshold, no crossing may be made, and rings under a limit are left
-/// out, the lines and rings that are dropped, and how many positions are removed from the arcs that stay.
+/// What is left of a topology where all arcs are reduced at once at a level, no crossing may be made, and rings under a limit are left out,
+/// the lines and rings that are dropped, how many positions are removed from the arcs that stay, and the threshold, where it was chosen.
 pub fn guarded_topology(
     alloc: Global,
     topology: Topology,
-    t: u128,
+    level: Level,
     ring_limit: u128,
-) -> Result<(Topology, Vec<Dropped>, u64), Memory>
-    requires { ring_limit ≤ threshold_limit }
-    ensures topology { IfOk result (λ r. r.0 ≡ guarded_contents true t ring_limit topology) }
-    ensures dropped { IfOk result (λ r. r.1.items ≡ guarded_dropped true t ring_limit topology) }
-    ensures removed_count { IfOk result (λ r. r.2 ≡ saturated (guarded_removed_count true t ring_limit topology)) }
+) -> Result<(Topology, Vec<Dropped>, u64, Option<u128>), Memory>
+    requires level { is_simplifying_level level ≡ true }
+    requires limit { ring_limit ≤ threshold_limit }
+    ensures topology { IfOk result
+        (λ r. r.0 ≡ guarded_contents true (guarded_threshold true [] level (spec.arc_positions topology)) ring_limit topology) }
+    ensures dropped { IfOk result
+        (λ r. r.1.items ≡ guarded_dropped true (guarded_threshold true [] level (spec.arc_positions topology)) ring_limit topology) }
+    ensures removed_count { IfOk result
+        (λ r. r.2 ≡ saturated (guarded_removed_count true (guarded_threshold true [] level (spec.arc_positions topology)) ring_limit topology)) }
+    ensures chosen { IfOk result (λ r. r.3 ≡ guarded_chosen true [] level (spec.arc_positions topology)) }
 {
     guarded_indexes_reach();
-    match kept_cells(alloc, &topology, t) {
-        Ok(kept) => topology.reduce(alloc, &kept, ring_limit),
+    match kept_cells(alloc, &topology, level) {
+        Ok((kept, chosen)) => {
+            let (less, dropped, removed) = topology.reduce(alloc, &kept, ring_limit)?;
+            Ok((less, dropped, removed, chosen))
+        }
         Err(fault) => {
             drop(topology);
             Err(fault)

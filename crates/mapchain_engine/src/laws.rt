@@ -73,9 +73,10 @@ pub fn simplified_text_is_built()
     read_layers_are_taken();
 }
 
-/// What `build` wrote at a threshold and a ring limit of zero, where each arc of the layers is in it, simplified by the level and the ring
-/// limit of another build of the same layers on the same grid, under its guards, is byte for byte what that one writes, and both choose the same
-/// threshold. An arc of the layers isn't in it where only holes of dropped outer rings have it: `build` counts its positions for a share.
+/// What `build` wrote at a threshold and a ring limit of zero, where each arc of the layers is in it, or no crossing may be made, simplified by
+/// the level and the ring limit of another build of the same layers on the same grid, under its guards, is byte for byte what that one writes, and
+/// both choose the same threshold. An arc of the layers isn't in it where only holes of dropped outer rings have it: where crossings may be made,
+/// `build` counts its positions for a share.
 pub fn simplified_by_level_is_built()
     ensures { SimplifiesByLevel }
 {

@@ -11,8 +11,7 @@ pub struct Options {
     pub grid: Option<u32>,
     /// What reduction may not do.
     pub guards: Guards,
-    /// How much of the detail of lines stays: a threshold of at most twice `AREA_LIMIT`, or a share of at most one, which isn't asked for where
-    /// no crossing may be made.
+    /// How much of the detail of lines stays: a threshold of at most twice `AREA_LIMIT`, or a share of at most one.
     pub level: Level,
     /// Rings are left out that are left with less than this, twice their area in square units: at most twice `AREA_LIMIT`.
     pub ring_limit: u128,
@@ -22,5 +21,5 @@ pub struct Options {
     /// that they can't know.
     pub seed: u64,
 
-    ghost in_range: { is_in_range grid guards level ring_limit ≡ true },
+    ghost in_range: { is_in_range grid level ring_limit ≡ true },
 }

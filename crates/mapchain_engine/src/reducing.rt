@@ -6,6 +6,8 @@ ghost use Rattle.byte_ends.specs.Ends.{saturated};
 ghost use Rattle.effective_area.specs.Calls.{call_at, calls_for};
 ghost use Rattle.elimination_meaning.specs.Elimination.{reduce};
 ghost use Rattle.geometry.specs.Units.{threshold_limit};
+ghost use Rattle.layer_topology.specs.Levels.{chosen_at, threshold_at};
+ghost use Rattle.simplified_topology.specs.Guarded.{arc_positions};
 ghost use Rattle.simplified_topology.specs.Simplified.{retained, retained_arcs};
 ghost use Rattle.simplified_topology.specs.Thresholds.{simplified_contents, simplified_dropped, simplified_removed_count, placed_cells};
 ghost use Rattle.topojson_types.specs.Validity.{IsArc};
@@ -141,51 +143,27 @@ fn reduced_topology<Q: Reducer>(
     }
 }
 
-/// What is left of a topology where its arcs are reduced at a threshold, under these guards, and rings under a limit are left out, the
-/// lines and rings that are dropped, and how many positions are removed from the arcs that stay.
-fn topology_under<Q: Reducer>(
-    alloc: Global,
-    reducer: &mut Q,
-    topology: Topology,
-    guards: Guards,
-    t: u128,
-    ring_limit: u128,
-) -> Result<(Topology, Vec<Dropped>, u64), Memory>
-    requires { ring_limit ≤ threshold_limit }
-    ensures topology { IfOk result (λ r. r.0 ≡ simplified_under guards t ring_limit topology) }
-    ensures dropped { IfOk result (λ r. r.1.items ≡ dropped_under guards t ring_limit topology) }
-    ensures removed_count { IfOk result (λ r. r.2 ≡ saturated (removed_count_under guards t ring_limit topology)) }
-    ensures called { IfOk result (λ _. Q.calls reducer.new ≡ Q.calls reducer.old ++ spec.calls_of guards (Fixed t) topology) }
-{
-    if guards.no_crossings {
-        guarded_topology(alloc, topology, t, ring_limit)
-    } else {
-        reduced_topology(alloc, reducer, topology, t, ring_limit)
-    }
-}
-
-/// What is left of a topology where its arcs are reduced at a level, under these guards, and rings under a limit are left out, the lines
-/// and rings that are dropped, how many positions are removed from the arcs that stay, and the threshold, where it was chosen.
+/// What is left of a topology where each arc is reduced by itself at a level and rings under a limit are left out, the lines and rings that
+/// are dropped, how many positions are removed from the arcs that stay, and the threshold, where it was chosen.
 fn topology_at<Q: Reducer>(
     alloc: Global,
     reducer: &mut Q,
     topology: Topology,
-    guards: Guards,
     level: Level,
     ring_limit: u128,
 ) -> Result<(Topology, Vec<Dropped>, u64, Option<u128>), Memory>
-    requires level { is_simplifying_level guards level ≡ true }
+    requires level { is_simplifying_level level ≡ true }
     requires limit { ring_limit ≤ threshold_limit }
-    ensures topology { IfOk result (λ r. r.0 ≡ simplified_under guards (topology_threshold level topology) ring_limit topology) }
-    ensures dropped { IfOk result (λ r. r.1.items ≡ dropped_under guards (topology_threshold level topology) ring_limit topology) }
-    ensures removed_count { IfOk result (λ r. r.2 ≡ saturated (removed_count_under guards (topology_threshold level topology) ring_limit topology)) }
-    ensures chosen { IfOk result (λ r. r.3 ≡ topology_chosen level topology) }
-    ensures called { IfOk result (λ _. Q.calls reducer.new ≡ Q.calls reducer.old ++ spec.calls_of guards level topology) }
+    ensures topology { IfOk result (λ r. r.0 ≡ simplified_contents (threshold_at level (arc_positions topology)) ring_limit topology) }
+    ensures dropped { IfOk result (λ r. r.1.items ≡ simplified_dropped (threshold_at level (arc_positions topology)) ring_limit topology) }
+    ensures removed_count { IfOk result (λ r. r.2 ≡ saturated (simplified_removed_count (threshold_at level (arc_positions topology)) ring_limit topology)) }
+    ensures chosen { IfOk result (λ r. r.3 ≡ chosen_at level (arc_positions topology)) }
+    ensures called { IfOk result (λ _. Q.calls reducer.new ≡ Q.calls reducer.old ++ spec.calls_of no_guards level topology) }
 {
     match level {
         Level::Fixed(t) => {
-            let (less, dropped, removed) = topology_under(
-                alloc, reducer, topology, guards, t, ring_limit,
+            let (less, dropped, removed) = reduced_topology(
+                alloc, reducer, topology, t, ring_limit,
             )?;
             Ok((less, dropped, removed, None))
         }
@@ -193,6 +171,31 @@ fn topology_at<Q: Reducer>(
             let (less, dropped, removed, t) = shared_topology(alloc, topology, p, q, ring_limit)?;
             Ok((less, dropped, removed, Some(t)))
         }
+    }
+}
+
+/// What is left of a topology where its arcs are reduced at a level, under these guards, and rings under a limit are left out, the lines
+/// and rings that are dropped, how many positions are removed from the arcs that stay, and the threshold, where it was chosen.
+fn topology_under<Q: Reducer>(
+    alloc: Global,
+    reducer: &mut Q,
+    topology: Topology,
+    guards: Guards,
+    level: Level,
+    ring_limit: u128,
+) -> Result<(Topology, Vec<Dropped>, u64, Option<u128>), Memory>
+    requires level { is_simplifying_level level ≡ true }
+    requires limit { ring_limit ≤ threshold_limit }
+    ensures topology { IfOk result (λ r. r.0 ≡ simplified_under guards (topology_threshold guards level topology) ring_limit topology) }
+    ensures dropped { IfOk result (λ r. r.1.items ≡ dropped_under guards (topology_threshold guards level topology) ring_limit topology) }
+    ensures removed_count { IfOk result (λ r. r.2 ≡ saturated (removed_count_under guards (topology_threshold guards level topology) ring_limit topology)) }
+    ensures chosen { IfOk result (λ r. r.3 ≡ topology_chosen guards level topology) }
+    ensures called { IfOk result (λ _. Q.calls reducer.new ≡ Q.calls reducer.old ++ spec.calls_of guards level topology) }
+{
+    if guards.no_crossings {
+        guarded_topology(alloc, topology, level, ring_limit)
+    } else {
+        topology_at(alloc, reducer, topology, level, ring_limit)
     }
 }
 
@@ -207,13 +210,13 @@ pub fn simplify_topology<Q: Reducer>(
     level: Level,
     ring_limit: u128,
 ) -> Result<(Topology, Report), Memory>
-    requires level { is_simplifying_level guards level ≡ true }
+    requires level { is_simplifying_level level ≡ true }
     requires limit { ring_limit ≤ threshold_limit }
-    ensures left { IfOk result (λ r. (r.0 ≡ simplified_under guards (topology_threshold level topology) ring_limit topology)
+    ensures left { IfOk result (λ r. (r.0 ≡ simplified_under guards (topology_threshold guards level topology) ring_limit topology)
         × (r.1 ≡ spec.report_of guards level ring_limit topology counts)) }
     ensures called { IfOk result (λ _. Q.calls reducer.new ≡ Q.calls reducer.old ++ spec.calls_of guards level topology) }
 {
-    let (less, dropped, removed, chosen) = topology_at(
+    let (less, dropped, removed, chosen) = topology_under(
         alloc, reducer, topology, guards, level, ring_limit,
     )?;
     let report = report_of(counts, dropped, less.arcs(), removed, chosen);

@@ -18,7 +18,7 @@ use crate::simplify_laws::simplified_text_is_utf8;
 use byte_ends::{Drain, Feed, Sink, Source, flush_after};
 use effective_area::Reducer;
 use inputs::{FileFault, Unwatched, Watch};
-use layer_topology::{Guards, Level, simplified_under_law};
+use layer_topology::{Guards, Level, share_stays_at_once, simplified_under_law};
 use reports::Report;
 use std::alloc::Global;
 use topojson_types::Topology;
@@ -35,7 +35,7 @@ fn read_and_simplify<Q: Reducer, R: Feed, K: Watch>(
     ring_limit: u128,
     watch: &mut K,
 ) -> Result<(Topology, Report), FileFault>
-    requires level { is_simplifying_level guards level ≡ true }
+    requires level { is_simplifying_level level ≡ true }
     requires limit { ring_limit ≤ threshold_limit }
     ensures given { IfOk result (λ r. IsReadAndSimplified guards level ring_limit source.old source.new r.0 r.1) }
     ensures reduced { IfOk result (λ _. CallsForTopology guards level source.old source.new (Q.calls reducer.old) (Q.calls reducer.new)) }
@@ -59,7 +59,7 @@ fn send<W: Drain>(topology: &Topology, sink: &mut Sink<W>) -> Result<u64, FileFa
 ///
 /// Each arc is reduced once at the threshold of `level`, twice an area in square units, by the positions that it stands for (Visvalingam
 /// and Whyatt 1993). For a share it is the greatest at which the share of the positions between the ends of all arcs stays. Where
-/// `guards` forbid crossings, all arcs are reduced at once in place of that, at a threshold that is given. The cells that stay keep their
+/// `guards` forbid crossings, all arcs are reduced at once in place of that, and so is a share reckoned. The cells that stay keep their
 /// numbers, and the transform stays. A line or ring that is left with too few positions is dropped, a ring of which twice the area is
 /// under `ring_limit` (in square units), and a ring of a polygon whose outer ring is; arcs that no line uses are left out. The report
 /// says what was counted in reading, what is dropped, of the arcs that are left how many positions stay and were removed, and the
@@ -74,10 +74,11 @@ pub fn simplify<Q: Reducer, R: Feed, W: Drain>(
     ring_limit: u128,
     sink: &mut Sink<W>,
 ) -> Result<Report, FileFault>
-    requires level { is_simplifying_level guards level ≡ true }
+    requires level { is_simplifying_level level ≡ true }
     requires limit { ring_limit ≤ threshold_limit }
     // The bytes spell a topology, what was written is the text of what is left of it, which is UTF-8, and the report is that of it. Where no
-    // crossing may be made, no more pairs of segments of what is left meet badly than of the topology, and none where none of that do.
+    // crossing may be made, no more pairs of segments of what is left meet badly than of the topology, and none where none of that do, and at
+    // least the share that is asked for stays of the positions between the ends of its arcs, before lines are dropped.
     ensures written { IfOk result (λ report. IsSimplified guards level ring_limit source.old source.new sink.old sink.new report) }
     // The reducer was asked to reduce each arc of the topology that was read at the threshold, in order, and for nothing else; for nothing at all
     // where a guard or a share is asked for.
@@ -115,6 +116,7 @@ pub fn simplify_watched<Q: Reducer, R: Feed, W: Drain, K: Watch>(
 {
     simplified_text_is_utf8();
     simplified_under_law();
+    share_stays_at_once();
     let (less, report) = read_and_simplify(
         alloc, reducer, source, guards, level, ring_limit, watch,
     )?;

@@ -1,24 +1,23 @@
-use Rattle.std.proofs.Common.{ℕ, ◌∙◌, List, map, true, ap}
-use Rattle.std.proofs.lemmas.Result.{IfOk-weaker}
+use Rattle.std.proofs.Common.{◌∙◌, map, ap}
 use Rattle.byte_ends.specs.Ends.{saturated}
-use Rattle.simplified_topology.specs.Guarded.{guarded_contents, guarded_dropped, guarded_indexes, guarded_removed_count}
+use Rattle.simplified_topology.specs.Guarded.{guarded_contents, guarded_dropped, guarded_removed_count}
 use Rattle.simplified_topology.specs.Simplified.{dropped_by, removed_count_by, simplified_by}
 use Rattle.mapchain_engine.proofs.guarding.guarded_topology.Goals as goal
 
-pub returns-in-Ok-clause-topology : goal.returns-in-Ok-clause-topology
+pub returns-in_ok-less-in-Ok-clause-topology : goal.returns-in_ok-less-in-Ok-clause-topology
 unfolding guarded_contents
-returns-in-Ok-clause-topology c =
-    let same = ap (map (λ k. k.items)) c.deref.ensures.value ∙ c.in-Ok.ensures in
-    IfOk-weaker c.reduce.result _ _ (λ r h. h ∙ ap (λ kept. simplified_by kept c.args.ring_limit c.args.topology) same) c.reduce.ensures.topology
+returns-in_ok-less-in-Ok-clause-topology c =
+    let same = ap (map (λ k. k.items)) c.deref.ensures.value ∙ c.in-Ok.ensures.kept in
+    c.in_ok-less-in-Ok.ensures.topology ∙ ap (λ kept. simplified_by kept c.args.ring_limit c.args.topology) same
 
-pub returns-in-Ok-clause-dropped : goal.returns-in-Ok-clause-dropped
+pub returns-in_ok-less-in-Ok-clause-dropped : goal.returns-in_ok-less-in-Ok-clause-dropped
 unfolding guarded_dropped
-returns-in-Ok-clause-dropped c =
-    let same = ap (map (λ k. k.items)) c.deref.ensures.value ∙ c.in-Ok.ensures in
-    IfOk-weaker c.reduce.result _ _ (λ r h. h ∙ ap (λ kept. dropped_by kept c.args.ring_limit c.args.topology) same) c.reduce.ensures.dropped
+returns-in_ok-less-in-Ok-clause-dropped c =
+    let same = ap (map (λ k. k.items)) c.deref.ensures.value ∙ c.in-Ok.ensures.kept in
+    c.in_ok-less-in-Ok.ensures.dropped ∙ ap (λ kept. dropped_by kept c.args.ring_limit c.args.topology) same
 
-pub returns-in-Ok-clause-removed_count : goal.returns-in-Ok-clause-removed_count
+pub returns-in_ok-less-in-Ok-clause-removed_count : goal.returns-in_ok-less-in-Ok-clause-removed_count
 unfolding guarded_removed_count
-returns-in-Ok-clause-removed_count c =
-    let same = ap (map (λ k. k.items)) c.deref.ensures.value ∙ c.in-Ok.ensures in
-    IfOk-weaker c.reduce.result _ _ (λ r h. h ∙ ap (λ kept. saturated (removed_count_by kept c.args.ring_limit c.args.topology)) same) c.reduce.ensures.removed_count
+returns-in_ok-less-in-Ok-clause-removed_count c =
+    let same = ap (map (λ k. k.items)) c.deref.ensures.value ∙ c.in-Ok.ensures.kept in
+    c.in_ok-less-in-Ok.ensures.removed_count ∙ ap (λ kept. saturated (removed_count_by kept c.args.ring_limit c.args.topology)) same

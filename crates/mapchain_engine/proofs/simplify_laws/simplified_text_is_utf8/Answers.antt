@@ -8,7 +8,7 @@ use Rattle.mapchain_engine.proofs.simplify_laws.simplified_text_is_utf8.Goals as
 
 pub returns : goal.returns
 returns c = λ guards level limit bytes contents counts spells.
-    let t = topology_threshold level contents in
+    let t = topology_threshold guards level contents in
     let v = spells.value in
     let formed = c.read_values_are_well_formed.ensures topology_depth bytes v spells.utf8 spells.spelled in
     let valid = c.topology_is_valid.ensures v contents counts spells.stands in

@@ -106,7 +106,7 @@ pub fn simplify_watched<Q: Reducer, R: Feed, W: Drain, K: Watch>(
     sink: &mut Sink<W>,
     watch: &mut K,
 ) -> Result<Report, FileFault>
-    requires level { is_simplifying_level guards level ≡ true }
+    requires level { is_simplifying_level level ≡ true }
     requires limit { ring_limit ≤ threshold_limit }
     ensures written { IfOk result (λ report. IsSimplified guards level ring_limit source.old source.new sink.old sink.new report) }
     ensures reduced { IfOk result (λ _. CallsForTopology guards level source.old source.new (Q.calls reducer.old) (Q.calls reducer.new)) }

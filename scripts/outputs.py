@@ -604,7 +604,7 @@ PARTS = (
     (try_what_is_no_file, 364),
     (try_devices, 160 if IS_ROOT else 180),
     (try_words, 24),
-    (try_losses, 14),
+    (try_losses, 24),
     (try_unreported, 4),
     (try_too_many_open, 1),
     (try_parts_of_others, 1055),

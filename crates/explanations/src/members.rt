@@ -1,6 +1,6 @@
 // The members of objects (RFC 8259, section 4) in bytes that were read before.
 use json_cursor::{Name, after_byte, name_at};
-use json_reading::{TOPOLOGY_DEPTH, after_value, skip};
+use json_reading::{TOPOLOGY_DEPTH, after_value, rest_after_first, skip};
 use std::alloc::Global;
 
 /// The name of the member at the front, and where its value begins; nothing of what is none, or for want of memory.
@@ -14,7 +14,49 @@ pub(crate) fn next_member(bytes: &[u8]) -> Option<&[u8]> {
     Some(skip(more))
 }
 
-/// What follows the value at the front; nothing of what is none, or for want of memory.
+/// The bytes before the first that is this one, or all of them.
+fn before_first(byte: u8, bytes: &[u8]) -> &[u8] {
+    let following = match rest_after_first(byte, bytes) {
+        Some(rest) => rest.len().saturating_add(1),
+        None => 0,
+    };
+    bytes
+        .get(..bytes.len().saturating_sub(following))
+        .unwrap_or(bytes)
+}
+
+/// The bytes up to the last bracket of an array that they end with, but for white space and a comma, if they do.
+fn up_to_bracket(bytes: &[u8]) -> Option<&[u8]> {
+    let mut front = bytes;
+    while let [before @ .., last] = front {
+        match last {
+            b']' => return Some(front),
+            b' ' | b'\t' | b'\n' | b'\r' | b',' => front = before,
+            _ => return None,
+        }
+    }
+    None
+}
+
+/// What follows the array that a member has at the front, where there is neither a text nor an object in it, as in most coordinates. That is
+/// looked for from its end: the next quotation mark begins the name of the next member, or there is none before the brace of the object.
+fn after_plain_array(alloc: Global, bytes: &[u8]) -> Option<&[u8]> {
+    after_byte(b'[', bytes)?;
+    let before_quote = before_first(b'"', bytes);
+    let before_brace = before_first(b'}', before_quote);
+    let array = up_to_bracket(before_brace)?;
+    let rest = bytes.get(array.len()..)?;
+    if before_brace.len() < before_quote.len() {
+        return Some(rest);
+    }
+    member_at(alloc, next_member(rest)?)?;
+    Some(rest)
+}
+
+/// What follows the value of a member at the front; nothing of what is none, or for want of memory.
 pub(crate) fn rest_after(alloc: Global, bytes: &[u8]) -> Option<&[u8]> {
-    after_value(alloc, TOPOLOGY_DEPTH, bytes).ok()
+    match after_plain_array(alloc, bytes) {
+        Some(rest) => Some(rest),
+        None => after_value(alloc, TOPOLOGY_DEPTH, bytes).ok(),
+    }
 }

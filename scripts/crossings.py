@@ -1,13 +1,15 @@
 #!/usr/bin/env python3
-"""Holds `simplify --no-crossings` and `stat --crossings` to their definitions, on random small topologies, and `build --no-crossings` to the first:
+"""Holds `simplify --no-crossings`, by an area and by a share, and `stat --crossings` to their definitions, on random small topologies, and
+`build --no-crossings` to the first:
 
     scripts/crossings.py N [--program path/to/mapchain] [--seed N]
 
 N topologies are made, of few arcs between few places, so that lines cross, touch, lie on one another and go back, and so that corners wait for
 others. Each is simplified by the program, and here by the definition itself: of all corners under the threshold that may go the least goes, again
-and again, and each is looked at anew each time. And the pairs of its segments that meet badly are counted by both. Its lines are also built as a
-layer, without a grid or on one: what that writes is to be what `simplify --no-crossings` makes of the layer that is built in full. It ends with
-status 1 where the arcs, the counts or the texts differ, or where more pairs meet badly than before. The last line says how many were tried, and how
+and again, and each is looked at anew each time. For a share they go so without a threshold, and the one that is chosen is found among their weights. And
+the pairs of its segments that meet badly are counted by both. Its lines are also built as a layer, without a grid or on one: what that writes, and
+chooses, is to be what `simplify --no-crossings` makes of the layer that is built in full, by the area and by the share. It ends with status 1 where
+the arcs, the counts, the thresholds or the texts differ, or where more pairs meet badly than before. The last line says how many were tried, and how
 often the option made a difference.
 """
 import argparse
@@ -73,20 +75,43 @@ def may_go(arcs, k, i):
     return True
 
 
+def next_corner(arcs, threshold):
+    """The corner that goes next, if there is one: its doubled area, and its place in its arc. It is under the threshold, if one is given."""
+    corners = []
+    for k, arc in enumerate(arcs):
+        for i in range(1, len(arc) - 1):
+            area = abs(cross(arc[i - 1][1], arc[i][1], arc[i + 1][1]))
+            if threshold is None or area < threshold:
+                corners.append((area, arc[i][1], k, arc[i][0], i))
+    found = next((corner for corner in sorted(corners) if may_go(arcs, corner[2], corner[4])), None)
+    return found and (found[0], found[2], found[4])
+
+
 def reduced(arcs, threshold):
     """The arcs by the definition. A corner is under the threshold where twice its area is."""
     arcs = [list(enumerate(arc)) for arc in arcs]
-    while True:
-        corners = []
-        for k, arc in enumerate(arcs):
-            for i in range(1, len(arc) - 1):
-                area = abs(cross(arc[i - 1][1], arc[i][1], arc[i + 1][1]))
-                if area < threshold:
-                    corners.append((area, arc[i][1], k, arc[i][0], i))
-        chosen = next((corner for corner in sorted(corners) if may_go(arcs, corner[2], corner[4])), None)
-        if chosen is None:
-            return [[p for _, p in arc] for arc in arcs]
-        del arcs[chosen[2]][chosen[4]]
+    while corner := next_corner(arcs, threshold):
+        del arcs[corner[1]][corner[2]]
+    return [[p for _, p in arc] for arc in arcs]
+
+
+def weights(arcs):
+    """The weights of the positions between the ends of arcs, by the definition: one that never goes has none."""
+    count = sum(max(len(arc) - 2, 0) for arc in arcs)
+    arcs = [list(enumerate(arc)) for arc in arcs]
+    found, greatest = [], 0
+    while corner := next_corner(arcs, None):
+        greatest = max(greatest, corner[0])
+        found.append(greatest)
+        del arcs[corner[1]][corner[2]]
+    return found + [None] * (count - len(found))
+
+
+def threshold_of(arcs, part, whole):
+    """The threshold of a share: of 0 and the weights the greatest at which at least the share of the positions stays."""
+    found = weights(arcs)
+    stay = lambda t: sum(weight is None or weight >= t for weight in found)
+    return max(t for t in [0] + [weight for weight in found if weight is not None] if part * len(found) <= whole * stay(t))
 
 
 def made(source):
@@ -108,15 +133,22 @@ def text_of(arcs):
     return json.dumps({"type": "Topology", "objects": objects, "arcs": arcs})
 
 
-def simplified(program, room, arcs, area, options):
-    """The arcs that the program leaves. A line that is left with one position is dropped with its arc, so there is an arc for each line that stays."""
+def chosen(ran):
+    """The threshold that the report of a run says was chosen, if any."""
+    name, number = ran.stderr.splitlines()[-1].split()
+    return int(number) if name == b"chosen" else None
+
+
+def simplified(program, room, arcs, options):
+    """The arcs that the program leaves, and the threshold that it chose, if any. A line that is left with one position is dropped with its arc, so
+    there is an arc for each line that stays."""
     path = os.path.join(room, "map.topojson")
     with open(path, "w", encoding="utf-8") as file:
         file.write(text_of(arcs))
-    ran = subprocess.run([program, "simplify", *options, "--min-area", str(area), path], capture_output=True, check=True)
+    ran = subprocess.run([program, "simplify", *options, path], capture_output=True, check=True)
     topology = json.loads(ran.stdout)
     lines = [line["arcs"][0] if line["type"] else None for line in topology["objects"]["a"]["geometries"]]
-    return [None if k is None else [tuple(p) for p in topology["arcs"][k]] for k in lines]
+    return [None if k is None else [tuple(p) for p in topology["arcs"][k]] for k in lines], chosen(ran)
 
 
 def layer_of(arcs):
@@ -124,16 +156,16 @@ def layer_of(arcs):
     return json.dumps({"type": "FeatureCollection", "features": lines})
 
 
-def as_built(program, room, arcs, area, options):
-    """Whether building a layer of these lines without crossings writes what simplifying the full topology does."""
+def as_built(program, room, arcs, level, options):
+    """Whether building a layer of these lines without crossings writes, and chooses, what simplifying the full topology does."""
     layer, full = os.path.join(room, "layer.json"), os.path.join(room, "full.topojson")
     with open(layer, "w", encoding="utf-8") as file:
         file.write(layer_of(arcs))
     subprocess.run([program, "build", "-q", *options, "-o", full, f"a={layer}"], check=True)
-    asked = ["-q", "--no-crossings", "--min-area", str(area)]
+    asked = ["--no-crossings", *level]
     built = subprocess.run([program, "build", *options, *asked, f"a={layer}"], capture_output=True, check=True)
     less = subprocess.run([program, "simplify", *asked, full], capture_output=True, check=True)
-    return built.stdout == less.stdout
+    return built.stdout == less.stdout and chosen(built) == chosen(less)
 
 
 def counted(program, room):
@@ -162,26 +194,30 @@ def main():
         for number in range(given.many):
             arcs = made(source)
             area = source.choice((0.5, 1, 1.5, 2.5, 4.5, 10, 50))
-            wanted = reduced(arcs, 2 * area)
-            got = simplified(program, room, arcs, area, ["--no-crossings"])
-            if [None if is_small(arc) else arc for arc in wanted] != got:
-                wrong += 1
-                print(f"topology {number} at {area}: {text_of(arcs)}\n  wanted {wanted}\n  got    {got}")
+            whole = source.choice((1, 2, 3, 4, 10))
+            part = source.randrange(whole + 1)
+            by_area, by_share = ["--min-area", str(area)], ["--keep", f"{part}/{whole}"]
+            threshold = threshold_of(arcs, part, whole)
+            for level, wanted, choice in (by_area, reduced(arcs, 2 * area), None), (by_share, reduced(arcs, threshold), threshold * 10**18):
+                got, chose = simplified(program, room, arcs, ["--no-crossings", *level])
+                if [None if is_small(arc) else arc for arc in wanted] != got or chose != choice:
+                    wrong += 1
+                    print(f"topology {number} by {level}: {text_of(arcs)}\n  wanted {wanted}, {choice}\n  got    {got}, {chose}")
+                left = [arc for arc in got if arc]
+                if crossings(left) > crossings(arcs):
+                    wrong += 1
+                    print(f"topology {number} by {level} has more crossings: {text_of(arcs)}")
+                plain, _ = simplified(program, room, arcs, level)
+                differing += plain != got
+                held += crossings([arc for arc in plain if arc]) > crossings(arcs)
+                options = source.choice(([], ["--grid", "4"], ["--grid", "7"]))
+                if not as_built(program, room, arcs, level, options):
+                    wrong += 1
+                    print(f"layer {number} by {level}, {options}, isn't built as it is simplified: {layer_of(arcs)}")
             if counted(program, room) != crossings(arcs):
                 wrong += 1
                 print(f"topology {number} has {crossings(arcs)} crossings, and {counted(program, room)} are counted: {text_of(arcs)}")
-            left = [arc for arc in got if arc]
-            if crossings(left) > crossings(arcs):
-                wrong += 1
-                print(f"topology {number} at {area} has more crossings: {text_of(arcs)}")
-            options = source.choice(([], ["--grid", "4"], ["--grid", "7"]))
-            if not as_built(program, room, arcs, area, options):
-                wrong += 1
-                print(f"layer {number} at {area}, {options}, isn't built as it is simplified: {layer_of(arcs)}")
-            plain = simplified(program, room, arcs, area, [])
-            differing += plain != got
-            held += crossings([arc for arc in plain if arc]) > crossings(arcs)
-    print(f"crossings: {given.many} topologies tried, {wrong} wrong; the option made a difference to {differing}, and {held} had more crossings without it")
+    print(f"crossings: {given.many} topologies tried, {wrong} wrong; by an area and by a share the option made a difference {differing} times, and {held} times there were more crossings without it")
     return 1 if wrong else 0
 
 

@@ -1,5 +1,5 @@
 -- What `build` asks for, whichever of its options are given.
-use Rattle.std.proofs.Common.{◌≡◌, ◌∙◌, ◌<◌, ◌≤◌, ◌==◌, ◌++◌, ◌&&◌, ◌||◌, ℕ, List, [], ◌∷◌, Bool, true, false, Option, Some, None, codes, length, refl, sym, ap, ap₂, arith, append-nil, append_assoc, le-ltb}
+use Rattle.std.proofs.Common.{◌≡◌, ◌∙◌, ◌<◌, ◌≤◌, ◌==◌, ◌++◌, ◌&&◌, ℕ, List, [], ◌∷◌, Bool, true, false, Option, Some, None, codes, length, refl, sym, ap, ap₂, arith, append-nil, append_assoc, le-ltb}
 use Rattle.std.specs.Prelude.{IfSome, is_some, nat_lt, option_and_then, option_map, pos, unwrap_or, find, fold}
 use Rattle.std.specs.Option.{option_or}
 use Rattle.std.specs.Str.{bytes_eq}
@@ -216,9 +216,9 @@ module _ (output cells area keep : Option Text) (ring_area : Text) (no_crossings
   layers_read = ap (λ (o : Option Row). layers_of (unwrap_or (option_map (λ (r : Row). r.values) o) [])) layers_found
 
   pub build_law : (grid : Option ℕ) (layers : List (Text × Text)) → grid_at (option_map without_minus cells) ≡ Some grid → layers_of (word ∷ words) ≡ Some layers
-      → ((is_some area || no_crossings) && is_some keep) ≡ false → order_of (codes "build" ∷ given) ≡ Some (build layers exact grid (unwrap_or area (codes "0")) keep ring_area no_crossings, output)
+      → (is_some area && is_some keep) ≡ false → order_of (codes "build" ∷ given) ≡ Some (build layers exact grid (unwrap_or area (codes "0")) keep ring_area no_crossings, output)
   build_law grid layers read named one =
       asks ∙ order_asked rows_at_end output (build layers exact grid (unwrap_or area (codes "0")) keep ring_area no_crossings) output_read
       (build_asked rows_at_end grid layers exact (unwrap_or area (codes "0")) keep ring_area no_crossings
-      ((λ i. (is_some (area_read i) || no_crossings_read i) && is_some (keep_read i)) ∙ one) (grid_read ∙ read) (layers_read ∙ named)
+      ((λ i. is_some (area_read i) && is_some (keep_read i)) ∙ one) (grid_read ∙ read) (layers_read ∙ named)
       (sym exact_read) (ap (λ (o : Option Text). unwrap_or o (codes "0")) (sym area_read)) (sym keep_read) (sym ring_area_read) (sym no_crossings_read))

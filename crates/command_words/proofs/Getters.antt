@@ -13,13 +13,13 @@ use Rattle.clap.specs.declared.error.Error.{Error}
 use Rattle.clap.specs.declared.error.kind.ErrorKind.{ErrorKind}
 use Rattle.clap.specs.declared.error.kind.ErrorKind.TheVariants.{OutOfMemory}
 use Rattle.std.specs.List.{list_all}
-use Rattle.std.specs.Prelude.{◌&&◌, ◌||◌, codes, is_some}
+use Rattle.std.specs.Prelude.{◌&&◌, codes, is_some}
 use Rattle.command_words.specs.Faults.{IsBuildFault, IsFaultBy, IsLayersFault, is_help, is_memory, is_refused}
 use Rattle.command_words.specs.declared.words_fault.WordsFault.{WordsFault}
 use Rattle.command_words.specs.declared.words_fault.WordsFault.TheVariants.{GridRange, Help, Memory, NoEquals, Refused}
 use Rattle.clap.proofs.WalkLemmas.{first_value-rows, raw_values-rows}
 use Rattle.clap.proofs.ValueTestLemmas.{accepts-Accepts, Accepts-accepts}
-use Rattle.command_words.specs.Asked.{area_in, build, build_in, build_on, cells_of, exact_in, excludes_share, explains_in, grid_at, grid_in, has_both, keep_in, layer_words, layers_in, no_crossings_in, ring_area_in, where_none}
+use Rattle.command_words.specs.Asked.{area_in, build, build_in, build_on, cells_of, exact_in, explains_in, grid_at, grid_in, has_both, keep_in, layer_words, layers_in, no_crossings_in, ring_area_in, where_none}
 
 now_or : (r : Option (Bor Text)) (x e : Bor Text) → x ≡ unwrap_or r e → x.now ≡ unwrap_or (option_map (λ s. s.now) r) e.now
 now_or None x e is = ap (λ (y : Bor Text). y.now) is
@@ -105,20 +105,18 @@ is_kept : (rows : List Row) (r : Option (Bor Text)) → option_map (λ s. s.now)
 is_kept rows None given = ap is_some (sym given)
 is_kept rows (Some x) given = ap is_some (sym given)
 
--- what a share can't stand beside, where there is an area, and where there is none
-pub with_area : (f : Found) (area : Option (Bor Text)) → option_map (λ s. s.now) area ≡ first_value f (codes "min-area") → is_some area ≡ true → true ≡ excludes_share (rows_of f)
-with_area f area a some = sym (ap (λ b. b || no_crossings_in (rows_of f)) (is_given f (codes "min-area") area a ∙ some))
+pub both_are : (f : Found) (area keep : Option (Bor Text)) → option_map (λ s. s.now) area ≡ first_value f (codes "min-area")
+    → option_map (λ s. s.now) keep ≡ keep_in (rows_of f) → has_both (rows_of f) ≡ (is_some area && is_some keep)
+both_are f area keep a k = ap₂ (λ x y. x && y) (is_given f (codes "min-area") area a) (is_kept (rows_of f) keep k)
 
-pub without_area : (f : Found) (area : Option (Bor Text)) (no_crossings : Bool) → option_map (λ s. s.now) area ≡ first_value f (codes "min-area") → is_some area ≡ false
-    → no_crossings ≡ no_crossings_in (rows_of f) → no_crossings ≡ excludes_share (rows_of f)
-without_area f area no_crossings a none same = same ∙ sym (ap (λ b. b || no_crossings_in (rows_of f)) (is_given f (codes "min-area") area a ∙ none))
+-- whether an area and a share are given both, where there is an area, and where there is none
+pub with_area : (f : Found) (area keep : Option (Bor Text)) → option_map (λ s. s.now) area ≡ first_value f (codes "min-area")
+    → option_map (λ s. s.now) keep ≡ keep_in (rows_of f) → is_some area ≡ true → is_some keep ≡ has_both (rows_of f)
+with_area f area keep a k some = sym (both_are f area keep a k ∙ ap (λ b. b && is_some keep) some)
 
--- whether that and a share are given both
-pub with_excluded : (rows : List Row) (keep : Option (Bor Text)) → option_map (λ s. s.now) keep ≡ keep_in rows → excludes_share rows ≡ true → is_some keep ≡ has_both rows
-with_excluded rows keep k e = sym (ap₂ (λ x y. x && y) e (is_kept rows keep k))
-
-pub without_excluded : (rows : List Row) → excludes_share rows ≡ false → false ≡ has_both rows
-without_excluded rows e = sym (ap (λ b. b && is_some (keep_in rows)) e)
+pub without_area : (f : Found) (area : Option (Bor Text)) → option_map (λ s. s.now) area ≡ first_value f (codes "min-area") → is_some area ≡ false
+    → false ≡ has_both (rows_of f)
+without_area f area a none = sym (ap (λ b. b && is_some (keep_in (rows_of f))) (is_given f (codes "min-area") area a ∙ none))
 
 -- ---- what `build` asks for
 

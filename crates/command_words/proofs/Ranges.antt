@@ -1,13 +1,12 @@
--- The grid and the share of what words ask for.
+-- The grid of what words ask for.
 use Rattle.std.proofs.Common.{◌≡◌, ◌^◌, ℕ, List, [], ◌∷◌, Bool, true, false, Option, Some, None, arith, refl, subst}
-use Rattle.std.specs.Borrow.{Bor}
-use Rattle.std.specs.Prelude.{◌&&◌, ◌||◌, IfSome, codes, is_some, option_and_then, option_map, if◌then◌else◌}
+use Rattle.std.specs.Prelude.{IfSome, codes, option_and_then, option_map, if◌then◌else◌}
 use Rattle.std.specs.Str.{bytes_eq}
 use Rattle.std.specs.Str.Parse.{digits_value, without_leading_plus}
 use Rattle.clap.specs.Kinds.{Kinds}
 use Rattle.clap.specs.ValueTests.{is_unsigned_in}
 use Rattle.clap.specs.Simple.{subcommand_of}
-use Rattle.clap.specs.Walk.{Row, Text, first_of, one_of}
+use Rattle.clap.specs.Walk.{Row, Text, one_of}
 use Rattle.clap.specs.declared.builder.value_parser.ValueParser.TheVariants.{Unsigned}
 use Rattle.clap.proofs.ValueTestLemmas.{accepts-Accepts}
 use Rattle.command_words.specs.Asked.{Asked, Ordered, area_in, asked, asked_in, build, build_in, build_on, cells_of, geo, grid_at, grid_in, has_both, keep_in, kinds_of, layers_in, no_crossings_in, order_of, ordered, ordered_in, output_in, ring_area_in, simplify, simplify_in, stat, stat_in, text_of, where_none}
@@ -17,10 +16,10 @@ use Rattle.command_words.specs.declared.request.Order.{Order}
 use Rattle.command_words.specs.declared.request.Request.{Request}
 use Rattle.command_words.specs.declared.request.Request.TheVariants.{Build, Simplify, Geo, Stat}
 
--- its grid, if any, may have its number of cells, and no share is asked for where no crossing may be made
+-- its grid, if any, may have its number of cells
 abbrev Fits : Asked → Type 0
-Fits (build layers exact grid area keep ring_area no_crossings) = IfSome grid IsCells × (no_crossings ≡ true → keep ≡ None)
-Fits (simplify area keep ring_area no_crossings path) = no_crossings ≡ true → keep ≡ None
+Fits (build layers exact grid area keep ring_area no_crossings) = IfSome grid IsCells
+Fits (simplify area keep ring_area no_crossings path) = Unit {0}
 Fits (geo name path) = Unit {0}
 Fits (stat crossings path) = Unit {0}
 
@@ -39,44 +38,23 @@ grid_in_range : (given : Option Text) → IfSome (grid_at given) (λ grid. IfSom
 grid_in_range None = tt
 grid_in_range (Some text) = some_cells (cells_of text) (cells_in_range text)
 
--- beside what excludes a share there is none
-alone : (area no_crossings : Bool) (keep : Option Text) → ((area || no_crossings) && is_some keep) ≡ false → no_crossings ≡ true → keep ≡ None
-alone area no_crossings None h e = refl
-alone true no_crossings (Some keep) h e = absurd cc
-alone false true (Some keep) h e = absurd cc
-alone false false (Some keep) h e = absurd cc
-
-build_in_range : (rows : List Row) (grid : Option (Option ℕ)) (layers : Option (List (Text × Text))) → IfSome grid (λ g. IfSome g IsCells) → (no_crossings_in rows ≡ true → keep_in rows ≡ None)
+build_in_range : (rows : List Row) (grid : Option (Option ℕ)) (layers : Option (List (Text × Text))) → IfSome grid (λ g. IfSome g IsCells)
     → IfSome (option_and_then (λ g. option_map (build_on rows g) layers) grid) Fits
-build_in_range rows None layers h k = tt
-build_in_range rows (Some g) None h k = tt
-build_in_range rows (Some g) (Some ls) h k = (h, k)
-
-built_in_range : (rows : List Row) → IfSome (build_in rows) Fits
-built_in_range rows = on (has_both rows) refl
-  where
-    on : (b : Bool) → has_both rows ≡ b → IfSome (if b then None else option_and_then (λ g. option_map (build_on rows g) (layers_in rows)) (grid_in rows)) Fits
-    on true e = tt
-    on false e =
-        build_in_range rows (grid_in rows) (layers_in rows) (grid_in_range (one_of (codes "grid") rows)) (alone (is_some (first_of (codes "min-area") rows)) (no_crossings_in rows) (keep_in rows) e)
+build_in_range rows None layers h = tt
+build_in_range rows (Some g) None h = tt
+build_in_range rows (Some g) (Some ls) h = h
 
 either : (b : Bool) (x y : Option Asked) → IfSome x Fits → IfSome y Fits → IfSome (if b then x else y) Fits
 either true x y h k = h
 either false x y h k = k
 
--- no share is asked for beside what excludes it
-without_crossings : (area flag : Bool) (keep : Option Text) (given ring_area path : Text)
-    → IfSome (if (area || flag) && is_some keep then None else Some (simplify given keep ring_area flag path)) Fits
-without_crossings true flag None given ring_area path = λ e. refl
-without_crossings true flag (Some k) given ring_area path = tt
-without_crossings false true None given ring_area path = λ e. refl
-without_crossings false true (Some k) given ring_area path = tt
-without_crossings false false None given ring_area path = λ e. refl
-without_crossings false false (Some k) given ring_area path = λ e. absurd cc
+built_in_range : (rows : List Row) → IfSome (build_in rows) Fits
+built_in_range rows =
+    either (has_both rows) None (option_and_then (λ g. option_map (build_on rows g) (layers_in rows)) (grid_in rows)) tt
+    (build_in_range rows (grid_in rows) (layers_in rows) (grid_in_range (one_of (codes "grid") rows)))
 
 simplify_in_range : (rows : List Row) → IfSome (simplify_in rows) Fits
-simplify_in_range rows =
-    without_crossings (is_some (first_of (codes "min-area") rows)) (no_crossings_in rows) (keep_in rows) (area_in rows) (ring_area_in rows) (text_of (codes "file") rows)
+simplify_in_range rows = either (has_both rows) None (Some (simplify (area_in rows) (keep_in rows) (ring_area_in rows) (no_crossings_in rows) (text_of (codes "file") rows))) tt tt
 
 command_in_range : (found : Text × List Row) → IfSome (asked_in found) Fits
 command_in_range found =
@@ -105,17 +83,13 @@ unless_refused : (kinds : Kinds) (o : Option Ordered) → IfSome o (λ (x : Orde
 unless_refused [] o h = h
 unless_refused (k ∷ ks) o h = tt
 
-none_of : (keep : Option (Bor Text)) → option_map (λ k. k.now) keep ≡ None → keep ≡ None
-none_of None e = refl
-none_of (Some k) e = absurd cc
-
 of_request : (request : Request) → Fits (asked request) → IsInRange request
-of_request (Build layers exact grid area keep ring_area no_crossings) h = (h.0, λ e. none_of keep (h.1 e))
-of_request (Simplify area keep ring_area no_crossings path) h = λ e. none_of keep (h e)
+of_request (Build layers exact grid area keep ring_area no_crossings) h = h
+of_request (Simplify area keep ring_area no_crossings path) h = tt
 of_request (Geo name path) h = tt
 of_request (Stat crossings path) h = tt
 
--- the grid of a request that words ask for may have its number of cells, and no share is asked for where no crossing may be made
+-- the grid of a request that words ask for may have its number of cells
 pub asked_in_range : (words : List Text) (order : Order) → order_of words ≡ Some (ordered order) → IsInRange order.request
 asked_in_range words order is =
     of_request order.request (subst (λ (o : Option Ordered). IfSome o (λ (x : Ordered). Fits x.0)) is

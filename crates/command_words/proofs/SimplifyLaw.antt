@@ -1,5 +1,5 @@
 -- What `simplify` asks for, whichever of its options are given.
-use Rattle.std.proofs.Common.{◌≡◌, ◌∙◌, ◌++◌, ◌&&◌, ◌||◌, List, [], ◌∷◌, Bool, false, true, Option, Some, None, codes, cond, refl, ap, ap₂}
+use Rattle.std.proofs.Common.{◌≡◌, ◌∙◌, ◌++◌, ◌&&◌, List, [], ◌∷◌, Bool, false, true, Option, Some, None, codes, cond, refl, ap, ap₂}
 use Rattle.std.specs.Prelude.{find, fold, is_some, option_map, unwrap_or, if◌then◌else◌}
 use Rattle.std.specs.Option.{option_or}
 use Rattle.std.specs.Str.{bytes_eq}
@@ -86,7 +86,7 @@ nothing_missing rows path found = rw found refl
 -- what is asked for by these values of the options
 abbrev asked_by : Option Text → Option Text → Option Text → Bool → Option Text → Option Asked
 asked_by area keep ring_area no_crossings path =
-    if (is_some area || no_crossings) && is_some keep then None
+    if is_some area && is_some keep then None
     else Some (simplify (unwrap_or area (codes "0")) keep (unwrap_or ring_area (codes "0")) no_crossings (unwrap_or path []))
 
 module _ (output area keep : Option Text) (ring_area path : Text) (no_crossings : Bool) where
@@ -161,7 +161,7 @@ module _ (output area keep : Option Text) (ring_area path : Text) (no_crossings 
   path_read : first_of (codes "file") rows_at_end ≡ Some path
   path_read = at_end (codes "file")
 
-  pub simplify_law : ((is_some area || no_crossings) && is_some keep) ≡ false
+  pub simplify_law : (is_some area && is_some keep) ≡ false
       → order_of (codes "simplify" ∷ given) ≡ Some (simplify (unwrap_or area (codes "0")) keep ring_area no_crossings path, output)
   simplify_law alone =
       asks

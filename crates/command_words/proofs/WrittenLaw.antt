@@ -1,5 +1,5 @@
 -- What is written is what is asked for.
-use Rattle.std.proofs.Common.{◌≡◌, ◌∙◌, ◌+◌, ◌<◌, ◌==◌, ◌||◌, ◌&&◌, ◌++◌, ℕ, suc, List, [], ◌∷◌, Bool, true, false, Option, Some, None, cond, length, map, take, drop, refl, sym, ap, ap₂, arith, subst, lt-ltb, length-append}
+use Rattle.std.proofs.Common.{◌≡◌, ◌∙◌, ◌+◌, ◌<◌, ◌==◌, ◌||◌, ◌++◌, ℕ, suc, List, [], ◌∷◌, Bool, true, false, Option, Some, None, cond, length, map, take, drop, refl, sym, ap, ap₂, arith, subst, lt-ltb, length-append}
 use Rattle.std.proofs.Common.{ℤ, ◌≤◌, ◌^◌}
 use Rattle.std.specs.Prelude.{FitsSigned, IfSome, decimal, nat_lt, option_map, neg_ℤ, pos, unwrap_or, ◌≤ℤ◌}
 use Rattle.std.specs.Int.{w64}
@@ -121,11 +121,10 @@ asked_as_written (build (layer ∷ layers) exact grid area None ring_area no_cro
     (grid_taken grid can.0) grid (layer ∷ layers) (grid_read grid can.0) (all_split (layer ∷ layers) can.3) refl
 asked_as_written (build (layer ∷ layers) exact grid area (Some share) ring_area no_crossings, output) can =
     build_law output (option_map decimal grid) None (Some share) ring_area no_crossings exact (layer_word layer) (map layer_word layers) (fits layers can.2)
-    (grid_taken grid can.0) grid (layer ∷ layers) (grid_read grid can.0) (all_split (layer ∷ layers) can.3) (ap (λ b. b && true) can.4.1)
-    ∙ (λ i. Some (build (layer ∷ layers) exact grid (sym can.4.0 i) (Some share) ring_area no_crossings, output))
+    (grid_taken grid can.0) grid (layer ∷ layers) (grid_read grid can.0) (all_split (layer ∷ layers) can.3) refl
+    ∙ (λ i. Some (build (layer ∷ layers) exact grid (sym can.4 i) (Some share) ring_area no_crossings, output))
 asked_as_written (simplify area None ring_area no_crossings path, output) can = simplify_law output (Some area) None ring_area path no_crossings refl
-asked_as_written (simplify area (Some share) ring_area true path, output) can = cc
-asked_as_written (simplify area (Some share) ring_area false path, output) can =
-    simplify_law output None (Some share) ring_area path false refl ∙ (λ i. Some (simplify (sym can.0 i) (Some share) ring_area false path, output))
+asked_as_written (simplify area (Some share) ring_area no_crossings path, output) can =
+    simplify_law output None (Some share) ring_area path no_crossings refl ∙ (λ i. Some (simplify (sym can i) (Some share) ring_area no_crossings path, output))
 asked_as_written (geo name path, output) can = geo_law output name path
 asked_as_written (stat crossings path, output) can = stat_law output crossings path

@@ -1,5 +1,5 @@
 -- What the words after the program's name ask for.
-use Rattle.std.specs.Prelude.{◌≡◌, ◌⊎◌, ◌+◌, ◌^◌, ◌==◌, ℕ, Bool, is_some, ◌&&◌, ◌||◌, List, [], ◌∷◌, map, take, drop, codes, Option, Some, None}
+use Rattle.std.specs.Prelude.{◌≡◌, ◌⊎◌, ◌+◌, ◌^◌, ◌==◌, ℕ, Bool, is_some, ◌&&◌, List, [], ◌∷◌, map, take, drop, codes, Option, Some, None}
 use Rattle.std.specs.Prelude.{Result, Ok, Err, if◌then◌else◌, option_map, option_and_then, unwrap_or}
 use Rattle.std.specs.List.{position}
 use Rattle.std.specs.Str.{bytes_eq}
@@ -87,13 +87,9 @@ ring_area_in rows = unwrap_or (first_of (codes "min-ring-area") rows) (codes "0"
 abbrev pub no_crossings_in : List Row → Bool
 no_crossings_in rows = bytes_eq (text_of (codes "no-crossings") rows) (codes "true")
 
--- what a share can't stand beside: an area, or that no crossing may be made
-abbrev pub excludes_share : List Row → Bool
-excludes_share rows = is_some (first_of (codes "min-area") rows) || no_crossings_in rows
-
--- a share is given, and what it can't stand beside
+-- an area and a share are given both
 abbrev pub has_both : List Row → Bool
-has_both rows = excludes_share rows && is_some (keep_in rows)
+has_both rows = is_some (first_of (codes "min-area") rows) && is_some (keep_in rows)
 
 -- crossings are counted
 abbrev pub crossings_in : List Row → Bool
@@ -120,7 +116,7 @@ layers_in rows = layers_of (layer_words rows)
 abbrev pub build_on : List Row → Option ℕ → List (Text × Text) → Asked
 build_on rows grid layers = build layers (exact_in rows) grid (area_in rows) (keep_in rows) (ring_area_in rows) (no_crossings_in rows)
 
--- what `build` asks for, which takes no share beside an area, nor where no crossing may be made
+-- what `build` asks for, which takes no share beside an area
 abbrev pub build_in : List Row → Option Asked
 build_in rows = if has_both rows then None else option_and_then (λ grid. option_map (build_on rows grid) (layers_in rows)) (grid_in rows)
 

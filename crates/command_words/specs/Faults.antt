@@ -51,7 +51,7 @@ IsLayersFault explains words Memory = Unit {0}
 IsLayersFault explains words (NoEquals layer advice) = IsFirstWithout words layer × IsAdvice explains (string_bytes advice)
 IsLayersFault explains words fault = ⊥
 
--- What is said of the arguments of `build`, but for want of memory, where no share stands beside what excludes it: that its grid is out of range, or
+-- What is said of the arguments of `build`, but for want of memory, where no share stands beside an area: that its grid is out of range, or
 -- else which is the first word for a layer that has no `=`, with advice only where the run is to be explained.
 abbrev pub IsBuildFault : List Row → WordsFault → Type 0
 IsBuildFault rows Memory = Unit {0}
@@ -66,7 +66,7 @@ IsCommandFault found Memory = Unit {0}
 IsCommandFault None fault = ⊥
 IsCommandFault (Some found) fault = (bytes_eq found.0 (codes "build") ≡ true) × IsBuildFault found.1 fault
 
--- no command is found, or `build` or `simplify` with a share beside an area, or where no crossing may be made
+-- no command is found, or `build` or `simplify` with a share beside an area
 abbrev pub is_refused : Option (Text × List Row) → Bool
 is_refused None = true
 is_refused (Some found) = if bytes_eq found.0 (codes "build") then has_both found.1

@@ -68,10 +68,10 @@ HasPlainNames [] = Unit {0}
 HasPlainNames (layer ∷ layers) = (has_byte equals_sign layer.0 ≡ false) × HasPlainNames layers
 
 -- a request that `written` writes: a build has a layer or more, a grid from 2 to 10^9 cells if any, and beside a share
--- an area of 0, where crossings may be made; so has simplifying
+-- an area of 0; so has simplifying
 abbrev pub IsWritable : Asked → Type 0
 IsWritable (build layers exact grid area keep ring_area no_crossings) = IfSome grid IsCells × (0 < length layers) × (length layers < usize_max)
-    × HasPlainNames layers × IfSome keep (λ _. (area ≡ codes "0") × (no_crossings ≡ false))
-IsWritable (simplify area keep ring_area no_crossings path) = IfSome keep (λ _. (area ≡ codes "0") × (no_crossings ≡ false))
+    × HasPlainNames layers × IfSome keep (λ _. area ≡ codes "0")
+IsWritable (simplify area keep ring_area no_crossings path) = IfSome keep (λ _. area ≡ codes "0")
 IsWritable (geo name path) = Unit {0}
 IsWritable (stat crossings path) = Unit {0}

@@ -41,7 +41,7 @@ is dropped as 'outer'.
 A topology that 'mapchain build' wrote without areas becomes, byte for byte, what
 'mapchain build' writes of the same files with the areas that are given here, and with
 '--no-crossings' where it is given; and so with '--keep', unless that topology has no
-arcs of a hole that was dropped as 'outer'.",
+arcs of a hole that was dropped as 'outer', and '--no-crossings' isn't given.",
     after: "Example:
   mapchain simplify --min-area 0.0001 map.topojson > small.topojson",
     after_long: "Example:

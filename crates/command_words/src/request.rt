@@ -44,7 +44,7 @@ pub enum Request<'a> {
         keep: Option<&'a str>,
         /// Rings are left out that enclose less than the area of this text, in the same units.
         ring_area: &'a str,
-        /// No point is removed where lines would then cross. There is no share then.
+        /// No point is removed where lines would then cross.
         no_crossings: bool,
     },
     /// What is left of the topology in the file of this path where its lines are reduced.
@@ -55,7 +55,7 @@ pub enum Request<'a> {
         keep: Option<&'a str>,
         /// Rings are left out that enclose less than the area of this text, in the same units.
         ring_area: &'a str,
-        /// No point is removed where lines would then cross. Not beside a share.
+        /// No point is removed where lines would then cross.
         no_crossings: bool,
         path: &'a str,
     },
@@ -161,18 +161,11 @@ fn has_no_crossings(arguments: &ArgMatches<'_>) -> bool
     text_of(arguments, NO_CROSSINGS) == "true"
 }
 
-/// Whether an area is given, or no crossing may be made: neither can stand beside a share.
-fn excludes_share(arguments: &ArgMatches<'_>) -> bool
-    ensures { result ≡ spec.excludes_share (entries_of arguments.now) }
-{
-    arguments.get_str(AREA).is_some() || has_no_crossings(arguments)
-}
-
-/// Whether a share is given, and what it can't stand beside.
+/// Whether an area and a share are given both.
 fn has_both(arguments: &ArgMatches<'_>) -> bool
     ensures { result ≡ spec.has_both (entries_of arguments.now) }
 {
-    excludes_share(arguments) && keep_of(arguments).is_some()
+    arguments.get_str(AREA).is_some() && keep_of(arguments).is_some()
 }
 
 /// Whether crossings are counted.
@@ -196,7 +189,7 @@ fn is_quiet(arguments: &ArgMatches<'_>) -> bool
     text_of(arguments, QUIET) == "true"
 }
 
-/// What the command that builds a topology asks for, unless it is given a share beside what excludes one.
+/// What the command that builds a topology asks for, unless it is given an area and a share both.
 fn build_request<'a>(
     alloc: Global,
     arguments: &ArgMatches<'a>,
@@ -228,7 +221,7 @@ fn build_request<'a>(
     }))
 }
 
-/// What the command that simplifies a topology asks for, unless it is given a share beside what excludes one.
+/// What the command that simplifies a topology asks for, unless it is given an area and a share both.
 fn simplify_request<'a>(arguments: &ArgMatches<'a>) -> Option<Request<'a>>
     ensures asked { simplify_in (entries_of arguments.now) ≡ option_map asked result }
     ensures both { result ≡ None → spec.has_both (entries_of arguments.now) ≡ true }
@@ -275,7 +268,7 @@ fn request_in<'a>(
     Ok(None)
 }
 
-/// What is said of refused words, by the command line in which a share can't stand beside what excludes it.
+/// What is said of refused words, by the command line in which a share can't stand beside an area.
 fn refusal(alloc: Global, words: &[String]) -> Result<WordsFault, AllocError>
     ensures { IfOk result (λ f. (f ≡ Memory) ⊎ ((e : ClapError) × (f ≡ Refused e))) }
 {

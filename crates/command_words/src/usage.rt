@@ -131,7 +131,8 @@ more where points go at the same area. P and Q are whole numbers, Q from 1 to
 1000000000 and P at most Q. The share is counted over all arcs, before small lines
 are dropped. The report gives the area in a line 'chosen T': T is twice the area, in
 square units of 10^-9; '--explain' says the area as '--min-area' takes it. This option
-can't stand beside '--min-area' or '--no-crossings'";
+can't stand beside '--min-area'. Beside '--no-crossings' points that are left at any
+area count as well, and more may stay than was asked";
 
 const RING_AREA_HELP: &str = "Leave out rings that enclose less than the area B";
 
@@ -216,21 +217,17 @@ fn program_with<'a>(
         .subcommand(stat(alloc)?)
 }
 
-/// The command line of the program. It takes a share beside what excludes it, which `build_request` and `simplify_request` refuse.
+/// The command line of the program. It takes a share beside an area, which `build_request` and `simplify_request` refuse.
 pub(crate) fn program<'a>(alloc: Global) -> Result<Command<'a>, AllocError>
     ensures { IfOk result (λ c. IsApp c program_app) }
 {
     program_with(alloc, keep(alloc), keep(alloc))
 }
 
-/// The command line of the program, which refuses a share beside an area or `--no-crossings`. What is said of refused words is said by it.
+/// The command line of the program, which refuses a share beside an area. What is said of refused words is said by it.
 pub(crate) fn telling_program<'a>(alloc: Global) -> Result<Command<'a>, AllocError> {
-    let build_keep = keep(alloc)
-        .conflicts_with(AREA)?
-        .conflicts_with(NO_CROSSINGS)?;
-    let simplify_keep = keep(alloc)
-        .conflicts_with(AREA)?
-        .conflicts_with(NO_CROSSINGS)?;
+    let build_keep = keep(alloc).conflicts_with(AREA)?;
+    let simplify_keep = keep(alloc).conflicts_with(AREA)?;
     program_with(alloc, build_keep, simplify_keep)
 }
 

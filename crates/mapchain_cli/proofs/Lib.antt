@@ -1,7 +1,6 @@
 pub mod Cut
 pub mod Delivered
 pub mod Kept
-mod Levels
 pub mod Opened
 pub mod Refusals
 pub mod Statuses

@@ -65,7 +65,7 @@ pub(crate) fn simplify_file<F: Files, V: Drain>(
     files: &mut F,
     out: &mut Sink<V>,
 ) -> Result<Report, FileFault>
-    requires level { is_simplifying_level guards level ≡ true }
+    requires level { is_simplifying_level level ≡ true }
     requires limit { ring_limit ≤ threshold_limit }
     ensures simplified { IfOk result (λ report. SimplifiesOf (used (F.state files.old) (F.state files.new)) guards level ring_limit path.now out.old out.new report) }
     ensures reduced { IfOk result (λ _. (old : Fed) × (new : Fed) × IsOpened ((F.state files.old).contents) path.now old

@@ -3,7 +3,7 @@ ghost use Rattle.std.specs.Prelude.{◌≡◌, ◌⊎◌, ◌≤◌, IfErr, IfOk
 ghost use Rattle.effective_area.specs.Thresholds.{threshold_of};
 ghost use Rattle.geometry.specs.Units.{threshold_limit};
 ghost use Rattle.command_words.specs.Requests.{IsCells};
-ghost use Rattle.layer_topology.specs.GuardedWritten.{is_level_under};
+ghost use Rattle.layer_topology.specs.Levels.{is_level};
 ghost use Rattle.mapchain_cli.specs.Asking.{AreRefused, IsAskedFor, IsLevelOf, LevelIsRefused, level_of};
 ghost use Rattle.mapchain_cli.specs.declared.ending.Ending.TheVariants as ending;
 
@@ -40,12 +40,11 @@ fn thresholds_asked(alloc: Global, area: &str, ring_area: &str) -> Result<(u128,
     Ok((threshold, ring_limit))
 }
 
-/// The level of this threshold, or of the share of this text in its place, of which there is none where no crossing may be made.
-fn level_asked(threshold: u128, keep: Option<&str>, guards: Guards) -> Result<Level, Ending>
-    requires threshold { threshold ≤ threshold_limit }
-    requires alone { guards.no_crossings ≡ true → keep ≡ None }
+/// The level of this threshold, or of the share of this text in its place.
+fn level_asked(threshold: u128, keep: Option<&str>) -> Result<Level, Ending>
+    requires { threshold ≤ threshold_limit }
     ensures asked { IfOk result (λ level. level_of threshold keep.entry ≡ Some level) }
-    ensures within { IfOk result (λ level. is_level_under guards level ≡ true) }
+    ensures within { IfOk result (λ level. is_level level ≡ true) }
     // A text that is no share is refused, and nothing else.
     ensures refused { IfErr result (λ e. (e ≡ ending.BadShare) × (level_of threshold keep.entry ≡ None)) }
 {
@@ -61,24 +60,21 @@ fn level_asked(threshold: u128, keep: Option<&str>, guards: Guards) -> Result<Le
     }
 }
 
-/// The level and the ring limit of the areas and the share of these texts, which are looked at in this order, where no share is asked for beside
-/// these guards.
+/// The level and the ring limit of the areas and the share of these texts, which are looked at in this order.
 pub(crate) fn level_and_limit(
     alloc: Global,
     area: &str,
     keep: Option<&str>,
     ring_area: &str,
-    guards: Guards,
 ) -> Result<(Level, u128), Ending>
-    requires alone { guards.no_crossings ≡ true → keep ≡ None }
     ensures level { IfOk result (λ r. IsLevelOf area.now keep.entry r.0) }
-    ensures level_within { IfOk result (λ r. is_level_under guards r.0 ≡ true) }
+    ensures level_within { IfOk result (λ r. is_level r.0 ≡ true) }
     ensures ring_area { IfOk result (λ r. threshold_of ring_area.now ≡ Some r.1) }
     ensures ring_area_within { IfOk result (λ r. r.1 ≤ threshold_limit) }
     ensures refused { IfErr result (LevelIsRefused area.now keep.entry ring_area.now) }
 {
     let (threshold, ring_limit) = thresholds_asked(alloc, area, ring_area)?;
-    let level = level_asked(threshold, keep, guards)?;
+    let level = level_asked(threshold, keep)?;
     Ok((level, ring_limit))
 }
 
@@ -94,16 +90,14 @@ pub(crate) fn options_of(
     ring_area: &str,
     no_crossings: bool,
 ) -> Result<Options, Ending>
-    requires grid { IfSome grid IsCells }
-    requires alone { no_crossings ≡ true → keep ≡ None }
+    requires { IfSome grid IsCells }
     ensures asked { IfOk result (λ options. IsAskedFor exact grid area.now keep.entry ring_area.now no_crossings options) }
     ensures refused { IfErr result (LevelIsRefused area.now keep.entry ring_area.now) }
 {
-    let guards = Guards { no_crossings };
-    let (level, ring_limit) = level_and_limit(alloc, area, keep, ring_area, guards)?;
+    let (level, ring_limit) = level_and_limit(alloc, area, keep, ring_area)?;
     Ok(Options {
         grid,
-        guards,
+        guards: Guards { no_crossings },
         level,
         ring_limit,
         exact,

@@ -144,7 +144,7 @@ pub(crate) fn answer<F: Files, V: Drain>(
             let guards = Guards {
                 no_crossings: *no_crossings,
             };
-            let (level, ring_limit) = level_and_limit(alloc, area, *keep, ring_area, guards)?;
+            let (level, ring_limit) = level_and_limit(alloc, area, *keep, ring_area)?;
             let report = simplify_file(
                 alloc, reducer, observed, guards, level, ring_limit, path, files, out,
             )?;

@@ -1,16 +1,14 @@
 -- The threshold of a share of weights of which some are none.
-use Rattle.std.proofs.Common.{◌≡◌, ◌∙◌, ℕ, zero, suc, ◌+◌, ◌*◌, ◌<◌, ◌≤◌, max, Bool, true, false, cond, not, nat_lt, leb, List, [], ◌∷◌, ◌++◌, length, get_or, map, take, Option, None, Some, ◌⊎◌, inl, inr, refl, ap, arith, subst, sym}
-use Rattle.std.specs.List.{filter, filter_map, Contains, count_by}
+use Rattle.std.proofs.Common.{◌≡◌, ◌∙◌, ℕ, zero, suc, ◌+◌, ◌*◌, ◌<◌, ◌≤◌, max, cond, not, nat_lt, leb, List, [], ◌∷◌, ◌++◌, length, get_or, map, Option, None, Some, ◌⊎◌, inl, inr, refl, ap, arith, subst, sym}
+use Rattle.std.specs.List.{filter_map, Contains}
 use Rattle.std.specs.Option.{unwrap_or}
 use Rattle.std.proofs.lemmas.Bool.{le-leb, lt-leb, lt-ltb, le-ltb, cases_lt}
 use Rattle.std.proofs.lemmas.List.{append-nil, length-map}
 use Rattle.std.proofs.lemmas.List.Elements.{Contains-append_right, Contains-get_or}
 use Rattle.std.proofs.lemmas.List.Sums.{sum_by-cons}
-use Rattle.owned_values.proofs.Lists.{take_here}
 use Rattle.effective_area.proofs.ShareLaws as plain
 use Rattle.effective_area.specs.Shares as eff
 use Rattle.effective_area.specs.declared.weight.Weight.{Weight}
-use Rattle.effective_area.specs.declared.weight.Weight.TheVariants.{Area}
 use Rattle.elimination_meaning.specs.Weights.{is_kept_at}
 use Rattle.geometry.specs.Lists.{In}
 use Rattle.guarded_meaning.specs.Shares.{known, count_kept, greatest, share, IsGreatestShare}

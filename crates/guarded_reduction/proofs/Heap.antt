@@ -1,5 +1,5 @@
 -- What is pushed on the heap.
-use Rattle.std.proofs.Common.{◌≡◌, ◌≢◌, ℕ, ◌+◌, ◌-◌, ◌<◌, List, ◌∷◌, refl, ap, sym, ◌∙◌, subst, ◌⊎◌, inl, inr, arith}
+use Rattle.std.proofs.Common.{◌≡◌, ◌≢◌, ℕ, ◌+◌, ◌-◌, ◌<◌, ◌≤◌, List, ◌∷◌, length, refl, ap, sym, ◌∙◌, subst, ◌⊎◌, inl, inr, arith}
 use Rattle.std.specs.List.{Contains}
 use Rattle.std.specs.List.Sorted.{IsPermutation}
 use Rattle.std.specs.declared.cmp.Reverse.{Reverse}
@@ -10,9 +10,9 @@ use Rattle.guarded_reduction.specs.declared.entry.Entry.{Entry}
 use Rattle.guarded_reduction.specs.Entries.{IsDue, IsSound, entry_in, turned}
 use Rattle.geometry.specs.Units.{area_limit}
 use Rattle.guarded_reduction.specs.Linking.{Linked, IsCorner}
-use Rattle.guarded_reduction.specs.States.{Pushed}
+use Rattle.guarded_reduction.specs.States.{IsHeld, IsQueued, NoneNext, Pushed, PushedFrom}
 use Rattle.guarded_reduction.specs.declared.waiting_lists.Wait.{Wait}
-use Rattle.guarded_reduction.specs.Waiting.{WaitsFrom, here, later, wait_at}
+use Rattle.guarded_reduction.specs.Waiting.{Waiting, WaitsFrom, here, later, wait_at}
 
 -- the entry of a corner that is due is sound
 pub due_sound : (t : ℕ) (s : Linked) (v : ℕ) → IsDue t s v → IsSound t s.positions (entry_in s v)
@@ -30,30 +30,59 @@ pushed t s old new v e perm due is below = record {
     on d (inl k) = inr (subst (λ x. IsSound t s.positions x) (sym (ap (λ (x : Reverse Entry). x.0) k ∙ is)) (due_sound t s v due))
     on d (inr k) = inl k
 
--- one more place is looked at
-pub one_more : (t : ℕ) (s : Linked) (old new : List (Reverse Entry)) (v n : ℕ) → Pushed t s old new n →
-    ((u : ℕ) → u < n → IsDue t s u → Contains old (turned (entry_in s u))) → v < n + 1 → IsDue t s v → Contains new (turned (entry_in s v))
-one_more t s old new v n p h l due = on (cases_eq v n)
-  where
-    on : (v ≡ n) ⊎ (v ≢ n) → Contains new (turned (entry_in s v))
-    on (inl e) = subst (λ (u : ℕ). Contains new (turned (entry_in s u))) (sym e) (p.here (subst (IsDue t s) e due))
-    on (inr e) = p.has (entry_in s v) (h v (omega (arith, l, e)) due)
+-- ---- a round begins
 
-pub one_more_below : (t : ℕ) (s : Linked) (old new : List (Reverse Entry)) (v n : ℕ) → Pushed t s old new n →
+-- nothing is under zero
+pub none_at_zero : (s : Linked) (w : Waiting) → length w.firsts ≡ length s.positions → NoneNext 0 s w
+none_at_zero s w firsts = record { held = λ v h. let l : (entry_in s v).area < 0 = h.under in absurd (omega (arith, l)); firsts = firsts }
+
+pub pushed_from : (from t : ℕ) (s : Linked) (old new : List (Reverse Entry)) (v : ℕ) (e : Entry) → IsPermutation (turned e ∷ old) new → IsDue t s v → e ≡ entry_in s v → (IsCorner s v → (entry_in s v).area < area_limit) → PushedFrom from t s old new v
+pushed_from from t s old new v e perm due is below =
+    let p = pushed t s old new v e perm due is below in
+    record { has = p.has; here = λ h. inr (p.here h); only = p.only; below = below }
+
+pub not_pushed : (from t : ℕ) (s : Linked) (old : List (Reverse Entry)) (v : ℕ) (e : Entry) → e ≡ entry_in s v → e.area < from → (IsCorner s v → (entry_in s v).area < area_limit) → PushedFrom from t s old old v
+not_pushed from t s old v e is before below = record { has = λ d h. h; here = λ h. inl (subst (λ (x : Entry). x.area < from) is before); only = λ d h. inl h; below = below }
+
+-- one more place is looked at
+pub one_more_from : (from t : ℕ) (s : Linked) (old new : List (Reverse Entry)) (v n : ℕ) → PushedFrom from t s old new n →
+    ((u : ℕ) → u < n → IsDue t s u → ((entry_in s u).area < from) ⊎ Contains old (turned (entry_in s u))) → v < n + 1 → IsDue t s v → ((entry_in s v).area < from) ⊎ Contains new (turned (entry_in s v))
+one_more_from from t s old new v n p h l due = on (cases_eq v n)
+  where
+    kept : ((entry_in s v).area < from) ⊎ Contains old (turned (entry_in s v)) → ((entry_in s v).area < from) ⊎ Contains new (turned (entry_in s v))
+    kept (inl a) = inl a
+    kept (inr k) = inr (p.has (entry_in s v) k)
+
+    on : (v ≡ n) ⊎ (v ≢ n) → ((entry_in s v).area < from) ⊎ Contains new (turned (entry_in s v))
+    on (inl e) = subst (λ (u : ℕ). ((entry_in s u).area < from) ⊎ Contains new (turned (entry_in s u))) (sym e) (p.here (subst (IsDue t s) e due))
+    on (inr e) = kept (h v (omega (arith, l, e)) due)
+
+pub one_more_below : (from t : ℕ) (s : Linked) (old new : List (Reverse Entry)) (v n : ℕ) → PushedFrom from t s old new n →
     ((u : ℕ) → u < n → IsCorner s u → (entry_in s u).area < area_limit) → v < n + 1 → IsCorner s v → (entry_in s v).area < area_limit
-one_more_below t s old new v n p h l k = on (cases_eq v n)
+one_more_below from t s old new v n p h l k = on (cases_eq v n)
   where
     on : (v ≡ n) ⊎ (v ≢ n) → (entry_in s v).area < area_limit
     on (inl e) = subst (λ (u : ℕ). (entry_in s u).area < area_limit) (sym e) (p.below (subst (IsCorner s) e k))
     on (inr e) = h v (omega (arith, l, e)) k
 
-pub still_sound : (t : ℕ) (s : Linked) (old new : List (Reverse Entry)) (v : ℕ) → Pushed t s old new v → ((d : Entry) → Contains old (turned d) → IsSound t s.positions d) →
+pub still_sound : (from t : ℕ) (s : Linked) (old new : List (Reverse Entry)) (v : ℕ) → PushedFrom from t s old new v → ((d : Entry) → Contains old (turned d) → IsSound t s.positions d) →
     (d : Entry) → Contains new (turned d) → IsSound t s.positions d
-still_sound t s old new v p h d m = on (p.only d m)
+still_sound from t s old new v p h d m = on (p.only d m)
   where
     on : Contains old (turned d) ⊎ IsSound t s.positions d → IsSound t s.positions d
     on (inl k) = h d k
     on (inr k) = k
+
+-- those of earlier rounds wait, and the others are on the heap
+pub round_queued : (from t : ℕ) (s : Linked) (items : List (Reverse Entry)) (w : Waiting) (n : ℕ) → NoneNext from s w → length s.positions ≤ n →
+    ((v : ℕ) → v < n → IsDue t s v → ((entry_in s v).area < from) ⊎ Contains items (turned (entry_in s v))) → ((d : Entry) → Contains items (turned d) → IsSound t s.positions d) → IsQueued t s items w
+round_queued from t s items w n none m has sound = record { covers = λ v h. on v h (has v (let l : v < length s.positions = h.corner.within in omega (arith, l, m)) h); sound = sound; firsts = none.firsts }
+  where
+    on : (v : ℕ) → IsDue t s v → ((entry_in s v).area < from) ⊎ Contains items (turned (entry_in s v)) → Contains items (turned (entry_in s v)) ⊎ IsHeld s w v
+    on v h (inl a) = inr (none.held v (record { corner = h.corner; under = a; loose = h.loose }))
+    on v h (inr k) = inl k
+
+-- ---- those that wait are pushed
 
 pub still_only : (t : ℕ) (s : Linked) (first old new : List (Reverse Entry)) (v : ℕ) → Pushed t s old new v → ((d : Entry) → Contains old (turned d) → Contains first (turned d) ⊎ IsSound t s.positions d) →
     (d : Entry) → Contains new (turned d) → Contains first (turned d) ⊎ IsSound t s.positions d

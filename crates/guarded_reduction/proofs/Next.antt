@@ -62,6 +62,9 @@ later_parts Greater b m n f h = h
 less_cmp : (m n : ℕ) (o : Ordering) → m < n → is_lt (ordering_then (nat_cmp m n) o) ≡ true
 less_cmp m n o h = grind (arith, nat_tests)
 
+greater_cmp : (m n : ℕ) (o : Ordering) → n < m → is_lt (ordering_then (nat_cmp m n) o) ≡ false
+greater_cmp m n o h = grind (arith, nat_tests)
+
 less_of : (i j : ℕ) → is_lt (nat_cmp i j) ≡ true → i < j
 less_of i j h = grind (arith, nat_tests)
 
@@ -85,6 +88,11 @@ first_of_two a b i j h = on (cases_lt a b)
         over : (b < a) ⊎ (a ≤ b) → (b < a) ⊎ (a ≡ b)
         over (inl k) = inl k
         over (inr k) = inr (omega (arith, k, l))
+
+-- a corner doesn't go before one of a lesser area
+not_before_less : (d c : ArcCorner) → c.corner.area < d.corner.area → goes_before d c ≡ false
+unfolding goes_before
+not_before_less d c h = greater_cmp d.corner.area c.corner.area (ordering_then (point_cmp d.corner.point c.corner.point) (ordering_then (nat_cmp d.arc c.arc) (nat_cmp d.corner.index c.corner.index))) h
 
 -- ---- guards
 
@@ -205,8 +213,19 @@ module _ (b : Bool) (rings : List (List ℤ)) (arcs : List (List Point)) (t : �
         on h (inr (inl k)) = both_ways (is_first (entry_in s (own d)) e) (n.first (entry_in s (own d)) k) (entry_is h)
         on h (inr (inr k)) = not_held w d m (passed b rings t now d g) k
 
-    pub goes_next : IsWhole s → next_arcs (guarded_by b rings) t now ≡ Some (left_arcs arcs (unlinked e.place s).left)
-    goes_next whole = next_law (guarded_by b rings) t now one the_one.there (passes b rings t now one may_go) none_before
+    -- nor does one go before it that isn't under the threshold
+    none_before_any : (d : ArcCorner) → there d → guarded_by b rings now d ≡ true → goes_before d one ≡ false
+    none_before_any d m g = on (cases_lt d.corner.area t)
+      where
+        on : (d.corner.area < t) ⊎ (t ≤ d.corner.area) → goes_before d one ≡ false
+        on (inl l) = none_before d m (and_from _ _ (lt-ltb d.corner.area t l) g)
+        on (inr l) = let u : one.corner.area < t = under in not_before_less d one (omega (arith, u, l))
+
+    -- so it goes next under any threshold that isn't lower
+    pub goes_next : (top : ℕ) → t ≤ top → IsWhole s → next_arcs (guarded_by b rings) top now ≡ Some (left_arcs arcs (unlinked e.place s).left)
+    goes_next top higher whole = next_law (guarded_by b rings) top now one the_one.there
+        (passes b rings top now one (let u : one.corner.area < t = under in record { under = omega (arith, u, higher); free = free; stay = may_go.stay }))
+        (λ d m g. none_before_any d m (and_parts (nat_lt d.corner.area top) (guarded_by b rings now d) g).1)
         ∙ ap Some (sym (left_is arcs s whole show one the_one.there) ∙ ap (λ z. left_arcs arcs (slice_set s.left z false)) the_one.number_is)
 
     pub showing_next : IsWhole s → IsShowing arcs (unlinked e.place s)
@@ -255,13 +274,13 @@ module _ (b : Bool) (rings : List (List ℤ)) (arcs : List (List Point)) (s : Li
           let r = passed b rings area_limit (left_arcs arcs s.left) d (allowed d i.among i.passed) in
           absurd (not_held b rings arcs area_limit s show flag fixed w d i.among r (n.held (number arcs d.arc d.corner.index) (due_of b rings arcs area_limit s show flag fixed d i.among r)))
 
-  pub one_gone : (items : List (Reverse Entry)) (w : Waiting) (e : Entry) → IsWhole s → IsNext area_limit s items w e → IsKept arcs rings s.left e.place true → IsGone asked_for arcs s e
-  one_gone items w e whole n stay =
-      let f : IsFound arcs s show e.place = the_one b rings arcs area_limit s show flag fixed items w e n stay in
+  pub one_gone : (t : ℕ) (items : List (Reverse Entry)) (w : Waiting) (e : Entry) → IsWhole s → IsNext t s items w e → IsKept arcs rings s.left e.place true → IsGone asked_for arcs s e
+  one_gone t items w e whole n stay =
+      let f : IsFound arcs s show e.place = the_one b rings arcs t s show flag fixed items w e n stay in
       let x : IsShownCorner arcs s f.corner = shown_corner arcs s show f.corner f.there in
       let a = next_alike asked_for (left_arcs arcs s.left) f.corner f.there
-      (and_parts _ _ (passes b rings area_limit (left_arcs arcs s.left) f.corner (may_go b rings arcs area_limit s show flag fixed items w e n stay))).1
-      (λ d m g. none_before b rings arcs area_limit s show flag fixed items w e n stay d m (allowed d m g)) in
+      (and_parts _ _ (passes b rings t (left_arcs arcs s.left) f.corner (may_go b rings arcs t s show flag fixed items w e n stay))).1
+      (none_before_any b rings arcs t s show flag fixed items w e n stay) in
       record {
         one = f.corner;
         has_place = x.there;

@@ -355,6 +355,25 @@ one_fixed old s g z f corner e = record {
         (was_corner (subst (λ (x : Linked). IsCorner x z) f.same corner), sym (keeps_same old s.fixed z g) ∙ ap (λ (x : Linked). keeps_all x z g) (sym f.same) ∙ e))
     on v h (inr n) = f.fixed v (sym (fixed_elsewhere s z v n) ∙ h)
 
+-- first some places stay for good, then more
+pub fixed_more : (old s new : Linked) (g : Counted) → IsFixing old g s → IsFixing s g new → IsFixing old g new
+fixed_more old s new g f k = record {
+  same = k.same ∙ ap (fixed_to new.fixed) f.same;
+  many = k.many ∙ f.many;
+  fixed = λ v h. on v (k.fixed v h);
+}
+  where
+    was_corner : (v : ℕ) → IsCorner (fixed_to s.fixed old) v → IsCorner old v
+    was_corner v c = record { within = c.within; left = c.left; before = c.before; after = c.after }
+
+    on : (v : ℕ) → (is_fixed s v ≡ true) ⊎ (IsCorner s v × (keeps_all s v g ≡ false)) → (is_fixed old v ≡ true) ⊎ (IsCorner old v × (keeps_all old v g ≡ false))
+    on v (inl h) = f.fixed v h
+    on v (inr h) = inr (was_corner v (subst (λ (x : Linked). IsCorner x v) f.same h.0), sym (keeps_same old s.fixed v g) ∙ ap (λ (x : Linked). keeps_all x v g) (sym f.same) ∙ h.1)
+
+-- as many places have an owner as before
+pub owners_still : (old s : Linked) (g : Counted) → IsFixing old g s → (length g.rings ≡ 0) ⊎ (length g.owners ≡ length old.positions) → (length g.rings ≡ 0) ⊎ (length g.owners ≡ length s.positions)
+owners_still old s g f h = subst (λ (x : Linked). (length g.rings ≡ 0) ⊎ (length g.owners ≡ length x.positions)) (sym f.same) h
+
 -- places that stay for good change no neighbours
 pub chained_fixed : (old s : Linked) (g : Counted) → IsFixing old g s → IsChained old → IsChained s
 chained_fixed old s g f k = subst IsChained (sym f.same) (record { before = k.before; after = k.after })

@@ -52,11 +52,19 @@ pub record IsNext (t : ℕ) (s : Linked) (items : List (Reverse Entry)) (w : Wai
 -- each corner under the threshold is held
 pub record NoneNext (t : ℕ) (s : Linked) (w : Waiting) : Type 0 where
   pub held : (v : ℕ) → IsDue t s v → IsHeld s w v
+  pub firsts : length w.firsts ≡ length s.positions
 
 -- the corner at the place is on the heap, if it is due, and nothing else is new
 pub record Pushed (t : ℕ) (s : Linked) (old new : List (Reverse Entry)) (v : ℕ) : Type 0 where
   pub has : (d : Entry) → Contains old (turned d) → Contains new (turned d)
   pub here : IsDue t s v → Contains new (turned (entry_in s v))
+  pub only : (d : Entry) → Contains new (turned d) → Contains old (turned d) ⊎ IsSound t s.positions d
+  pub below : IsCorner s v → (entry_in s v).area < area_limit
+
+-- the corner at the place is on the heap, if it is due and its area isn't under the first threshold, and nothing else is new
+pub record PushedFrom (from t : ℕ) (s : Linked) (old new : List (Reverse Entry)) (v : ℕ) : Type 0 where
+  pub has : (d : Entry) → Contains old (turned d) → Contains new (turned d)
+  pub here : IsDue t s v → ((entry_in s v).area < from) ⊎ Contains new (turned (entry_in s v))
   pub only : (d : Entry) → Contains new (turned d) → Contains old (turned d) ⊎ IsSound t s.positions d
   pub below : IsCorner s v → (entry_in s v).area < area_limit
 

@@ -204,10 +204,12 @@ impl LinkedPlaces {
 
     /// A place that is left and blocks a corner, where crossings are to be avoided.
     pub fn holder(&self, corner: Corner) -> Option<usize>
+        requires { corner.place < length self.now.positions }
         ensures asked { IfSome result (λ _. self.now.no_crossings ≡ true) }
         ensures some { IfSome result (λ z. Meets self.now.positions self.now.left (is_blocked_by self.now.positions self.now.befores self.now.afters corner) z) }
         ensures none { IfNone result (self.now.no_crossings ≡ true → NoneMeets self.now.positions self.now.left (is_blocked_by self.now.positions self.now.befores self.now.afters corner)) }
     {
+        let place = corner.place;
         let links = Links {
             positions: self.places.positions(),
             befores: self.befores.as_slice(),
@@ -217,7 +219,7 @@ impl LinkedPlaces {
             corner,
             links: &links,
         };
-        self.places.find(&blocked)
+        self.places.find_near(place, &blocked)
     }
 
     /// Crossings are to be avoided.

@@ -96,6 +96,7 @@ pub fn next_going(
     ensures stay { IfOk result (λ found. IfSome found (λ e. keeps_all places.new e.place rings.old ≡ true)) }
     ensures counted { IfOk result (λ found. IfSome found (λ e. rings.new ≡ counted_without places.new e.place rings.old)) }
     ensures none { IfOk result (λ found. IfNone found (NoneNext threshold places.new waiting.new)) }
+    ensures same { IfOk result (λ found. IfNone found (rings.new ≡ rings.old)) }
 {
     'corners: while let Some(entry) = next_corner(heap, waiting, places, threshold)? {
         if rings.keeps(places, entry.place) {

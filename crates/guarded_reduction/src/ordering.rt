@@ -1,4 +1,4 @@
-// The order of places along a Morton curve, which says which boxes lie near one another.
+// The order of places along a Hilbert curve, which says which boxes lie near one another.
 ghost use Rattle.std.specs.Prelude.{◌≡◌, ◌<◌, ℕ, length, map, slice_index, IfOk};
 ghost use Rattle.std.specs.List.{range_with_len};
 ghost use Rattle.std.specs.List.Sorted.{IsPermutation};
@@ -23,6 +23,66 @@ fn spread(x: u64) -> u64 {
     let c = (b ^ (b << 4)) & 0x0f0f_0f0f_0f0f_0f0f;
     let d = (c ^ (c << 2)) & 0x3333_3333_3333_3333;
     (d ^ (d << 1)) & 0x5555_5555_5555_5555
+}
+
+/// The bits of a number below 2^32.
+const ALL: u64 = 0xffff_ffff;
+
+/// How the cells of two numbers below 2^32 are turned and mirrored on a Hilbert curve, at each bit the whole of as many levels from there up as are
+/// composed. The first two say which numbers change places, the others which are mirrored.
+#[derive(Clone, Copy)]
+struct Turns {
+    stays: u64,
+    swaps: u64,
+    across: u64,
+    up: u64,
+}
+
+/// The turns of each two levels.
+fn turns_of(x: u64, y: u64) -> Turns {
+    let differs = x ^ y;
+    let equal = ALL ^ differs;
+    let neither = ALL ^ (x | y);
+    let first = x & (y ^ ALL);
+    Turns {
+        stays: differs | (equal >> 1),
+        swaps: (differs >> 1) ^ differs,
+        across: ((neither >> 1) ^ (equal & (first >> 1))) ^ neither,
+        up: ((differs & (neither >> 1)) ^ (first >> 1)) ^ first,
+    }
+}
+
+impl Turns {
+    /// Composed with those of the levels from so many levels up on.
+    fn composed(self, levels: u32) -> Turns
+        requires { levels < 64 }
+    {
+        let stays = self.stays >> levels;
+        let swaps = self.swaps >> levels;
+        let across = self.across >> levels;
+        let up = self.up >> levels;
+        let either = self.stays ^ self.swaps;
+        Turns {
+            stays: (self.stays & stays) ^ (self.swaps & swaps),
+            swaps: (self.stays & swaps) ^ (self.swaps & (stays ^ swaps)),
+            across: self.across ^ ((self.stays & across) ^ (self.swaps & up)),
+            up: self.up ^ ((self.swaps & across) ^ (either & up)),
+        }
+    }
+}
+
+/// How far along a Hilbert curve the cell of two numbers below 2^32 lies, all levels at once.
+fn along_curve(x: u64, y: u64) -> u64 {
+    let turns = turns_of(x, y)
+        .composed(2)
+        .composed(4)
+        .composed(8)
+        .composed(16);
+    let across = turns.across ^ (turns.across >> 1);
+    let up = turns.up ^ (turns.up >> 1);
+    let differs = x ^ y;
+    let high = up | (ALL ^ (differs | across));
+    (spread(high) << 1) | spread(differs)
 }
 
 /// How far a number is over the least one, in steps.
@@ -64,7 +124,7 @@ impl Scale {
     pub fn along(&self, x: i64, y: i64) -> u64 {
         let across = steps_over(x, self.least_x, self.step);
         let up = steps_over(y, self.least_y, self.step);
-        spread(across) ^ (spread(up) << 1)
+        along_curve(across, up)
     }
 }
 

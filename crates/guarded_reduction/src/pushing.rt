@@ -1,7 +1,7 @@
 // Corners that are put on the heap.
 ghost use Rattle.std.specs.Prelude.{◌≡◌, ◌<◌, IfOk, OnOk, length};
 ghost use Rattle.std.specs.BinaryHeap.{heap_items, IsHeap};
-ghost use Rattle.guarded_reduction.specs.Entries.{AreBelow, IsDue, turned_cmp};
+ghost use Rattle.guarded_reduction.specs.Entries.{AreBelow, turned_cmp};
 ghost use Rattle.guarded_reduction.specs.Linking.{IsChained, unlinked};
 ghost use Rattle.guarded_reduction.specs.States.{IsNext, IsQueued, Pushed, PushedAll};
 
@@ -9,7 +9,6 @@ use crate::entry::Entry;
 use crate::linked_places::LinkedPlaces;
 use crate::waiting_lists::WaitingLists;
 use owned_values::Memory;
-use std::alloc::Global;
 use std::cmp::Reverse;
 use std::collections::BinaryHeap;
 
@@ -28,25 +27,6 @@ fn push_corner(
         heap.push(Reverse(entry))?;
     }
     Ok(())
-}
-
-/// A heap of all corners under the threshold.
-pub fn first_corners(
-    alloc: Global,
-    places: &LinkedPlaces,
-    waiting: &WaitingLists,
-    threshold: u128,
-) -> Result<BinaryHeap<Reverse<Entry>>, Memory>
-    requires { length waiting.now.firsts ≡ length places.now.positions }
-    ensures order { IfOk result (λ heap. IsHeap turned_cmp (heap_items heap)) }
-    ensures queued { IfOk result (λ heap. IsQueued threshold places.now (heap_items heap) waiting.now) }
-    ensures below { IfOk result (λ _. AreBelow places.now) }
-{
-    let mut heap = BinaryHeap::new(alloc);
-    for place in 0..places.len() {
-        push_corner(&mut heap, places, threshold, place)?;
-    }
-    Ok(heap)
 }
 
 /// Puts the corners that wait on a place on the heap, as far as they are under the threshold.

@@ -9,12 +9,13 @@ ghost use Rattle.guarded_reduction.specs.Numbers.{all_kept_indexes, kept_indexes
 
 use crate::kept_rings::KeptRings;
 use crate::linked_places::LinkedPlaces;
-use crate::looking::next_going;
-use crate::pushing::{first_corners, take_out};
+use crate::pushing::take_out;
+use crate::rounds::{begin_round, next_in_rounds, next_threshold};
 use crate::waiting_lists::WaitingLists;
 use geometry::{ArcRef, Position};
 use owned_values::{Items, Memory};
 use std::alloc::Global;
+use std::collections::BinaryHeap;
 
 /// The places that stay.
 fn reduced_places(
@@ -34,14 +35,23 @@ fn reduced_places(
     let mut kept = KeptRings::of(alloc, arcs, rings)?;
     let n = places.len();
     let mut waiting = WaitingLists::none(alloc, n)?;
-    let mut heap = first_corners(alloc, &places, &waiting, threshold)?;
+    let mut heap = BinaryHeap::new(alloc);
+    let mut round = next_threshold(&places, 0, threshold);
+    begin_round(&mut heap, &waiting, &places, 0, round)?;
     'corners: for _step in 0..n {
-        let next = next_going(&mut heap, &mut waiting, &mut places, &mut kept, threshold)?;
+        let next = next_in_rounds(
+            &mut heap,
+            &mut waiting,
+            &mut places,
+            &mut kept,
+            &mut round,
+            threshold,
+        )?;
         places.law();
         let Some(entry) = next else {
             return Ok(places);
         };
-        take_out(&mut heap, &mut places, &waiting, threshold, entry)?;
+        take_out(&mut heap, &mut places, &waiting, round, entry)?;
     }
     Ok(places)
 }

@@ -106,15 +106,16 @@ impl ShownPlaces {
         }
     }
 
-    /// A place that is left and meets the test of the query, where there is an index.
-    pub fn find<Q: Query>(&self, query: &Q) -> Option<usize>
+    /// A place that is left and meets the test of the query, where there is an index. It is looked for near a place first.
+    pub fn find_near<Q: Query>(&self, place: usize, query: &Q) -> Option<usize>
+        requires { place < length self.now.positions }
         ensures asked { IfSome result (λ _. self.now.indexed ≡ true) }
         ensures some { IfSome result (λ z. Meets self.now.positions self.now.left (Q.test query.now) z) }
         ensures none { IfNone result (self.now.indexed ≡ true → NoneMeets self.now.positions self.now.left (Q.test query.now)) }
     {
         match &self.places {
             Places::Listed { .. } => None,
-            Places::Indexed(index) => index.find(query),
+            Places::Indexed(index) => index.find_near(place, query),
         }
     }
 }

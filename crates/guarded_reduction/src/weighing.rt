@@ -9,12 +9,13 @@ ghost use Rattle.guarded_reduction.specs.Weighing.{AreWeights, all_inner_levels,
 
 use crate::kept_rings::KeptRings;
 use crate::linked_places::LinkedPlaces;
-use crate::looking::next_going;
-use crate::pushing::{first_corners, take_out};
+use crate::pushing::take_out;
+use crate::rounds::{begin_round, next_in_rounds, next_threshold};
 use crate::waiting_lists::WaitingLists;
 use geometry::{AREA_LIMIT, ArcRef, Position};
 use owned_values::{Items, Memory};
 use std::alloc::Global;
+use std::collections::BinaryHeap;
 
 /// The greater of two numbers.
 fn greater(x: u128, y: u128) -> u128
@@ -42,17 +43,26 @@ fn weighed_places(
     let n = places.len();
     let mut levels = vec![in alloc; 0u128; n]?;
     let mut waiting = WaitingLists::none(alloc, n)?;
-    let mut heap = first_corners(alloc, &places, &waiting, AREA_LIMIT)?;
+    let mut heap = BinaryHeap::new(alloc);
+    let mut round = next_threshold(&places, 0, AREA_LIMIT);
+    begin_round(&mut heap, &waiting, &places, 0, round)?;
     let mut level = 0u128;
     'corners: for _step in 0..n {
-        let next = next_going(&mut heap, &mut waiting, &mut places, &mut kept, AREA_LIMIT)?;
+        let next = next_in_rounds(
+            &mut heap,
+            &mut waiting,
+            &mut places,
+            &mut kept,
+            &mut round,
+            AREA_LIMIT,
+        )?;
         places.law();
         let Some(entry) = next else {
             return Ok((places, levels));
         };
         level = greater(level, entry.area);
         levels[entry.place] = level;
-        take_out(&mut heap, &mut places, &waiting, AREA_LIMIT, entry)?;
+        take_out(&mut heap, &mut places, &waiting, round, entry)?;
     }
     Ok((places, levels))
 }

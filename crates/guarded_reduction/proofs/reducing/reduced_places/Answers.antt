@@ -5,6 +5,7 @@ use Rattle.guarded_meaning.specs.Guards.{guarded_by}
 use Rattle.guarded_reduction.specs.Keeping.{IsKeeping}
 use Rattle.guarded_reduction.specs.Linking.{IsShowing, Linked, unlinked}
 use Rattle.guarded_reduction.specs.Numbers.{left_arcs}
+use Rattle.guarded_reduction.proofs.Heap.{none_at_zero}
 use Rattle.guarded_reduction.proofs.Keeping.{IsGoing, first_keeping, fixed_still, going, owners_at}
 use Rattle.guarded_reduction.proofs.Next.{all_steps, goes_next, no_step, none_next, one_step, showing_next}
 use Rattle.guarded_reduction.proofs.Showing.{chained}
@@ -13,46 +14,51 @@ use Rattle.guarded_reduction.proofs.reducing.reduced_places.Goals as goal
 
 pub corners-init : goal.corners-init
 corners-init c = record {
-  order = c.in_ok-heap.ensures.order;
-  queued = c.in_ok-heap.ensures.queued;
+  order = c.in_ok-begin_round.ensures.order;
+  queued = c.in_ok-begin_round.ensures.queued;
+  round = c.next_threshold-round.ensures.within;
   showing = subst (IsShowing c.args.arcs.now) (sym c.in_ok-places.ensures) (first_showing c.args.no_crossings c.args.arcs.now);
   flag = ap (λ (s : Linked). s.no_crossings) c.in_ok-places.ensures;
   keeping = first_keeping c.args.no_crossings c.args.arcs.now c.args.rings.now c.in_ok-places.places c.in_ok-kept.kept c.in_ok-places.ensures c.in_ok-kept.ensures.rings c.in_ok-kept.ensures.counted c.requires.meet;
   rest = begins (guarded_by c.args.no_crossings c.args.rings.now) c.args.threshold c.args.no_crossings c.args.arcs.now c.in_ok-places.places c.len-n.result c.in_ok-places.ensures c.len-n.ensures;
 }
 
-pub next_going-requires-clause-chained : goal.next_going-requires-clause-chained
-next_going-requires-clause-chained c = chained c.args.arcs.now c.corners.places c.corners.invariant.showing
+pub begin_round-requires : goal.begin_round-requires
+begin_round-requires c = none_at_zero c.in_ok-places.places c.in_ok-waiting.waiting (c.in_ok-waiting.ensures ∙ c.len-n.ensures)
 
-pub next_going-requires-clause-owners : goal.next_going-requires-clause-owners
-next_going-requires-clause-owners c = owners_at c.args.arcs.now c.args.rings.now c.corners.places c.corners.kept c.corners.invariant.showing c.corners.invariant.keeping
+pub next_in_rounds-requires-clause-chained : goal.next_in_rounds-requires-clause-chained
+next_in_rounds-requires-clause-chained c = chained c.args.arcs.now c.corners.places c.corners.invariant.showing
+
+pub next_in_rounds-requires-clause-owners : goal.next_in_rounds-requires-clause-owners
+next_in_rounds-requires-clause-owners c = owners_at c.args.arcs.now c.args.rings.now c.corners.places c.corners.kept c.corners.invariant.showing c.corners.invariant.keeping
 
 pub take_out-requires-clause-chained : goal.take_out-requires-clause-chained
-take_out-requires-clause-chained c = chained c.args.arcs.now c.next_going.new.places
-    (fixed_still c.args.arcs.now c.args.rings.now c.corners.places c.corners.invariant.showing c.corners.kept c.corners.invariant.keeping c.next_going.new.places c.in_ok-next.ensures.fixing).showing
+take_out-requires-clause-chained c = chained c.args.arcs.now c.next_in_rounds.new.places
+    (fixed_still c.args.arcs.now c.args.rings.now c.corners.places c.corners.invariant.showing c.corners.kept c.corners.invariant.keeping c.next_in_rounds.new.places c.in_ok-next.ensures.fixing).showing
 
 pub corners-preserved : goal.corners-preserved
 corners-preserved c =
     let arcs = c.args.arcs.now in
     let rings = c.args.rings.now in
     let b = c.args.no_crossings in
-    let s = c.next_going.new.places in
+    let s = c.next_in_rounds.new.places in
     let n = rw c.in-Some.is at c.in_ok-next.ensures.next in
     let f = fixed_still arcs rings c.corners.places c.corners.invariant.showing c.corners.kept c.corners.invariant.keeping s c.in_ok-next.ensures.fixing in
-    let g : IsGoing arcs rings s c.corners.kept c.next_going.new.rings c.in-Some.entry.place = going arcs rings s f.showing c.corners.kept c.next_going.new.rings f.keeping c.law.ensures c.in-Some.entry.place n.due.corner
+    let g : IsGoing arcs rings s c.corners.kept c.next_in_rounds.new.rings c.in-Some.entry.place = going arcs rings s f.showing c.corners.kept c.next_in_rounds.new.rings f.keeping c.law.ensures c.in-Some.entry.place n.due.corner
     (rw c.in-Some.is at c.in_ok-next.ensures.stay) (rw c.in-Some.is at c.in_ok-next.ensures.counted) in
     let steps : c.len-n.result - c.corners._step ≡ suc (c.len-n.result - (c.corners._step + 1)) = omega (arith, c.corners-test.true) in
     record {
       order = c.in_ok-take_out.ensures.order;
       queued = c.in_ok-take_out.ensures.queued;
+      round = c.in_ok-next.ensures.round;
       showing = subst (IsShowing arcs) (sym c.in_ok-take_out.ensures.places)
-          (showing_next b rings arcs c.args.threshold s f.showing (f.flag ∙ c.corners.invariant.flag) f.keeping.fixed (heap_items c.next_going.new.heap) c.next_going.new.waiting c.in-Some.entry n g.stay c.law.ensures);
+          (showing_next b rings arcs c.next_in_rounds.new.round s f.showing (f.flag ∙ c.corners.invariant.flag) f.keeping.fixed (heap_items c.next_in_rounds.new.heap) c.next_in_rounds.new.waiting c.in-Some.entry n g.stay c.law.ensures);
       flag = ap (λ (x : Linked). x.no_crossings) c.in_ok-take_out.ensures.places ∙ f.flag ∙ c.corners.invariant.flag;
-      keeping = subst (λ (x : Linked). IsKeeping arcs rings x c.next_going.new.rings) (sym c.in_ok-take_out.ensures.places) g.keeping;
+      keeping = subst (λ (x : Linked). IsKeeping arcs rings x c.next_in_rounds.new.rings) (sym c.in_ok-take_out.ensures.places) g.keeping;
       rest = ap (λ (x : Linked). eliminate_arcs (guarded_by b rings) (c.len-n.result - (c.corners._step + 1)) c.args.threshold (left_arcs arcs x.left)) c.in_ok-take_out.ensures.places
           ∙ one_step (guarded_by b rings) (c.len-n.result - c.corners._step) (c.len-n.result - (c.corners._step + 1)) c.args.threshold (left_arcs arcs s.left)
           (left_arcs arcs (unlinked c.in-Some.entry.place s).left) (remaining_arcs (guarded_by b rings) c.args.threshold arcs) steps
-          (goes_next b rings arcs c.args.threshold s f.showing (f.flag ∙ c.corners.invariant.flag) f.keeping.fixed (heap_items c.next_going.new.heap) c.next_going.new.waiting c.in-Some.entry n g.stay c.law.ensures)
+          (goes_next b rings arcs c.next_in_rounds.new.round s f.showing (f.flag ∙ c.corners.invariant.flag) f.keeping.fixed (heap_items c.next_in_rounds.new.heap) c.next_in_rounds.new.waiting c.in-Some.entry n g.stay c.args.threshold c.in_ok-next.ensures.round c.law.ensures)
           (ap (λ bs. eliminate_arcs (guarded_by b rings) (c.len-n.result - c.corners._step) c.args.threshold (left_arcs arcs bs)) f.left ∙ c.corners.invariant.rest);
     }
 
@@ -61,11 +67,11 @@ returns-in_default-clause-left c =
     let arcs = c.args.arcs.now in
     let rings = c.args.rings.now in
     let b = c.args.no_crossings in
-    let s = c.next_going.new.places in
+    let s = c.next_in_rounds.new.places in
     let n = rw c.in_default.is at c.in_ok-next.ensures.none in
     let f = fixed_still arcs rings c.corners.places c.corners.invariant.showing c.corners.kept c.corners.invariant.keeping s c.in_ok-next.ensures.fixing in
     no_step (guarded_by b rings) (c.len-n.result - c.corners._step) c.args.threshold (left_arcs arcs s.left) (remaining_arcs (guarded_by b rings) c.args.threshold arcs)
-    (none_next b rings arcs c.args.threshold s f.showing (f.flag ∙ c.corners.invariant.flag) f.keeping.fixed c.next_going.new.waiting n)
+    (none_next b rings arcs c.args.threshold s f.showing (f.flag ∙ c.corners.invariant.flag) f.keeping.fixed c.next_in_rounds.new.waiting n)
     (ap (λ bs. eliminate_arcs (guarded_by b rings) (c.len-n.result - c.corners._step) c.args.threshold (left_arcs arcs bs)) f.left ∙ c.corners.invariant.rest)
 
 pub returns-clause-left : goal.returns-clause-left

@@ -1,4 +1,4 @@
-use Rattle.std.proofs.Common.{◌≡◌, ◌-◌, length}
+use Rattle.std.proofs.Common.{◌≡◌, ◌-◌, ◌≤◌, length}
 use Rattle.std.specs.BinaryHeap.{heap_items, IsHeap}
 use Rattle.geometry.specs.Units.{area_limit}
 use Rattle.guarded_meaning.specs.Guards.{guarded_by}
@@ -13,7 +13,8 @@ use Rattle.guarded_reduction.proofs.weighing.weighed_places.Given as goal
 abbrev pub invariant-corners : goal.invariant-corners
 invariant-corners l = record {
   order : IsHeap turned_cmp (heap_items l.heap);
-  queued : IsQueued area_limit l.places (heap_items l.heap) l.waiting;
+  queued : IsQueued l.round l.places (heap_items l.heap) l.waiting;
+  round : l.round ≤ area_limit;
   showing : IsShowing l.arcs l.places;
   flag : l.places.no_crossings ≡ l.no_crossings;
   keeping : IsKeeping l.arcs l.rings l.places l.kept;

@@ -1,0 +1,39 @@
+use Rattle.std.proofs.Common.{◌≡◌, ◌⊎◌, length, subst, sym, ◌∙◌}
+use Rattle.guarded_reduction.specs.Moves.{Counted}
+use Rattle.guarded_reduction.specs.States.{IsFixing}
+use Rattle.guarded_reduction.proofs.Queued.{chained_fixed, fixed_more, owners_still}
+use Rattle.guarded_reduction.proofs.rounds.next_in_rounds.Goals as goal
+
+pub next_going-requires-clause-chained : goal.next_going-requires-clause-chained
+next_going-requires-clause-chained c = chained_fixed c.args.places.now c.rounds.places c.args.rings.now c.rounds.invariant.fixing c.requires.chained
+
+pub next_going-requires-clause-owners : goal.next_going-requires-clause-owners
+next_going-requires-clause-owners c =
+    subst (λ (g : Counted). (length g.rings ≡ 0) ⊎ (length g.owners ≡ length c.rounds.places.positions)) (sym c.rounds.invariant.rings)
+    (owners_still c.args.places.now c.rounds.places c.args.rings.now c.rounds.invariant.fixing c.requires.owners)
+
+pub next_going-requires-2-clause-chained : goal.next_going-requires-2-clause-chained
+next_going-requires-2-clause-chained c = chained_fixed c.args.places.now c.rounds.places c.args.rings.now c.rounds.invariant.fixing c.requires.chained
+
+pub next_going-requires-2-clause-owners : goal.next_going-requires-2-clause-owners
+next_going-requires-2-clause-owners c =
+    subst (λ (g : Counted). (length g.rings ≡ 0) ⊎ (length g.owners ≡ length c.rounds.places.positions)) (sym c.rounds.invariant.rings)
+    (owners_still c.args.places.now c.rounds.places c.args.rings.now c.rounds.invariant.fixing c.requires.owners)
+
+pub returns-clause-fixing : goal.returns-clause-fixing
+returns-clause-fixing c = fixed_more c.args.places.now c.rounds.places c.next_going-2.new.places c.args.rings.now c.rounds.invariant.fixing
+    (subst (λ (g : Counted). IsFixing c.rounds.places g c.next_going-2.new.places) c.rounds.invariant.rings c.in_ok-last.ensures.fixing)
+
+pub returns-in-Some-clause-fixing : goal.returns-in-Some-clause-fixing
+returns-in-Some-clause-fixing c = fixed_more c.args.places.now c.rounds.places c.next_going.new.places c.args.rings.now c.rounds.invariant.fixing
+    (subst (λ (g : Counted). IsFixing c.rounds.places g c.next_going.new.places) c.rounds.invariant.rings c.in_ok-entry.ensures.fixing)
+
+pub rounds-preserved : goal.rounds-preserved
+rounds-preserved c = record {
+  order = c.in_ok-begin_next_round.ensures.order;
+  queued = c.in_ok-begin_next_round.ensures.queued;
+  fixing = fixed_more c.args.places.now c.rounds.places c.next_going.new.places c.args.rings.now c.rounds.invariant.fixing
+      (subst (λ (g : Counted). IsFixing c.rounds.places g c.next_going.new.places) c.rounds.invariant.rings c.in_ok-entry.ensures.fixing);
+  rings = (rw c.in_default.is at c.in_ok-entry.ensures.same) ∙ c.rounds.invariant.rings;
+  round = c.in_ok-begin_next_round.ensures.within;
+}

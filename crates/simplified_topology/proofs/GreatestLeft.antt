@@ -1,17 +1,20 @@
 -- The ring that encloses most of what is left of a shape is what is made of the one that encloses most of the shape.
-use Rattle.std.proofs.Common.{◌≡◌, ℕ, suc, nat_lt, Bool, true, false, cond, List, [], ◌∷◌, map, Option, None, Some, refl, sym, ap, ◌∙◌, subst}
+use Rattle.std.proofs.Common.{◌≡◌, ℕ, ℤ, suc, nat_lt, Bool, true, false, cond, List, [], ◌∷◌, map, Option, None, Some, refl, sym, ap, ◌∙◌, subst}
 use Rattle.std.specs.List.{AllByRecursion, filter}
 use Rattle.geometry.specs.declared.shape.Geometry.{Geometry}
 use Rattle.geometry.specs.declared.shape.Geometry.TheVariants as g
 use Rattle.geometry.specs.Lists.{map_some, then_some, joined}
 use Rattle.geometry.specs.Paths.{Placed, inside_part, of_parts}
+use Rattle.geometry.specs.Points.{Point}
 use Rattle.geometry.specs.Pruning.{prune, lines_and_rings}
 use Rattle.geometry.proofs.Cases.{lines_and_rings_at}
 use Rattle.geometry.proofs.Composition.{composed}
 use Rattle.geometry.proofs.Induction.{by_kinds}
+use Rattle.guarded_meaning.specs.Guards.{is_long}
 use Rattle.owned_values.proofs.Elements.{all_append, all_left, all_right, all_weaker}
+use Rattle.topojson_types.specs.Topologies.{TopoShape}
 use Rattle.simplified_topology.specs.OuterRings.{outer_ring, outer_rings, marked}
-use Rattle.simplified_topology.specs.Protected.{greater, greatest}
+use Rattle.simplified_topology.specs.Protected.{greater, greatest, enclosed, greatest_ring}
 use Rattle.simplified_topology.proofs.Marks.{outer_rings_at}
 use Rattle.simplified_topology.proofs.MarksLeft.{Follows, nothing, made, left_out}
 use Rattle.simplified_topology.proofs.ShapesLeft.{keeping_mark, rings_left, Turns, TurnsOver, stays}
@@ -67,6 +70,40 @@ module _ {L : Type 0} (X : Bool × L → Type 0) where
 -- of the rings that pass the one of the greatest number
 abbrev pub greatest_of : {L : Type 0} → (L → ℕ) → (L → Bool) → List (Placed L) → Option (Placed L)
 greatest_of size long xs = greatest (λ x. size x.part) (filter (λ x. long x.part) xs)
+
+-- what is made of what stands at a place, there
+abbrev pub put : {L M : Type 0} → (L → M) → Placed L → Placed M
+put make x = record { path = x.path; part = make x.part }
+
+module _ {L M : Type 0} (make : L → M) (size : M → ℕ) (long : M → Bool) where
+  greater_made : (x : Placed L) (o : Option (Placed L)) → greater (λ y. size y.part) (put make x) (map_some (put make) o) ≡ put make (greater (λ z. size (make z.part)) x o)
+  greater_made x None = refl
+  greater_made x (Some z) = on (nat_lt (size (make x.part)) (size (make z.part)))
+    where
+      on : (b : Bool) → cond b (put make z) (put make x) ≡ put make (cond b z x)
+      on true = refl
+      on false = refl
+
+  -- the greatest of what is made of rings is made of the greatest of them
+  pub greatest_made : (xs : List (Placed L)) → greatest_of size long (map (put make) xs) ≡ map_some (put make) (greatest_of (λ l. size (make l)) (λ l. long (make l)) xs)
+  greatest_made [] = refl
+  greatest_made (x ∷ xs) = on (long (make x.part)) (greatest_made xs)
+    where
+      on : (b : Bool) → greatest_of size long (map (put make) xs) ≡ map_some (put make) (greatest_of (λ l. size (make l)) (λ l. long (make l)) xs)
+          → greatest (λ y. size y.part) (cond b (put make x ∷ filter (λ y. long y.part) (map (put make) xs)) (filter (λ y. long y.part) (map (put make) xs)))
+          ≡ map_some (put make) (greatest (λ z. size (make z.part)) (cond b (x ∷ filter (λ z. long (make z.part)) xs) (filter (λ z. long (make z.part)) xs)))
+      on true e = ap (λ o. Some (greater (λ y. size y.part) (put make x) o)) e ∙ ap Some (greater_made x (greatest_of (λ l. size (make l)) (λ l. long (make l)) xs))
+      on false e = e
+
+-- of rings of these arcs
+pub ring_made : {L : Type 0} (arcs : List (List Point)) (refs : L → List ℤ) (xs : List (Placed L))
+    → greatest (λ x. enclosed arcs x.part) (filter (λ x. is_long arcs x.part) (map (put refs) xs)) ≡ map_some (put refs) (greatest (λ x. enclosed arcs (refs x.part)) (filter (λ x. is_long arcs (refs x.part)) xs))
+ring_made arcs refs xs = greatest_made refs (enclosed arcs) (is_long arcs) xs
+
+-- the greatest ring of a shape with these outer rings
+pub ring_among : (arcs : List (List Point)) (s : TopoShape) (xs : List (Placed (List ℤ))) → outer_rings s ≡ xs → greatest_ring arcs s ≡ greatest (λ x. enclosed arcs x.part) (filter (λ x. is_long arcs x.part) xs)
+unfolding greatest_ring
+ring_among arcs s xs e = ap (λ xs. greatest (λ x. enclosed arcs x.part) (filter (λ x. is_long arcs x.part) xs)) e
 
 -- the way to it
 abbrev pub way_of : {L : Type 0} → Option (Placed L) → Option (List ℕ)

@@ -63,7 +63,7 @@ module _ (f : Point → Point) where
 
   -- ---- arcs
 
-  lengths_stay : (arcs : List (List Point)) → map length (map (map f) arcs) ≡ map length arcs
+  pub lengths_stay : (arcs : List (List Point)) → map length (map (map f) arcs) ≡ map length arcs
   lengths_stay [] = refl
   lengths_stay (a ∷ arcs) = ap (λ n. n ∷ map length (map (map f) arcs)) (length-map a f) ∙ ap (λ ns. length a ∷ ns) (lengths_stay arcs)
 

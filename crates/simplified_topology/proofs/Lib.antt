@@ -36,6 +36,7 @@ pub mod ValidCelled
 pub mod ValidRetained
 pub mod ValidPruned
 pub mod GreatestLeft
+pub mod LayersKept
 pub mod MarkedRing
 pub mod MarksLeft
 pub mod ProtectedLayers

@@ -20,6 +20,7 @@ use Rattle.geometry.specs.Lists.{joined, map_some, then_some, some_of}
 use Rattle.geometry.specs.Points.{Point}
 use Rattle.geometry.specs.Pruning.{prune, lines_and_rings, option_lines_and_rings}
 use Rattle.geometry.proofs.Agreement.{agreed}
+use Rattle.guarded_meaning.specs.Elimination.{reduce_arcs}
 use Rattle.guarded_meaning.specs.Guards.{is_long, guarded_by}
 use Rattle.guarded_meaning.specs.Laws.{ArcsRise}
 use Rattle.junctions.specs.Cleaning.{clean, is_short}
@@ -36,7 +37,7 @@ use Rattle.simplified_topology.specs.Guarded.{arc_positions, spread}
 use Rattle.simplified_topology.specs.OuterRings.{marked}
 use Rattle.simplified_topology.specs.Protected.{enclosed, greatest_ring, protected_of, protected_rings, MarkedRefs, sparing, shape_marked, feature_spared, objects_spared, spared_by, spared_removed_count, protecting_indexes, protecting_contents, protecting_removed_count}
 use Rattle.simplified_topology.specs.ProtectedLayers.{drafted_refs, greatest_of_layers, ring_refs, layers_rings, layer_shape_marked, protecting_arc_indexes, unprotected_refs, feature_sparing, assembled_sparing, assembled_sparing_removed_count}
-use Rattle.simplified_topology.specs.ProtectedLayersLaws.{greatest_rings, SparingIsOfLayers, BuiltRingsAreOfLayers, ProtectingIsAssembled, ProtectingArcIndexesReach, AssembledSparingIsValid, AssembledSparingIsOn}
+use Rattle.simplified_topology.specs.ProtectedLayersLaws.{greatest_rings, SparingIsOfLayers, BuiltRingsAreOfLayers, ProtectingArcIndexesAreOfLayers, ProtectingIsAssembled, ProtectingArcIndexesReach, AssembledSparingIsValid, AssembledSparingIsOn}
 use Rattle.simplified_topology.specs.Quantized.{IsOn, named_points, quantized}
 use Rattle.simplified_topology.specs.Simplified.{small_cause, large_refs, retained_arcs, EachFromFirstToLast}
 use Rattle.simplified_topology.proofs.GreatestLeft.{way_of, ring_in, RingAgrees, ring_left, spared_left}
@@ -109,18 +110,18 @@ module _ (ls : Named) where
 
   -- ---- protected rings
 
-  ring_of_layer : (s : Option Shape) → AllWhole (option_lines_and_rings s)
+  pub ring_of_layer : (s : Option Shape) → AllWhole (option_lines_and_rings s)
       → map_some (λ x. x.part) (then_some (greatest_ring arcs) (then_some (prune place refs_at_zero) s)) ≡ map_some (λ x. drafted_refs lines true x.part) (then_some (greatest_of_layers ls) s)
   unfolding greatest_ring greatest_of_layers
   ring_of_layer None h = refl
   ring_of_layer (Some s) h = ring_left place refs_at_zero size long size_after long_after s (all_agree s h) (drafted_refs lines true) (by_short true)
 
-  features_of_layers : (ms : Named) → joined (map (λ o. object_features o.1) (objects_by refs_at_zero ms)) ≡ map (feature_by refs_at_zero) (joined (map (λ l. l.1.features) ms))
+  pub features_of_layers : (ms : Named) → joined (map (λ o. object_features o.1) (objects_by refs_at_zero ms)) ≡ map (feature_by refs_at_zero) (joined (map (λ l. l.1.features) ms))
   features_of_layers [] = refl
   features_of_layers (m ∷ ms) =
       ap (λ fs. features_by refs_at_zero m.1.features ++ fs) (features_of_layers ms) ∙ sym (map-append (feature_by refs_at_zero) m.1.features (joined (map (λ l. l.1.features) ms)))
 
-  abbrev IsWholeFeature : Featured → Type 0
+  abbrev pub IsWholeFeature : Featured → Type 0
   IsWholeFeature f = AllWhole (option_lines_and_rings f.shape)
 
   each_feature : (fs : List Featured) → AllWhole (features_lines_and_rings fs) → AllByRecursion IsWholeFeature fs
@@ -128,7 +129,7 @@ module _ (ls : Named) where
   each_feature (f ∷ fs) h =
       (all_left (IsWholeAtZero lines) (option_lines_and_rings f.shape) (features_lines_and_rings fs) h, each_feature fs (all_right (IsWholeAtZero lines) (option_lines_and_rings f.shape) (features_lines_and_rings fs) h))
 
-  each_layer : (ms : Named) → AllWhole (named_lines_and_rings ms) → AllByRecursion IsWholeFeature (joined (map (λ l. l.1.features) ms))
+  pub each_layer : (ms : Named) → AllWhole (named_lines_and_rings ms) → AllByRecursion IsWholeFeature (joined (map (λ l. l.1.features) ms))
   each_layer [] h = tt
   each_layer (m ∷ ms) h =
       all_append IsWholeFeature m.1.features (joined (map (λ l. l.1.features) ms))
@@ -250,6 +251,12 @@ module _ (zero : ZeroLaw) (rise : ArcsRise) (no_crossings : Bool) (t : ℕ) (ls 
   pub arc_indexes_reach : EachFromFirstToLast (protecting_arc_indexes no_crossings t ls) (arcs_of_layers ls)
   arc_indexes_reach = spread_through used 0 indexes (arcs_of_layers ls) (layers_long ls sound) through
 
+pub arc_indexes_are : ZeroLaw → ProtectingArcIndexesAreOfLayers
+arc_indexes_are zero no_crossings t ls sound =
+    let used : ℕ → Bool = is_used (untrimmed 0 0 ls).objects in
+    ap (λ rings. spread used 0 (reduce_arcs (guarded_by no_crossings rings) t (arc_positions (built 0 0 ls))) (arcs_of_layers ls)) (built_rings zero ls sound)
+    ∙ ap (λ arcs. spread used 0 (reduce_arcs (guarded_by no_crossings (map (map (renumbered used)) (layers_rings ls))) t arcs) (arcs_of_layers ls)) (built_positions ls ∙ built_arcs ls zero)
+
 pub arc_indexes_through : ZeroLaw → ArcsRise → ProtectingArcIndexesReach
 arc_indexes_through zero rise no_crossings t ls sound = arc_indexes_reach zero rise no_crossings t ls sound
 
@@ -260,12 +267,13 @@ is_assembled none zero rise no_crossings g t limit ls on sound =
     let used : ℕ → Bool = is_used whole.objects in
     let kept : List (List ℕ) = protecting_indexes no_crossings (greatest_rings (trimmed whole)) t (trimmed whole) in
     let stays : whole.arcs ≡ arcs_of_layers ls = each_stays zero (arcs_of_layers ls) in
+    let on_grid = protecting_on_grid no_crossings g t limit (built 0 0 ls) on.0 refl (built_on none g 0 0 ls on) in
     let alike = trimmed_first kept limit whole (subst (EachFromFirstToLast kept) (sym (built_arcs ls zero)) (through zero rise no_crossings t ls sound)) in
     record {
       contents =
-          (protecting_on_grid no_crossings g t limit (built 0 0 ls) on.0 refl (built_on none g 0 0 ls on)).contents
+          on_grid.contents
           ∙ ap (quantized g) (alike.contents ∙ ap (λ arcs. spared_by (greatest_ring arcs) (spread used 0 kept arcs) limit whole) stays);
-      removed_count = alike.removed_count ∙ ap (λ arcs. spared_removed_count (greatest_ring arcs) (spread used 0 kept arcs) limit whole) stays;
+      removed_count = on_grid.removed_count ∙ alike.removed_count ∙ ap (λ arcs. spared_removed_count (greatest_ring arcs) (spread used 0 kept arcs) limit whole) stays;
     }
 
 -- ---- validity

@@ -63,7 +63,7 @@ twice : (after before : TopoObject → TopoObject) (os : List (List ℕ × TopoO
 twice after before [] = refl
 twice after before (o ∷ os) = ap (λ xs. (o.0, after (before o.1)) ∷ xs) (twice after before os)
 
-pruned_features : (kept : Refs) (o : TopoObject) → object_features (object_pruned kept o) ≡ map (feature_pruned kept) (object_features o)
+pub pruned_features : (kept : Refs) (o : TopoObject) → object_features (object_pruned kept o) ≡ map (feature_pruned kept) (object_features o)
 pruned_features kept (One f) = refl
 pruned_features kept (Many fs) = refl
 
@@ -134,7 +134,7 @@ module _ (arcs : List (List Point)) (u : ℕ → Bool) where
 
   -- ---- protected rings
 
-  ring_alike : (s : Option TopoShape) → AllByRecursion (AllUsed u) (option_lines_and_rings s)
+  pub ring_alike : (s : Option TopoShape) → AllByRecursion (AllUsed u) (option_lines_and_rings s)
       → map_some (λ x. x.part) (then_some (greatest_ring fewer) (then_some (prune place (line_renumbered u)) s)) ≡ map_some (map (renumbered u)) (map_some (λ x. x.part) (then_some (greatest_ring arcs) s))
   unfolding greatest_ring
   ring_alike None h = refl
@@ -233,12 +233,12 @@ module _ (cell : Point → Point) (arcs : List (List Point)) where
   celled_agree : (s : TopoShape) → AllByRecursion (RingAgrees cell same_refs size_of long_of size_of long_of) (lines_and_rings s)
   celled_agree s = all_hold (RingAgrees cell same_refs size_of long_of size_of long_of) same_agrees (lines_and_rings s)
 
-  ring_celled : (s : Option TopoShape) → map_some (λ x. x.part) (then_some (greatest_ring arcs) (then_some (prune cell same_refs) s)) ≡ map_some (λ x. x.part) (then_some (greatest_ring arcs) s)
+  pub ring_celled : (s : Option TopoShape) → map_some (λ x. x.part) (then_some (greatest_ring arcs) (then_some (prune cell same_refs) s)) ≡ map_some (λ x. x.part) (then_some (greatest_ring arcs) s)
   unfolding greatest_ring
   ring_celled None = refl
   ring_celled (Some s) = ring_left cell same_refs size_of long_of size_of long_of s (celled_agree s) (λ refs. refs) (λ l m k. sym (same_some l m k))
 
-  celled_features : (o : TopoObject) → object_features (object_celled cell o) ≡ map (feature_celled cell) (object_features o)
+  pub celled_features : (o : TopoObject) → object_features (object_celled cell o) ≡ map (feature_celled cell) (object_features o)
   celled_features (One f) = refl
   celled_features (Many fs) = refl
 

@@ -1,11 +1,13 @@
 -- What is left of a topology where rings are protected, before the arcs that no line uses are left out and after, and on a grid.
-use Rattle.std.proofs.Common.{◌≡◌, ℕ, ◌-◌, ℤ, Bool, true, false, cond, List, map, Option, None, Some, refl, sym, ap, ◌∙◌, subst}
-use Rattle.std.specs.List.{AllByRecursion}
+use Rattle.std.proofs.Common.{◌≡◌, ◌==◌, ℕ, ◌-◌, ℤ, Bool, true, false, cond, List, map, Option, None, Some, refl, sym, ap, ◌∙◌, subst}
+use Rattle.std.specs.List.{AllByRecursion, list_any}
+use Rattle.std.specs.Prelude.{sum}
 use Rattle.build_meaning.specs.Built.{positions_of}
 use Rattle.build_meaning.specs.Expected.{unless}
 use Rattle.build_meaning.specs.Trimming.{is_used, keep_from, line_renumbered, renumbered, trimmed}
-use Rattle.build_meaning.proofs.Trimmed.{AllUsed, all_used}
+use Rattle.build_meaning.proofs.Trimmed.{AllUsed, all_used, kept_of_map}
 use Rattle.geometry.specs.declared.address.Cause.{Cause}
+use Rattle.geometry.specs.Joins.{number_of}
 use Rattle.geometry.specs.Points.{Point}
 use Rattle.grid_snap.specs.Axes.{Axes, cell}
 use Rattle.guarded_meaning.specs.Elimination.{reduce_arcs}
@@ -19,14 +21,15 @@ use Rattle.topojson_types.specs.Transforms.{place_on}
 use Rattle.simplified_topology.specs.Celled.{objects_celled, celled, LiesBack}
 use Rattle.simplified_topology.specs.GridTransforms.{transform_of}
 use Rattle.simplified_topology.specs.Guarded.{arc_positions, spread}
-use Rattle.simplified_topology.specs.Protected.{Protection, greatest_ring, protected_rings, sparing, objects_spared, spared_whole, spared_by, spared_removed_count, protecting_indexes, protecting_contents}
+use Rattle.simplified_topology.specs.Protected.{Protection, greatest_ring, protected_rings, sparing, objects_spared, spared_whole, spared_by, spared_removed_count, protecting_indexes, protecting_contents, protecting_removed_count}
 use Rattle.simplified_topology.specs.ProtectedLayersLaws.{greatest_rings, TrimmedFirstIsAlikeSparing, IsAlikeOnGrid, ProtectingOnGrid}
 use Rattle.simplified_topology.specs.Quantized.{IsOn}
 use Rattle.simplified_topology.specs.Simplified.{small_cause, large_refs, retained_arcs, objects_pruned}
 use Rattle.simplified_topology.proofs.Again.{trimmed_again}
-use Rattle.simplified_topology.proofs.Celled.{arcs_map, all_lie_back, retained_lie, trimmed_celled}
+use Rattle.simplified_topology.proofs.Celled.{arcs_map, all_lie_back, retained_lie, objects_lines, trimmed_celled}
 use Rattle.simplified_topology.proofs.Guarded.{placed_left}
 use Rattle.simplified_topology.proofs.GuardedLayers.{spread_left}
+use Rattle.simplified_topology.proofs.Kept.{lengths_stay}
 use Rattle.simplified_topology.proofs.OnGrid.{all_lie}
 use Rattle.simplified_topology.proofs.RingsAlike.{same_some, rings_alike, objects_alike, rings_celled, objects_celled_alike}
 use Rattle.simplified_topology.proofs.Spared.{objects_left, Leaves}
@@ -34,7 +37,7 @@ use Rattle.simplified_topology.proofs.Spared.{objects_left, Leaves}
 -- ---- arcs that no line uses, left out first
 
 -- the same arcs are placed
-positions_alike : (y : Contents) → arc_positions (trimmed y) ≡ keep_from (is_used y.objects) 0 (arc_positions y)
+pub positions_alike : (y : Contents) → arc_positions (trimmed y) ≡ keep_from (is_used y.objects) 0 (arc_positions y)
 unfolding trimmed
 positions_alike y = placed_left y.transform (is_used y.objects) y.arcs
 
@@ -120,7 +123,7 @@ module _ (transform : Transform) (cell : Point → Point) (limit : ℕ) (os : Li
   on_grid = celled transform cell plain
 
   -- the cells lie where the positions do
-  placed_same : arc_positions on_grid ≡ arcs
+  pub placed_same : arc_positions on_grid ≡ arcs
   unfolding celled
   placed_same = all_lie_back transform cell arcs lie
 
@@ -132,22 +135,48 @@ module _ (transform : Transform) (cell : Point → Point) (limit : ℕ) (os : Li
   cells_left positions places cells = record { objects = objects_spared (greatest_ring positions) (sparing (large_refs limit places)) (objects_celled cell os); arcs = cells; transform = Some transform }
 
   -- by the same numbers
-  pub spared_celled : (kept : List (List ℕ)) → spared_by (greatest_rings on_grid) kept limit on_grid ≡ celled transform cell (spared_by (greatest_ring arcs) kept limit plain)
-  unfolding spared_by celled
-  spared_celled kept =
+  whole_celled : (kept : List (List ℕ)) → spared_whole (greatest_rings on_grid) kept limit on_grid ≡ celled transform cell (spared_whole (greatest_ring arcs) kept limit plain)
+  unfolding celled
+  whole_celled kept =
       let fewer : List (List Point) = retained_arcs kept arcs in
-      ap (λ ps. trimmed (cells_left ps (map (map (place_on transform)) (retained_arcs kept (map (map cell) arcs))) (retained_arcs kept (map (map cell) arcs)))) placed_same
-      ∙ ap (λ x. trimmed (cells_left arcs (map (map (place_on transform)) x) x)) (arcs_map cell kept arcs)
-      ∙ ap (λ x. trimmed (cells_left arcs x (map (map cell) fewer))) (all_lie_back transform cell fewer (retained_lie transform cell kept arcs lie))
-      ∙ ap (λ x. trimmed (record { objects = x; arcs = map (map cell) fewer; transform = Some transform })) (objects_celled_alike cell arcs (sparing (large_refs limit fewer)) os)
-      ∙ trimmed_celled transform cell (spared_whole (greatest_ring arcs) kept limit plain)
+      ap (λ ps. cells_left ps (map (map (place_on transform)) (retained_arcs kept (map (map cell) arcs))) (retained_arcs kept (map (map cell) arcs))) placed_same
+      ∙ ap (λ x. cells_left arcs (map (map (place_on transform)) x) x) (arcs_map cell kept arcs)
+      ∙ ap (λ x. cells_left arcs x (map (map cell) fewer)) (all_lie_back transform cell fewer (retained_lie transform cell kept arcs lie))
+      ∙ ap (λ x. record { objects = x; arcs = map (map cell) fewer; transform = Some transform }) (objects_celled_alike cell arcs (sparing (large_refs limit fewer)) os)
 
-  pub grid_contents : (no_crossings : Bool) (t : ℕ) → protecting_contents no_crossings (greatest_rings on_grid) t limit on_grid ≡ celled transform cell (protecting_contents no_crossings (greatest_ring arcs) t limit plain)
-  unfolding protecting_contents
-  grid_contents no_crossings t =
-      ap (λ k. spared_by (greatest_rings on_grid) k limit on_grid)
-      (ap (λ rings. reduce_arcs (guarded_by no_crossings rings) t (arc_positions on_grid)) grid_rings ∙ ap (reduce_arcs (guarded_by no_crossings (protected_rings (greatest_ring arcs) os)) t) placed_same)
-      ∙ spared_celled (protecting_indexes no_crossings (greatest_ring arcs) t plain)
+  spared_celled : (kept : List (List ℕ)) → spared_by (greatest_rings on_grid) kept limit on_grid ≡ celled transform cell (spared_by (greatest_ring arcs) kept limit plain)
+  unfolding spared_by
+  spared_celled kept = ap trimmed (whole_celled kept) ∙ trimmed_celled transform cell (spared_whole (greatest_ring arcs) kept limit plain)
+
+  -- which arcs lines use
+  abbrev used_by : List (Bool × List ℤ) → ℕ → Bool
+  used_by bs i = list_any (λ b. list_any (λ r. number_of r == i) b.1) bs
+
+  removed_celled : (kept : List (List ℕ)) → spared_removed_count (greatest_rings on_grid) kept limit on_grid ≡ spared_removed_count (greatest_ring arcs) kept limit plain
+  unfolding spared_removed_count celled
+  removed_celled kept =
+      let used : ℕ → Bool = is_used (spared_whole (greatest_ring arcs) kept limit plain).objects in
+      let after : ℕ = positions_of (spared_by (greatest_rings on_grid) kept limit on_grid).arcs in
+      ap (λ z. positions_of (keep_from (is_used z.objects) 0 (map (map cell) arcs)) - after) (whole_celled kept)
+      ∙ ap (λ bs. positions_of (keep_from (used_by bs) 0 (map (map cell) arcs)) - after) (objects_lines transform cell (spared_whole (greatest_ring arcs) kept limit plain).objects)
+      ∙ ap (λ xs. positions_of xs - after) (sym (kept_of_map (map cell) used 0 arcs))
+      ∙ ap (λ ns. sum ns - after) (lengths_stay cell (keep_from used 0 arcs))
+      ∙ ap (λ z. positions_of (keep_from used 0 arcs) - positions_of z.arcs) (spared_celled kept)
+      ∙ ap (λ ns. positions_of (keep_from used 0 arcs) - sum ns) (lengths_stay cell (spared_by (greatest_ring arcs) kept limit plain).arcs)
+
+  module _ (no_crossings : Bool) (t : ℕ) where
+    indexes_celled : protecting_indexes no_crossings (greatest_rings on_grid) t on_grid ≡ protecting_indexes no_crossings (greatest_ring arcs) t plain
+    indexes_celled =
+        ap (λ rings. reduce_arcs (guarded_by no_crossings rings) t (arc_positions on_grid)) grid_rings
+        ∙ ap (reduce_arcs (guarded_by no_crossings (protected_rings (greatest_ring arcs) os)) t) placed_same
+
+    pub grid_contents : protecting_contents no_crossings (greatest_rings on_grid) t limit on_grid ≡ celled transform cell (protecting_contents no_crossings (greatest_ring arcs) t limit plain)
+    unfolding protecting_contents
+    grid_contents = ap (λ k. spared_by (greatest_rings on_grid) k limit on_grid) indexes_celled ∙ spared_celled (protecting_indexes no_crossings (greatest_ring arcs) t plain)
+
+    pub grid_removed : protecting_removed_count no_crossings (greatest_rings on_grid) t limit on_grid ≡ protecting_removed_count no_crossings (greatest_ring arcs) t limit plain
+    unfolding protecting_removed_count
+    grid_removed = ap (λ k. spared_removed_count (greatest_rings on_grid) k limit on_grid) indexes_celled ∙ removed_celled (protecting_indexes no_crossings (greatest_ring arcs) t plain)
 
 module _ (no_crossings : Bool) (t limit : ℕ) (os : List (List ℕ × TopoObject)) (arcs : List (List Point)) where
   abbrev topology : Option Transform → Contents
@@ -157,10 +186,14 @@ module _ (no_crossings : Bool) (t limit : ℕ) (os : List (List ℕ × TopoObjec
   AlikeOn g transform = IsAlikeOnGrid no_crossings (Some g) t limit (topology transform)
 
   on_axes : (g : Axes) → AllByRecursion (λ a. AllByRecursion (LiesBack (transform_of g) (cell g)) a) arcs → AlikeOn g None
-  on_axes g lie = record { rings = grid_rings (transform_of g) (cell g) limit os arcs lie; contents = grid_contents (transform_of g) (cell g) limit os arcs lie no_crossings t }
+  on_axes g lie = record {
+    rings = grid_rings (transform_of g) (cell g) limit os arcs lie;
+    contents = grid_contents (transform_of g) (cell g) limit os arcs lie no_crossings t;
+    removed_count = grid_removed (transform_of g) (cell g) limit os arcs lie no_crossings t;
+  }
 
 pub protecting_on_grid : ProtectingOnGrid
-protecting_on_grid no_crossings None t limit y grid bare on = record { rings = refl; contents = refl }
+protecting_on_grid no_crossings None t limit y grid bare on = record { rings = refl; contents = refl; removed_count = refl }
 protecting_on_grid no_crossings (Some g) t limit y grid bare on =
     subst (AlikeOn no_crossings t limit y.objects y.arcs g) (sym bare)
     (on_axes no_crossings t limit y.objects y.arcs g (all_weaker (λ a. AllByRecursion (IsOn (Some g)) a) (λ a. AllByRecursion (LiesBack (transform_of g) (cell g)) a) (all_lie g grid) y.arcs on.0))

@@ -37,7 +37,8 @@ pub use protected_laws::{
     unprotected_is_guarded, unprotected_is_simplified,
 };
 pub use protected_layers_laws::{
-    assembled_sparing_is_on, assembled_sparing_is_valid, built_rings_are_of_layers,
+    assembled_sparing_is_on, assembled_sparing_is_valid, built_features_have_rings,
+    built_rings_are_of_layers, layers_shapes_stay, protecting_arc_indexes_are_of_layers,
     protecting_arc_indexes_reach, protecting_is_assembled, protecting_on_grid, spared_cells_are_on,
     spared_nests_no_deeper, sparing_is_of_layers, trimmed_first_is_alike_sparing,
 };

@@ -1,8 +1,8 @@
 // Laws of the definitions. A function here changes nothing: its contract is the law.
-ghost use Rattle.simplified_topology.specs.ProtectedLayersLaws.{AssembledSparingIsOn, AssembledSparingIsValid, BuiltRingsAreOfLayers, ProtectingArcIndexesReach, ProtectingIsAssembled, ProtectingOnGrid, SparedCellsAreOn, SparedNestsNoDeeper, SparingIsOfLayers, TrimmedFirstIsAlikeSparing};
+ghost use Rattle.simplified_topology.specs.ProtectedLayersLaws.{AssembledSparingIsOn, AssembledSparingIsValid, BuiltFeaturesHaveRings, BuiltRingsAreOfLayers, LayersShapesStay, ProtectingArcIndexesAreOfLayers, ProtectingArcIndexesReach, ProtectingIsAssembled, ProtectingOnGrid, SparedCellsAreOn, SparedNestsNoDeeper, SparingIsOfLayers, TrimmedFirstIsAlikeSparing};
 
 use elimination_meaning::{ends_stay, nothing_is_new, zero_law};
-use guarded_meaning::arcs_rise;
+use guarded_meaning::{arcs_rise, rings_stay};
 
 /// Where each position of a topology lies on the grid, so does each of what is left of it.
 pub fn spared_cells_are_on()
@@ -40,6 +40,21 @@ pub fn built_rings_are_of_layers()
     zero_law();
 }
 
+/// In each feature of it, on a grid too, that of its feature of the layers is protected, if one is.
+pub fn built_features_have_rings()
+    ensures { BuiltFeaturesHaveRings }
+{
+    nothing_is_new();
+    zero_law();
+}
+
+/// So the indexes that stay of the layers' arcs are those of the used arcs, where these rings are protected.
+pub fn protecting_arc_indexes_are_of_layers()
+    ensures { ProtectingArcIndexesAreOfLayers }
+{
+    zero_law();
+}
+
 /// What is built of layers at zero and then reduced at once is what is assembled of them, on a grid too.
 pub fn protecting_is_assembled()
     ensures { ProtectingIsAssembled }
@@ -55,6 +70,16 @@ pub fn protecting_arc_indexes_reach()
 {
     zero_law();
     arcs_rise();
+}
+
+/// Each feature of layers that has a protected ring keeps it in what is assembled of them, on a grid too.
+pub fn layers_shapes_stay()
+    ensures { LayersShapesStay }
+{
+    nothing_is_new();
+    zero_law();
+    arcs_rise();
+    rings_stay();
 }
 
 /// What is assembled of layers is valid, where each arc keeps its ends.

@@ -29,6 +29,7 @@ fn steps_of_building(alloc: Global) -> Option<Steps> {
         grid: None,
         guards: Guards {
             no_crossings: false,
+            keep_shapes: false,
         },
         level: Level::Fixed(THRESHOLD),
         ring_limit: 0,
@@ -54,6 +55,7 @@ fn steps_of_simplifying(alloc: Global) -> Option<Steps> {
         &mut source(TOPOLOGY),
         Guards {
             no_crossings: false,
+            keep_shapes: false,
         },
         Level::Fixed(THRESHOLD),
         0,

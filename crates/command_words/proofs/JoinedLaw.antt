@@ -17,6 +17,11 @@ same_exact : (exact : Bool) (words : List Text) → joined_from alone (and_flag 
 same_exact true words = ap (λ ws. codes "--exact" ∷ ws) (same_rest words)
 same_exact false words = same_rest words
 
+same_keep_shapes : (keep_shapes : Bool) (words : List Text)
+    → joined_from alone (and_flag (codes "keep-shapes") keep_shapes (codes "--" ∷ words)) ≡ and_flag (codes "keep-shapes") keep_shapes (codes "--" ∷ words)
+same_keep_shapes true words = ap (λ ws. codes "--keep-shapes" ∷ ws) (same_rest words)
+same_keep_shapes false words = same_rest words
+
 same_no_crossings : (no_crossings : Bool) (words : List Text) → joined_from alone words ≡ words
     → joined_from alone (and_flag (codes "no-crossings") no_crossings words) ≡ and_flag (codes "no-crossings") no_crossings words
 same_no_crossings true words h = ap (λ ws. codes "--no-crossings" ∷ ws) h
@@ -56,10 +61,10 @@ joined_same (build layers exact grid area keep ring_area no_crossings, output) =
     let levels = level_word area keep ∷ rings in
     let below = same_level rings rings (same_ring_area rest rest same ring_area) area keep in
     ap (λ ws. codes "build" ∷ ws) (same_output output (and_value (codes "grid") (option_map decimal grid) levels) (and_value (codes "grid") (option_map decimal grid) levels) (same_grid grid levels levels below))
-joined_same (simplify area keep ring_area no_crossings path, output) =
-    let last = codes "--" ∷ path ∷ [] in
+joined_same (simplify area keep ring_area no_crossings keep_shapes path, output) =
+    let last = and_flag (codes "keep-shapes") keep_shapes (codes "--" ∷ path ∷ []) in
     let rest = and_flag (codes "no-crossings") no_crossings last in
-    let same = same_no_crossings no_crossings last (same_rest (path ∷ [])) in
+    let same = same_no_crossings no_crossings last (same_keep_shapes keep_shapes (path ∷ [])) in
     let rings = ring_area_word ring_area ∷ rest in
     let levels = level_word area keep ∷ rings in
     ap (λ ws. codes "simplify" ∷ ws)
@@ -77,10 +82,10 @@ joined_apart (build layers exact grid area keep ring_area no_crossings, output) 
     let levels = level_word area keep ∷ rings in
     let below = joined_level (ring_area_apart ring_area rest) rings (joined_ring_area rest rest same ring_area) area keep in
     ap (λ ws. codes "build" ∷ ws) (same_output output (and_value (codes "grid") (option_map decimal grid) apart) (and_value (codes "grid") (option_map decimal grid) levels) (same_grid grid apart levels below))
-joined_apart (simplify area keep ring_area no_crossings path, output) =
-    let last = codes "--" ∷ path ∷ [] in
+joined_apart (simplify area keep ring_area no_crossings keep_shapes path, output) =
+    let last = and_flag (codes "keep-shapes") keep_shapes (codes "--" ∷ path ∷ []) in
     let rest = and_flag (codes "no-crossings") no_crossings last in
-    let same = same_no_crossings no_crossings last (same_rest (path ∷ [])) in
+    let same = same_no_crossings no_crossings last (same_keep_shapes keep_shapes (path ∷ [])) in
     let rings = ring_area_word ring_area ∷ rest in
     let apart = ring_area_apart ring_area rest in
     ap (λ ws. codes "simplify" ∷ ws)

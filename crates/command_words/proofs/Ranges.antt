@@ -9,7 +9,7 @@ use Rattle.clap.specs.Simple.{subcommand_of}
 use Rattle.clap.specs.Walk.{Row, Text, one_of}
 use Rattle.clap.specs.declared.builder.value_parser.ValueParser.TheVariants.{Unsigned}
 use Rattle.clap.proofs.ValueTestLemmas.{accepts-Accepts}
-use Rattle.command_words.specs.Asked.{Asked, Ordered, area_in, asked, asked_in, build, build_in, build_on, cells_of, geo, grid_at, grid_in, has_both, keep_in, kinds_of, layers_in, no_crossings_in, order_of, ordered, ordered_in, output_in, ring_area_in, simplify, simplify_in, stat, stat_in, text_of, where_none}
+use Rattle.command_words.specs.Asked.{Asked, Ordered, area_in, asked, asked_in, build, build_in, build_on, cells_of, geo, grid_at, grid_in, has_both, keep_in, keep_shapes_in, kinds_of, layers_in, no_crossings_in, order_of, ordered, ordered_in, output_in, ring_area_in, simplify, simplify_in, stat, stat_in, text_of, where_none}
 use Rattle.command_words.specs.CommandLine.{program_app}
 use Rattle.command_words.specs.Requests.{IsCells, IsInRange}
 use Rattle.command_words.specs.declared.request.Order.{Order}
@@ -19,7 +19,7 @@ use Rattle.command_words.specs.declared.request.Request.TheVariants.{Build, Simp
 -- its grid, if any, may have its number of cells
 abbrev Fits : Asked → Type 0
 Fits (build layers exact grid area keep ring_area no_crossings) = IfSome grid IsCells
-Fits (simplify area keep ring_area no_crossings path) = Unit {0}
+Fits (simplify area keep ring_area no_crossings keep_shapes path) = Unit {0}
 Fits (geo name path) = Unit {0}
 Fits (stat crossings path) = Unit {0}
 
@@ -54,7 +54,7 @@ built_in_range rows =
     (build_in_range rows (grid_in rows) (layers_in rows) (grid_in_range (one_of (codes "grid") rows)))
 
 simplify_in_range : (rows : List Row) → IfSome (simplify_in rows) Fits
-simplify_in_range rows = either (has_both rows) None (Some (simplify (area_in rows) (keep_in rows) (ring_area_in rows) (no_crossings_in rows) (text_of (codes "file") rows))) tt tt
+simplify_in_range rows = either (has_both rows) None (Some (simplify (area_in rows) (keep_in rows) (ring_area_in rows) (no_crossings_in rows) (keep_shapes_in rows) (text_of (codes "file") rows))) tt tt
 
 command_in_range : (found : Text × List Row) → IfSome (asked_in found) Fits
 command_in_range found =
@@ -85,7 +85,7 @@ unless_refused (k ∷ ks) o h = tt
 
 of_request : (request : Request) → Fits (asked request) → IsInRange request
 of_request (Build layers exact grid area keep ring_area no_crossings) h = h
-of_request (Simplify area keep ring_area no_crossings path) h = tt
+of_request (Simplify area keep ring_area no_crossings keep_shapes path) h = tt
 of_request (Geo name path) h = tt
 of_request (Stat crossings path) h = tt
 

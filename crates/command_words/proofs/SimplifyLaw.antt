@@ -9,7 +9,7 @@ use Rattle.clap.specs.declared.builder.value_parser.Reading.TheVariants.{AsWritt
 use Rattle.clap.specs.declared.parser.matches.ValueSource.TheVariants.{CommandLine}
 use Rattle.clap.specs.Faults.{check_fault, level_fault, settle_fault, walk_fault}
 use Rattle.clap.proofs.OnLiterals.{clap_on_literals}
-use Rattle.command_words.specs.Asked.{Asked, Ordered, keep_in, no_crossings_in, order_of, output_in, simplify, simplify_in, where_none}
+use Rattle.command_words.specs.Asked.{Asked, Ordered, keep_in, keep_shapes_in, no_crossings_in, order_of, output_in, simplify, simplify_in, where_none}
 use Rattle.command_words.specs.Written.{flag_word, value_word}
 use Rattle.command_words.proofs.CommandLevels.{asked_at, first_text, flag_read, more_words, no_fault, no_level_fault, or_else_nil, shape_of, text_read}
 use Rattle.command_words.proofs.RowLemmas.{found_at_end, has_id, values_replace}
@@ -56,6 +56,10 @@ no_crossings_taken : Takes simplify_shape (flag_word (codes "no-crossings")) (fl
 unfolding clap_on_literals
 no_crossings_taken = record { walks = λ rows new. ap between (values_replace (codes "no-crossings") AsWritten CommandLine (codes "true" ∷ []) rows new); faultless = λ rows new. rw new refl }
 
+keep_shapes_taken : Takes simplify_shape (flag_word (codes "keep-shapes")) (flag_row (codes "keep-shapes"))
+unfolding clap_on_literals
+keep_shapes_taken = record { walks = λ rows new. ap between (values_replace (codes "keep-shapes") AsWritten CommandLine (codes "true" ∷ []) rows new); faultless = λ rows new. rw new refl }
+
 -- ---- the file, and the checks at the end
 
 -- the walk is at the file after `--`
@@ -84,18 +88,18 @@ nothing_missing rows path found = rw found refl
 -- ---- the law
 
 -- what is asked for by these values of the options
-abbrev asked_by : Option Text → Option Text → Option Text → Bool → Option Text → Option Asked
-asked_by area keep ring_area no_crossings path =
+abbrev asked_by : Option Text → Option Text → Option Text → Bool → Bool → Option Text → Option Asked
+asked_by area keep ring_area no_crossings keep_shapes path =
     if is_some area && is_some keep then None
-    else Some (simplify (unwrap_or area (codes "0")) keep (unwrap_or ring_area (codes "0")) no_crossings (unwrap_or path []))
+    else Some (simplify (unwrap_or area (codes "0")) keep (unwrap_or ring_area (codes "0")) no_crossings keep_shapes (unwrap_or path []))
 
-module _ (output area keep : Option Text) (ring_area path : Text) (no_crossings : Bool) where
+module _ (output area keep : Option Text) (ring_area path : Text) (no_crossings keep_shapes : Bool) where
   abbrev settings : List Setting
   settings = value (codes "output") AsWritten output ∷ value (codes "min-area") AsWritten area ∷ value (codes "keep") AsWritten keep
-      ∷ value (codes "min-ring-area") AsWritten (Some ring_area) ∷ flag (codes "no-crossings") no_crossings ∷ []
+      ∷ value (codes "min-ring-area") AsWritten (Some ring_area) ∷ flag (codes "no-crossings") no_crossings ∷ flag (codes "keep-shapes") keep_shapes ∷ []
 
   all_taken : TakesAll simplify_shape settings
-  all_taken = (any_given output _ output_taken, (any_given area _ area_taken, (any_given keep _ keep_taken, (ring_area_taken ring_area, (no_crossings_taken, tt)))))
+  all_taken = (any_given output _ output_taken, (any_given area _ area_taken, (any_given keep _ keep_taken, (ring_area_taken ring_area, (no_crossings_taken, (keep_shapes_taken, tt))))))
 
   abbrev rows : List Row
   rows = rows_given settings
@@ -158,12 +162,15 @@ module _ (output area keep : Option Text) (ring_area path : Text) (no_crossings 
   no_crossings_read : no_crossings_in rows_at_end ≡ no_crossings
   no_crossings_read = ap (λ (o : Option Text). bytes_eq (unwrap_or o []) (codes "true")) (at_end (codes "no-crossings")) ∙ flag_read (codes "no-crossings") no_crossings
 
+  keep_shapes_read : keep_shapes_in rows_at_end ≡ keep_shapes
+  keep_shapes_read = ap (λ (o : Option Text). bytes_eq (unwrap_or o []) (codes "true")) (at_end (codes "keep-shapes")) ∙ flag_read (codes "keep-shapes") keep_shapes
+
   path_read : first_of (codes "file") rows_at_end ≡ Some path
   path_read = at_end (codes "file")
 
   pub simplify_law : (is_some area && is_some keep) ≡ false
-      → order_of (codes "simplify" ∷ given) ≡ Some (simplify (unwrap_or area (codes "0")) keep ring_area no_crossings path, output)
+      → order_of (codes "simplify" ∷ given) ≡ Some (simplify (unwrap_or area (codes "0")) keep ring_area no_crossings keep_shapes path, output)
   simplify_law alone =
       asks
-      ∙ (λ i. option_map (λ a. (a, output_read i)) (asked_by (area_read i) (keep_read i) (ring_area_read i) (no_crossings_read i) (path_read i)))
-      ∙ ap (λ (b : Bool). option_map (λ a. (a, output)) (cond b None (Some (simplify (unwrap_or area (codes "0")) keep ring_area no_crossings path)))) alone
+      ∙ (λ i. option_map (λ a. (a, output_read i)) (asked_by (area_read i) (keep_read i) (ring_area_read i) (no_crossings_read i) (keep_shapes_read i) (path_read i)))
+      ∙ ap (λ (b : Bool). option_map (λ a. (a, output)) (cond b None (Some (simplify (unwrap_or area (codes "0")) keep ring_area no_crossings keep_shapes path)))) alone

@@ -123,8 +123,8 @@ asked_as_written (build (layer ∷ layers) exact grid area (Some share) ring_are
     build_law output (option_map decimal grid) None (Some share) ring_area no_crossings exact (layer_word layer) (map layer_word layers) (fits layers can.2)
     (grid_taken grid can.0) grid (layer ∷ layers) (grid_read grid can.0) (all_split (layer ∷ layers) can.3) refl
     ∙ (λ i. Some (build (layer ∷ layers) exact grid (sym can.4 i) (Some share) ring_area no_crossings, output))
-asked_as_written (simplify area None ring_area no_crossings path, output) can = simplify_law output (Some area) None ring_area path no_crossings refl
-asked_as_written (simplify area (Some share) ring_area no_crossings path, output) can =
-    simplify_law output None (Some share) ring_area path no_crossings refl ∙ (λ i. Some (simplify (sym can i) (Some share) ring_area no_crossings path, output))
+asked_as_written (simplify area None ring_area no_crossings keep_shapes path, output) can = simplify_law output (Some area) None ring_area path no_crossings keep_shapes refl
+asked_as_written (simplify area (Some share) ring_area no_crossings keep_shapes path, output) can =
+    simplify_law output None (Some share) ring_area path no_crossings keep_shapes refl ∙ (λ i. Some (simplify (sym can i) (Some share) ring_area no_crossings keep_shapes path, output))
 asked_as_written (geo name path, output) can = geo_law output name path
 asked_as_written (stat crossings path, output) can = stat_law output crossings path

@@ -23,8 +23,8 @@ pub data Asked : Type 0 where
   -- the names and paths of the layers, whether rounding is refused, the cells of the grid, the area, the share, the ring area, and whether no
   -- crossing may be made
   build : List (Text × Text) → Bool → Option ℕ → Text → Option Text → Text → Bool → Asked
-  -- the area, the share, the ring area, whether no crossing may be made, and the file
-  simplify : Text → Option Text → Text → Bool → Text → Asked
+  -- the area, the share, the ring area, whether no crossing may be made, whether shapes stay, and the file
+  simplify : Text → Option Text → Text → Bool → Bool → Text → Asked
   -- the object and the file
   geo : Text → Text → Asked
   -- whether crossings are counted, and the file
@@ -34,7 +34,8 @@ pub data Asked : Type 0 where
 abbrev pub asked : Request → Asked
 asked (Build layers exact grid area keep ring_area no_crossings) =
     build (map (λ l. (l.0.now, l.1.now)) layers.items) exact grid area.now (option_map (λ k. k.now) keep) ring_area.now no_crossings
-asked (Simplify area keep ring_area no_crossings path) = simplify area.now (option_map (λ k. k.now) keep) ring_area.now no_crossings path.now
+asked (Simplify area keep ring_area no_crossings keep_shapes path) =
+    simplify area.now (option_map (λ k. k.now) keep) ring_area.now no_crossings keep_shapes path.now
 asked (Geo name path) = geo name.now path.now
 asked (Stat crossings path) = stat crossings path.now
 
@@ -87,6 +88,10 @@ ring_area_in rows = unwrap_or (first_of (codes "min-ring-area") rows) (codes "0"
 abbrev pub no_crossings_in : List Row → Bool
 no_crossings_in rows = bytes_eq (text_of (codes "no-crossings") rows) (codes "true")
 
+-- shapes stay
+abbrev pub keep_shapes_in : List Row → Bool
+keep_shapes_in rows = bytes_eq (text_of (codes "keep-shapes") rows) (codes "true")
+
 -- an area and a share are given both
 abbrev pub has_both : List Row → Bool
 has_both rows = is_some (first_of (codes "min-area") rows) && is_some (keep_in rows)
@@ -123,7 +128,7 @@ build_in rows = if has_both rows then None else option_and_then (λ grid. option
 -- what `simplify` asks for, which takes none either
 abbrev pub simplify_in : List Row → Option Asked
 simplify_in rows = if has_both rows then None
-    else Some (simplify (area_in rows) (keep_in rows) (ring_area_in rows) (no_crossings_in rows) (text_of (codes "file") rows))
+    else Some (simplify (area_in rows) (keep_in rows) (ring_area_in rows) (no_crossings_in rows) (keep_shapes_in rows) (text_of (codes "file") rows))
 
 abbrev pub stat_in : List Row → Asked
 stat_in rows = stat (crossings_in rows) (text_of (codes "file") rows)

@@ -38,6 +38,10 @@ ring_area_rule = record (new_rule (codes "min-ring-area")) { long = Some (codes 
 abbrev pub no_crossings_rule : Rule
 no_crossings_rule = record (new_rule (codes "no-crossings")) { long = Some (codes "no-crossings"); action = Some SetTrue }
 
+-- the flag --keep-shapes
+abbrev pub keep_shapes_rule : Rule
+keep_shapes_rule = record (new_rule (codes "keep-shapes")) { long = Some (codes "keep-shapes"); action = Some SetTrue }
+
 -- the flag --crossings
 abbrev pub crossings_rule : Rule
 crossings_rule = record (new_rule (codes "crossings")) { long = Some (codes "crossings"); action = Some SetTrue }
@@ -96,10 +100,10 @@ build_app = with_rule (with_rule
     (with_common (with_rule (with_rule (with_rule (with_rule (with_rule (with_rule (new_app (codes "build")) grid_rule) area_rule) keep_rule) ring_area_rule) no_crossings_rule) exact_rule))
     quiet_rule) layers_rule
 
--- simplify [--min-area A] [--keep P/Q] [--min-ring-area B] [--no-crossings] [-q] FILE, with the common options
+-- simplify [--min-area A] [--keep P/Q] [--min-ring-area B] [--no-crossings] [--keep-shapes] [-q] FILE, with the common options
 abbrev pub simplify_app : App
 simplify_app = with_rule (with_rule
-    (with_common (with_rule (with_rule (with_rule (with_rule (new_app (codes "simplify")) area_rule) keep_rule) ring_area_rule) no_crossings_rule))
+    (with_common (with_rule (with_rule (with_rule (with_rule (with_rule (new_app (codes "simplify")) area_rule) keep_rule) ring_area_rule) no_crossings_rule) keep_shapes_rule))
     quiet_rule) file_rule
 
 -- geo --object NAME FILE, with the common options

@@ -40,8 +40,9 @@ abbrev pub written : Ordered → List Text
 written (build layers exact grid area keep ring_area no_crossings, output) =
     codes "build" ∷ and_value (codes "output") output (and_value (codes "grid") (option_map decimal grid)
     (level_word area keep ∷ ring_area_word ring_area ∷ and_flag (codes "no-crossings") no_crossings (and_flag (codes "exact") exact (codes "--" ∷ map layer_word layers))))
-written (simplify area keep ring_area no_crossings path, output) =
-    codes "simplify" ∷ and_value (codes "output") output (level_word area keep ∷ ring_area_word ring_area ∷ and_flag (codes "no-crossings") no_crossings (codes "--" ∷ path ∷ []))
+written (simplify area keep ring_area no_crossings keep_shapes path, output) =
+    codes "simplify" ∷ and_value (codes "output") output
+    (level_word area keep ∷ ring_area_word ring_area ∷ and_flag (codes "no-crossings") no_crossings (and_flag (codes "keep-shapes") keep_shapes (codes "--" ∷ path ∷ [])))
 written (geo name path, output) = codes "geo" ∷ and_value (codes "output") output (value_word (codes "object") name ∷ codes "--" ∷ path ∷ [])
 written (stat crossings path, output) = codes "stat" ∷ and_value (codes "output") output (and_flag (codes "crossings") crossings (codes "--" ∷ path ∷ []))
 
@@ -57,8 +58,9 @@ abbrev pub written_apart : Ordered → List Text
 written_apart (build layers exact grid area keep ring_area no_crossings, output) =
     codes "build" ∷ and_value (codes "output") output (and_value (codes "grid") (option_map decimal grid)
     (level_apart area keep (ring_area_apart ring_area (and_flag (codes "no-crossings") no_crossings (and_flag (codes "exact") exact (codes "--" ∷ map layer_word layers))))))
-written_apart (simplify area keep ring_area no_crossings path, output) =
-    codes "simplify" ∷ and_value (codes "output") output (level_apart area keep (ring_area_apart ring_area (and_flag (codes "no-crossings") no_crossings (codes "--" ∷ path ∷ []))))
+written_apart (simplify area keep ring_area no_crossings keep_shapes path, output) =
+    codes "simplify" ∷ and_value (codes "output") output
+    (level_apart area keep (ring_area_apart ring_area (and_flag (codes "no-crossings") no_crossings (and_flag (codes "keep-shapes") keep_shapes (codes "--" ∷ path ∷ [])))))
 written_apart (geo name path, output) = written (geo name path, output)
 written_apart (stat crossings path, output) = written (stat crossings path, output)
 
@@ -72,6 +74,6 @@ HasPlainNames (layer ∷ layers) = (has_byte equals_sign layer.0 ≡ false) × H
 abbrev pub IsWritable : Asked → Type 0
 IsWritable (build layers exact grid area keep ring_area no_crossings) = IfSome grid IsCells × (0 < length layers) × (length layers < usize_max)
     × HasPlainNames layers × IfSome keep (λ _. area ≡ codes "0")
-IsWritable (simplify area keep ring_area no_crossings path) = IfSome keep (λ _. area ≡ codes "0")
+IsWritable (simplify area keep ring_area no_crossings keep_shapes path) = IfSome keep (λ _. area ≡ codes "0")
 IsWritable (geo name path) = Unit {0}
 IsWritable (stat crossings path) = Unit {0}

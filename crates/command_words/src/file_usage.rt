@@ -1,6 +1,6 @@
 // The commands that take the file of a topology, and their help.
 ghost use Rattle.std.specs.Prelude.{IfOk};
-ghost use Rattle.command_words.specs.CommandLine.{IsApp, IsRule, crossings_rule, file_rule, geo_app, keep_rule, object_rule, simplify_app, stat_app};
+ghost use Rattle.command_words.specs.CommandLine.{IsApp, IsRule, crossings_rule, file_rule, geo_app, keep_rule, keep_shapes_rule, object_rule, simplify_app, stat_app};
 
 use crate::commands::{Help, command};
 use crate::usage::{area, no_crossings, quiet, ring_area, with_common};
@@ -22,6 +22,9 @@ pub(crate) const OBJECT: &str = "object";
 /// The option of `stat` that counts crossings.
 pub(crate) const CROSSINGS: &str = "crossings";
 
+/// The option of `simplify` that keeps shapes.
+pub(crate) const KEEP_SHAPES: &str = "keep-shapes";
+
 /// The file of the topology.
 pub(crate) const FILE: &str = "file";
 
@@ -36,7 +39,7 @@ of 'mapchain build'; 'removed' are positions that were removed from the arcs tha
 written. An arc is reduced once, so that lines which share it go on sharing it. A line
 or ring that is left with too few positions is dropped as 'small', and so is a ring
 that encloses less than '--min-ring-area'. Any other hole whose outer ring is dropped
-is dropped as 'outer'.
+is dropped as 'outer'. With '--keep-shapes' the largest outer ring of a feature stays.
 
 A topology that 'mapchain build' wrote without areas becomes, byte for byte, what
 'mapchain build' writes of the same files with the areas that are given here, and with
@@ -49,6 +52,16 @@ arcs of a hole that was dropped as 'outer', and '--no-crossings' isn't given.",
 
 'mapchain --help' lists the exit statuses, and says where faults are explained.",
 };
+
+const KEEP_SHAPES_HELP: &str = "Keep the largest outer ring of each feature";
+
+const KEEP_SHAPES_LONG_HELP: &str =
+    "Of the points that '--min-area' removes leave those without which the largest outer ring
+of a feature would have fewer than four positions, and never drop this ring, even where
+it encloses less than '--min-ring-area'. It is the largest before any point is removed,
+of the outer rings that have four positions or more, and the first of equals. A feature
+that has none may vanish. Without '--no-crossings' lines may come to cross: an island
+stays where the coast beside it goes";
 
 const GEO_HELP: Help = Help {
     about: "Decode an object of a topology to GeoJSON",
@@ -106,6 +119,17 @@ fn file<'a>(alloc: Global) -> Arg<'a>
         .help(FILE_HELP)
 }
 
+/// The option that keeps shapes.
+fn keep_shapes<'a>(alloc: Global) -> Arg<'a>
+    ensures { IsRule result keep_shapes_rule }
+{
+    Arg::new(alloc, KEEP_SHAPES)
+        .long("keep-shapes")
+        .action(ArgAction::SetTrue)
+        .help(KEEP_SHAPES_HELP)
+        .long_help(KEEP_SHAPES_LONG_HELP)
+}
+
 /// The command line of `simplify`, with this option that keeps a share.
 pub(crate) fn simplify<'a>(alloc: Global, keep: Arg<'a>) -> Result<Command<'a>, AllocError>
     ensures { IsRule keep.entry keep_rule → IfOk result (λ c. IsApp c simplify_app) }
@@ -114,7 +138,8 @@ pub(crate) fn simplify<'a>(alloc: Global, keep: Arg<'a>) -> Result<Command<'a>, 
         .arg(area(alloc))?
         .arg(keep)?
         .arg(ring_area(alloc))?
-        .arg(no_crossings(alloc))?;
+        .arg(no_crossings(alloc))?
+        .arg(keep_shapes(alloc))?;
     with_common(alloc, command)?
         .arg(quiet(alloc))?
         .arg(file(alloc))

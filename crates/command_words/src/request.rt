@@ -10,14 +10,14 @@ ghost use Rattle.clap.specs.declared.error.kind.ErrorKind.TheVariants.{OutOfMemo
 ghost use Rattle.command_words.specs.declared.words_fault.WordsFault.TheVariants.{GridRange, Memory, Refused};
 ghost use Rattle.command_words.specs.Asked as spec;
 ghost use Rattle.command_words.specs.Asked.{Answers, area_in, asked, asked_in, build_in, crossings_in, entries_of, exact_in, grid_in};
-ghost use Rattle.command_words.specs.Asked.{Ordered, detail, detail_of, explains_in, keep_in, kinds_of, order_of, ordered};
+ghost use Rattle.command_words.specs.Asked.{Ordered, detail, detail_of, explains_in, keep_in, keep_shapes_in, kinds_of, order_of, ordered};
 ghost use Rattle.command_words.specs.Asked.{no_crossings_in, output_in, quiet_in, report_in, ring_area_in, simplify_in, text_of};
 ghost use Rattle.command_words.specs.CommandLine.{IsApp, program_app};
 ghost use Rattle.command_words.specs.Faults as faults;
 ghost use Rattle.command_words.specs.Faults.{IsBuildFault, IsCommandFault, IsFaultBy, IsFaultOf};
 ghost use Rattle.command_words.specs.Written.{IsWritable, written};
 
-use crate::file_usage::{CROSSINGS, FILE, GEO, OBJECT, SIMPLIFY, STAT};
+use crate::file_usage::{CROSSINGS, FILE, GEO, KEEP_SHAPES, OBJECT, SIMPLIFY, STAT};
 use crate::layer_words::names_and_paths;
 use crate::usage::{
     AREA, BUILD, EXACT, EXPLAIN, GRID, KEEP, LAYERS, NO_CROSSINGS, OUTPUT, QUIET, REPORT,
@@ -57,6 +57,8 @@ pub enum Request<'a> {
         ring_area: &'a str,
         /// No point is removed where lines would then cross.
         no_crossings: bool,
+        /// Each shape with a ring of four positions keeps its largest.
+        keep_shapes: bool,
         path: &'a str,
     },
     /// The features of the object of this name, of the topology in the file of this path.
@@ -161,6 +163,13 @@ fn has_no_crossings(arguments: &ArgMatches<'_>) -> bool
     text_of(arguments, NO_CROSSINGS) == "true"
 }
 
+/// Whether shapes stay.
+fn has_keep_shapes(arguments: &ArgMatches<'_>) -> bool
+    ensures { result ≡ keep_shapes_in (entries_of arguments.now) }
+{
+    text_of(arguments, KEEP_SHAPES) == "true"
+}
+
 /// Whether an area and a share are given both.
 fn has_both(arguments: &ArgMatches<'_>) -> bool
     ensures { result ≡ spec.has_both (entries_of arguments.now) }
@@ -234,6 +243,7 @@ fn simplify_request<'a>(arguments: &ArgMatches<'a>) -> Option<Request<'a>>
         keep: keep_of(arguments),
         ring_area: ring_area_of(arguments),
         no_crossings: has_no_crossings(arguments),
+        keep_shapes: has_keep_shapes(arguments),
         path: text_of(arguments, FILE),
     })
 }

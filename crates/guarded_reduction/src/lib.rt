@@ -1,7 +1,7 @@
 //! Guarded reduction of all arcs at once, in code: of all corners under a threshold the least goes again and again, where no crossing is made of it,
 //! or where rings keep four positions, or both. It stands on `guarded_meaning`, whose definition it answers, and on `effective_area`, whose cross
-//! product its predicates ask for the side on which a position lies. The layer above uses `reduce_guarded`; `weights_guarded` is for a share of the
-//! positions, which no command asks for. Corners are queued on a heap, in rounds by their areas; one that is kept from going without a crossing waits on the place that
+//! product its predicates ask for the side on which a position lies. The layer above uses `reduce_guarded`, and `weights_guarded` for a share of the
+//! positions. Corners are queued on a heap, in rounds by their areas; one that is kept from going without a crossing waits on the place that
 //! keeps it, and is looked at again when that place goes; one with which a ring would become too short never goes, so its place stays for good.
 //! What keeps a corner is found by `PositionIndex`, over positions of which more and more go: it finds one that is left and meets a query, above
 //! all a `Blocked`, that is in a corner's triangle or begins a segment between the ends of its base. It sorts once, and goes up one path of a tree

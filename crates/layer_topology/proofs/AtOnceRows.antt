@@ -1,6 +1,6 @@
 -- Shares of arcs that are reduced at once: that they stay, and worked rows in whole units.
-use Rattle.std.proofs.Common.{◌≡◌, ℕ, ◌^◌, ◌-◌, leb, pos, negsuc, true, false, cond, List, [], ◌∷◌, Some, refl, subst, sym}
-use Rattle.std.specs.Prelude.{◌&&◌}
+use Rattle.std.proofs.Common.{◌≡◌, ℕ, ◌^◌, ◌-◌, leb, ℤ, pos, negsuc, Bool, true, false, cond, List, [], ◌∷◌, Some, refl, subst, sym}
+use Rattle.std.specs.Prelude.{◌&&◌, ◌||◌}
 use Rattle.std.proofs.lemmas.Bool.{and_parts, leb-true}
 use Rattle.geometry.specs.Areas.{cross, twice_area}
 use Rattle.geometry.specs.Points.{Point}
@@ -13,17 +13,30 @@ use Rattle.guarded_meaning.specs.Shares.{share}
 use Rattle.guarded_meaning.specs.Triangles.{in_triangle}
 use Rattle.layer_topology.specs.GuardedLaws.{ShareStaysAtOnce, ShareStaysUnder}
 use Rattle.layer_topology.specs.GuardedLevels.{guarded_chosen, guarded_threshold, KeepsShare}
+use Rattle.layer_topology.specs.Guarded.{is_simplifying_level}
 use Rattle.layer_topology.specs.Levels.{threshold_at}
+use Rattle.layer_topology.specs.declared.level.Level.{Level}
 use Rattle.layer_topology.specs.declared.level.Level.TheVariants.{Fixed, Share}
+use Rattle.simplified_topology.specs.Guarded.{arc_positions}
+use Rattle.simplified_topology.specs.Protected.{greatest_ring, protected_rings}
 
 pub share_stays_at_once : ShareStays → ShareStaysAtOnce
 share_stays_at_once stays no_crossings rings (Fixed t) arcs h = tt
 share_stays_at_once stays no_crossings rings (Share p q) arcs h =
     stays p q _ arcs (leb-true p q (and_parts (leb q (10 ^ 9)) (leb p q) (and_parts (leb 1 q) (leb q (10 ^ 9) && leb p q) h).1).1)
 
+module _ (stays : ShareStaysAtOnce) (level : Level) (arcs : List (List Point)) (rings : List (List ℤ)) (h : is_simplifying_level level ≡ true) where
+  -- where crossings may not be made, and where these rings have to stay
+  share_by : (b s : Bool) → b || s ≡ true
+      → KeepsShare level arcs (reduced_arcs (guarded_by b (cond s rings []))
+      (cond s (guarded_threshold b rings level arcs) (cond b (guarded_threshold true [] level arcs) (threshold_at level arcs))) arcs)
+  share_by b true e = stays b rings level arcs h
+  share_by true false e = stays true [] level arcs h
+  share_by false false e = absurd cc
+
 pub share_stays_under : ShareStaysAtOnce → ShareStaysUnder
-share_stays_under stays guards level arcs h e =
-    subst (λ b. KeepsShare level arcs (reduced_arcs (guarded_by true []) (cond b (guarded_threshold true [] level arcs) (threshold_at level arcs)) arcs)) (sym e) (stays true [] level arcs h)
+share_stays_under stays guards level y h =
+    share_by stays level (arc_positions y) (protected_rings (greatest_ring (arc_positions y)) y.objects) h guards.no_crossings guards.keep_shapes
 
 -- ---- rows
 

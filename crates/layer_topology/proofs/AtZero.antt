@@ -1,18 +1,16 @@
 -- At a threshold of zero no corner goes, whatever the guard, so what is written is what is written without one.
 use Rattle.std.proofs.Common.{◌≡◌, ◌∙◌, ℕ, Bool, true, false, cond, List, [], map, refl, ap, sym}
-use Rattle.build_meaning.specs.Layers.{Named}
 use Rattle.elimination_meaning.specs.Elimination.{Vertex, numbered}
-use Rattle.elimination_meaning.specs.Weights.{is_kept_at}
 use Rattle.geometry.specs.Points.{Point}
 use Rattle.guarded_meaning.specs.Elimination.{Guard, reduce_arcs}
 use Rattle.guarded_meaning.specs.Guards.{guarded_by}
 use Rattle.guarded_meaning.specs.Laws.{KeptByWeight}
 use Rattle.guarded_meaning.specs.Weights.{passing, weight}
 use Rattle.guarded_meaning.proofs.Weights.{kept_at_zero}
-use Rattle.layer_topology.specs.declared.guards.Guards.{Guards}
 use Rattle.layer_topology.specs.GuardedLaws.{GuardedAtZero}
+use Rattle.layer_topology.proofs.Guarded.{layers_under}
 use Rattle.layer_topology.specs.Laws.{SimplifiesToWritten}
-use Rattle.layer_topology.specs.Written.{written, AreTaken}
+use Rattle.layer_topology.specs.Written.{written}
 use Rattle.simplified_topology.specs.Guarded.{arc_positions, guarded_contents}
 use Rattle.simplified_topology.specs.GuardedLaws.{UnguardedIsSimplified}
 use Rattle.simplified_topology.specs.Simplified.{simplified_by}
@@ -29,7 +27,7 @@ unfolding guarded_contents
 guarded_at by_weight limit y = ap (λ kept. simplified_by kept limit y) (same_at_zero by_weight (guarded_by true []) (guarded_by false []) (arc_positions y))
 
 pub guarded_at_zero : KeptByWeight → UnguardedIsSimplified → SimplifiesToWritten → GuardedAtZero
-guarded_at_zero by_weight plain less guards count ls taken = on guards.no_crossings
+guarded_at_zero by_weight plain less guards count ls unasked taken = ap (λ s. layers_under count 0 0 ls s guards.no_crossings) unasked ∙ on guards.no_crossings
   where
     on : (b : Bool) → cond b (guarded_contents true 0 0 (written count 0 0 ls)) (written count 0 0 ls) ≡ written count 0 0 ls
     on true = guarded_at by_weight 0 (written count 0 0 ls) ∙ (plain 0 0 (written count 0 0 ls)).contents ∙ less count 0 0 ls taken

@@ -1,20 +1,23 @@
 -- What is left of a topology where guards are asked for.
 use Rattle.std.proofs.Common.{◌≡◌, ◌∙◌, ℕ, ◌≤◌, Bool, true, false, cond, List, [], ◌∷◌, map, Option, refl, ap, arith, subst, sym}
 use Rattle.std.specs.List.{AllByRecursion}
-use Rattle.build_meaning.specs.Layers.{Named, names_of}
+use Rattle.build_meaning.specs.Layers.{Named}
 use Rattle.geojson_types.specs.declared.id.Id.{Id}
 use Rattle.geojson_types.proofs.Nestings.{option_pruned_nests}
 use Rattle.json_value.specs.declared.json.Json.{Json}
-use Rattle.layer_topology.specs.Guarded.{CrossesNoMore}
+use Rattle.layer_topology.specs.Guarded.{CrossesNoMore, KeepsShapes}
 use Rattle.layer_topology.specs.GuardedLaws.{GuardedIsAssembledOf, SimplifiedUnderLaw, WrittenUnderLaw}
 use Rattle.layer_topology.specs.GuardedWritten.{written_under}
 use Rattle.layer_topology.specs.Laws.{HasNames, IsValid, NestsNoDeeper, SimplifiesToWritten}
 use Rattle.layer_topology.specs.Written.{snapped_to, written, AreTaken}
 use Rattle.layer_topology.proofs.Laid.{snapped}
 use Rattle.simplified_topology.specs.GridLaws.{SnappedAreOn}
-use Rattle.simplified_topology.specs.Guarded.{guarded_contents, guarded_indexes}
+use Rattle.simplified_topology.specs.Guarded.{arc_positions, guarded_contents, guarded_indexes}
 use Rattle.simplified_topology.specs.GuardedLaws.{GuardedCrossingsNeverRise, GuardedIsAssembled, GuardedIsValid, GuardedKeeps, GuardedNoneStaysNone}
 use Rattle.simplified_topology.specs.Laws.{labels, ReducedIsValid, SimplifiedKeeps}
+use Rattle.simplified_topology.specs.Protected.{Protection, greatest_ring, protecting_contents, protecting_indexes}
+use Rattle.simplified_topology.specs.ProtectedLaws.{ProtectingCrossingsNeverRise, ProtectingIsValid, ProtectingKeeps, ProtectingNoneStaysNone, ShapesStay}
+use Rattle.simplified_topology.specs.ProtectedLayersLaws.{SparedNestsNoDeeper}
 use Rattle.simplified_topology.specs.Quantized.{named_grid}
 use Rattle.simplified_topology.specs.Simplified.{Refs, feature_pruned}
 use Rattle.simplified_topology.specs.Thresholds.{reduced_indexes, simplified_contents}
@@ -32,40 +35,74 @@ nests_pruned : (n : ℕ) (refs : Refs) (f : TopoFeature) → NestsTo n f → Nes
 nests_pruned n refs f h = omega (arith, h, option_pruned_nests (λ p. p) refs f.shape)
 
 module _ (t limit : ℕ) (y : Contents) where
-  abbrev under : Bool → Contents
-  under b = cond b (guarded_contents true t limit y) (simplified_contents t limit y)
+  -- its greatest rings
+  abbrev protects : Protection
+  protects = greatest_ring (arc_positions y)
 
-  valid_under : ReducedIsValid → GuardedIsValid → (b : Bool) → IsTopology y → IsTopology (under b)
-  valid_under plain guarded true h = guarded true t limit y h
-  valid_under plain guarded false h = plain t limit y h
+  -- where shapes stay, and where crossings may not be made
+  abbrev under : Bool → Bool → Contents
+  under s b = cond s (protecting_contents b protects t limit y) (cond b (guarded_contents true t limit y) (simplified_contents t limit y))
 
-  labels_under : SimplifiedKeeps → GuardedKeeps → (b : Bool) → labels (under b) ≡ labels y
+  valid_under : ReducedIsValid → GuardedIsValid → ProtectingIsValid → (s b : Bool) → IsTopology y → IsTopology (under s b)
+  valid_under plain guarded sparing true b h = sparing b protects t limit y h
+  valid_under plain guarded sparing false true h = guarded true t limit y h
+  valid_under plain guarded sparing false false h = plain t limit y h
+
+  labels_under : SimplifiedKeeps → GuardedKeeps → ProtectingKeeps → (s b : Bool) → labels (under s b) ≡ labels y
   unfolding simplified_contents
-  labels_under plain guarded true = (guarded true t limit y).0
-  labels_under plain guarded false = (plain (reduced_indexes t y) limit y).0
+  labels_under plain guarded sparing true b = (sparing b protects t limit y).0
+  labels_under plain guarded sparing false true = (guarded true t limit y).0
+  labels_under plain guarded sparing false false = (plain (reduced_indexes t y) limit y).0
 
-  transform_under : SimplifiedKeeps → GuardedKeeps → (b : Bool) → (under b).transform ≡ y.transform
+  transform_under : SimplifiedKeeps → GuardedKeeps → ProtectingKeeps → (s b : Bool) → (under s b).transform ≡ y.transform
   unfolding simplified_contents
-  transform_under plain guarded true = (guarded true t limit y).1
-  transform_under plain guarded false = (plain (reduced_indexes t y) limit y).1
+  transform_under plain guarded sparing true b = (sparing b protects t limit y).1
+  transform_under plain guarded sparing false true = (guarded true t limit y).1
+  transform_under plain guarded sparing false false = (plain (reduced_indexes t y) limit y).1
 
-  nests_under : (n : ℕ) (b : Bool) → AllByRecursion (NestsTo n) (bounds.objects_features y.objects) → AllByRecursion (NestsTo n) (bounds.objects_features (under b).objects)
-  unfolding guarded_contents simplified_contents
-  nests_under n true h = left_features (NestsTo n) (nests_pruned n) (guarded_indexes true t y) limit y h
-  nests_under n false h = left_features (NestsTo n) (nests_pruned n) (reduced_indexes t y) limit y h
+  nests_under : SparedNestsNoDeeper → (n : ℕ) (s b : Bool) → AllByRecursion (NestsTo n) (bounds.objects_features y.objects) → AllByRecursion (NestsTo n) (bounds.objects_features (under s b).objects)
+  unfolding guarded_contents simplified_contents protecting_contents
+  nests_under spared n true b h = spared n protects (protecting_indexes b protects t y) limit y h
+  nests_under spared n false true h = left_features (NestsTo n) (nests_pruned n) (guarded_indexes true t y) limit y h
+  nests_under spared n false false h = left_features (NestsTo n) (nests_pruned n) (reduced_indexes t y) limit y h
 
-  crosses_under : GuardedCrossingsNeverRise → GuardedNoneStaysNone → (b : Bool) → b ≡ true → CrossesNoMore y (under b)
-  crosses_under never none true e = record { fewer = never t limit y; none = none t limit y }
-  crosses_under never none false e = absurd cc
+  crosses_under : GuardedCrossingsNeverRise → GuardedNoneStaysNone → ProtectingCrossingsNeverRise → ProtectingNoneStaysNone → (s b : Bool) → b ≡ true → CrossesNoMore y (under s b)
+  crosses_under never none fewer nothing true true e = record { fewer = fewer protects t limit y; none = nothing protects t limit y }
+  crosses_under never none fewer nothing false true e = record { fewer = never t limit y; none = none t limit y }
+  crosses_under never none fewer nothing true false e = absurd cc
+  crosses_under never none fewer nothing false false e = absurd cc
 
-pub simplified_under_law : ReducedIsValid → SimplifiedKeeps → GuardedIsValid → GuardedKeeps → GuardedCrossingsNeverRise → GuardedNoneStaysNone → SimplifiedUnderLaw
-simplified_under_law plain_valid plain_keeps valid keeps never none guards t limit y = record {
-  valid = valid_under t limit y plain_valid valid guards.no_crossings;
-  labels_stay = labels_under t limit y plain_keeps keeps guards.no_crossings;
-  transform = transform_under t limit y plain_keeps keeps guards.no_crossings;
-  nests = λ n. nests_under t limit y n guards.no_crossings;
-  crosses = crosses_under t limit y never none guards.no_crossings;
-}
+  stays_under : ShapesStay → (s b : Bool) → s ≡ true → KeepsShapes b t y (under s b)
+  stays_under stay true b e = stay b t limit y
+  stays_under stay false b e = absurd cc
+
+-- what holds where nothing is asked of shapes, and where they stay
+pub record LawsUnder : Type 0 where
+  pub plain_valid : ReducedIsValid
+  pub plain_keeps : SimplifiedKeeps
+  pub valid : GuardedIsValid
+  pub keeps : GuardedKeeps
+  pub never : GuardedCrossingsNeverRise
+  pub none : GuardedNoneStaysNone
+  pub sparing_valid : ProtectingIsValid
+  pub sparing_keeps : ProtectingKeeps
+  pub sparing_never : ProtectingCrossingsNeverRise
+  pub sparing_none : ProtectingNoneStaysNone
+  pub sparing_nests : SparedNestsNoDeeper
+  pub sparing_stays : ShapesStay
+
+pub simplified_under_law : LawsUnder → SimplifiedUnderLaw
+simplified_under_law l guards t limit y =
+    let s = guards.keep_shapes in
+    let b = guards.no_crossings in
+    record {
+      valid = valid_under t limit y l.plain_valid l.valid l.sparing_valid s b;
+      labels_stay = labels_under t limit y l.plain_keeps l.keeps l.sparing_keeps s b;
+      transform = transform_under t limit y l.plain_keeps l.keeps l.sparing_keeps s b;
+      nests = λ n. nests_under t limit y l.sparing_nests n s b;
+      crosses = crosses_under t limit y l.never l.none l.sparing_never l.sparing_none s b;
+      stays = stays_under t limit y l.sparing_stays s b;
+    }
 
 -- ---- layers
 
@@ -81,17 +118,20 @@ label_names (o ∷ os) = ap (λ ns. o.0 ∷ ns) (label_names os)
 names_stay : (x y : Contents) → labels x ≡ labels y → map (λ o. o.0) x.objects ≡ map (λ o. o.0) y.objects
 names_stay x y h = sym (label_names x.objects) ∙ ap (map (λ (l : Named_labels). l.0)) h ∙ label_names y.objects
 
-module _ (count : Option ℕ) (t limit : ℕ) (ls : Named) (taken : AreTaken count ls) (less : SimplifiesToWritten) where
-  abbrev layers_under : Bool → Contents
-  layers_under b = cond b (guarded_contents true t limit (written count 0 0 ls)) (written count t limit ls)
+module _ (count : Option ℕ) (t limit : ℕ) (ls : Named) where
+  abbrev pub layers_under : Bool → Bool → Contents
+  layers_under s b =
+      cond s (protecting_contents b (greatest_ring (arc_positions (written count 0 0 ls))) t limit (written count 0 0 ls))
+      (cond b (guarded_contents true t limit (written count 0 0 ls)) (written count t limit ls))
 
-  simplified_is : (b : Bool) → under t limit (written count 0 0 ls) b ≡ layers_under b
-  simplified_is true = refl
-  simplified_is false = less count t limit ls taken
+  simplified_is : AreTaken count ls → SimplifiesToWritten → (s b : Bool) → under t limit (written count 0 0 ls) s b ≡ layers_under s b
+  simplified_is taken less true b = refl
+  simplified_is taken less false true = refl
+  simplified_is taken less false false = less count t limit ls taken
 
 pub written_under_law : SimplifiedUnderLaw → SimplifiesToWritten → IsValid → HasNames → NestsNoDeeper → WrittenUnderLaw
 written_under_law law less valid names nests guards count t limit ls taken =
-    let same = simplified_is count t limit ls taken less guards.no_crossings in
+    let same = simplified_is count t limit ls taken less guards.keep_shapes guards.no_crossings in
     let left = law guards t limit (written count 0 0 ls) in
     let labels_stay = subst (λ y. labels y ≡ labels (written count 0 0 ls)) same left.labels_stay in
     record {
@@ -100,12 +140,14 @@ written_under_law law less valid names nests guards count t limit ls taken =
       labels_stay = labels_stay;
       nests = λ n h. subst (λ y. AllByRecursion (NestsTo n) (bounds.objects_features y.objects)) same (left.nests n (nests count 0 0 n ls h));
       crosses = λ e. subst (CrossesNoMore (written count 0 0 ls)) same (left.crosses e);
+      stays = λ e. subst (KeepsShapes guards.no_crossings t (written count 0 0 ls)) same (left.stays e);
       simplified = same;
     }
 
 pub guarded_is_assembled_of : SnappedAreOn → GuardedIsAssembled → GuardedIsAssembledOf
 unfolding written
-guarded_is_assembled_of on assembles guards count t limit ls taken e =
+guarded_is_assembled_of on assembles guards count t limit ls taken unasked e =
     let s = snapped on count ls taken in
-    ap (λ b. cond b (guarded_contents true t limit (written count 0 0 ls)) (written count t limit ls)) e
+    ap (λ s. layers_under count t limit ls s guards.no_crossings) unasked
+    ∙ ap (λ b. cond b (guarded_contents true t limit (written count 0 0 ls)) (written count t limit ls)) e
     ∙ (assembles true (named_grid count ls) t limit (snapped_to count ls) s.on s.sound).contents

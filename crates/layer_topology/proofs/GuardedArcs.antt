@@ -1,8 +1,7 @@
 -- Arcs of which some are reduced at once and the others stay whole.
-use Rattle.std.proofs.Common.{◌≡◌, ℕ, zero, suc, Bool, true, false, cond, List, [], ◌∷◌, map, length, Option, refl, subst, sym, ap, ◌∙◌, arith}
+use Rattle.std.proofs.Common.{◌≡◌, ℕ, zero, suc, Bool, true, false, cond, List, [], ◌∷◌, map, length, Option, refl, subst, sym, ap, ◌∙◌}
 use Rattle.std.specs.Prelude.{not}
 use Rattle.build_meaning.specs.Built.{built, untrimmed}
-use Rattle.build_meaning.specs.Laws.{AreSound}
 use Rattle.build_meaning.specs.Layers.{Named}
 use Rattle.build_meaning.specs.Trimming.{is_used, keep_from}
 use Rattle.elimination_meaning.specs.Laws.{ZeroLaw}

@@ -12,10 +12,11 @@ use Rattle.grid_snap.specs.Axes.{Axes, cell}
 use Rattle.layer_topology.specs.declared.guards.Guards.{Guards}
 use Rattle.layer_topology.specs.declared.level.Level.{Level}
 use Rattle.layer_topology.specs.GuardedLaws.{GuardedIsAssembledOf}
-use Rattle.layer_topology.specs.GuardedLevels.{guarded_chosen, guarded_threshold, level_chosen_under, level_threshold_under, made_chosen, made_threshold}
+use Rattle.layer_topology.specs.GuardedLevels.{guarded_chosen, guarded_threshold, level_chosen_under, level_threshold_under, made_chosen, made_threshold, sparing_chosen, sparing_threshold}
 use Rattle.layer_topology.specs.GuardedWritten.{made_under, written_under}
 use Rattle.layer_topology.specs.Levels.{level_chosen, level_threshold}
 use Rattle.layer_topology.specs.Written.{snapped_to, written, AreTaken}
+use Rattle.layer_topology.proofs.Guarded.{layers_under}
 use Rattle.layer_topology.proofs.Laid.{snapped}
 use Rattle.simplified_topology.specs.Assembled.{assembled}
 use Rattle.simplified_topology.specs.Celled.{celled, EachCell, LiesBack}
@@ -62,16 +63,20 @@ unfolding written
 written_arcs new on count ls taken = sym (grid_arcs new (named_grid count ls) (snapped_to count ls) (snapped on count ls taken).on)
 
 -- so the threshold of snapped layers is that of what is written of the layers
-module _ (new : NoneIsNew) (on : SnappedAreOn) (guards : Guards) (level : Level) (count : Option ℕ) (ls s : Named) (moved : s ≡ snapped_to count ls) (taken : AreTaken count ls) where
+module _ (new : NoneIsNew) (on : SnappedAreOn) (guards : Guards) (level : Level) (count : Option ℕ) (ls s : Named) (moved : s ≡ snapped_to count ls) (unasked : guards.keep_shapes ≡ false) (taken : AreTaken count ls) where
   pub same_threshold : made_threshold guards level s ≡ level_threshold_under guards count level ls
   same_threshold =
       ap (made_threshold guards level) moved
       ∙ ap (λ arcs. cond guards.no_crossings (guarded_threshold true [] level arcs) (level_threshold count level ls)) (written_arcs new on count ls taken)
+      ∙ ap (λ b. cond b (sparing_threshold guards.no_crossings level (written count 0 0 ls))
+      (cond guards.no_crossings (guarded_threshold true [] level (arc_positions (written count 0 0 ls))) (level_threshold count level ls))) (sym unasked)
 
   pub same_chosen : made_chosen guards level s ≡ level_chosen_under guards count level ls
   same_chosen =
       ap (made_chosen guards level) moved
       ∙ ap (λ arcs. cond guards.no_crossings (guarded_chosen true [] level arcs) (level_chosen count level ls)) (written_arcs new on count ls taken)
+      ∙ ap (λ b. cond b (sparing_chosen guards.no_crossings level (written count 0 0 ls))
+      (cond guards.no_crossings (guarded_chosen true [] level (arc_positions (written count 0 0 ls))) (level_chosen count level ls))) (sym unasked)
 
 -- ---- with guards and without
 
@@ -88,12 +93,13 @@ module _ (guards : Guards) (t limit : ℕ) where
   cells_by cells assembles false g ls on sound = cells g t limit ls on
 
   module _ (count : Option ℕ) (ls : Named) where
-    written_by : GuardedIsAssembledOf → AreTaken count ls → (b : Bool) → guards.no_crossings ≡ b
+    written_by : GuardedIsAssembledOf → guards.keep_shapes ≡ false → AreTaken count ls → (b : Bool) → guards.no_crossings ≡ b
         → quantized (named_grid count ls) (made_by guards.no_crossings (snapped_to count ls)) ≡ written_under guards count t limit ls
     unfolding written
-    written_by law taken true e = ap (λ b. quantized (named_grid count ls) (made_by b (snapped_to count ls))) e ∙ sym (law guards count t limit ls taken e)
-    written_by law taken false e =
-        ap (λ b. quantized (named_grid count ls) (made_by b (snapped_to count ls))) e ∙ sym (ap (λ b. cond b (guarded_contents true t limit (written count 0 0 ls)) (written count t limit ls)) e)
+    written_by law unasked taken true e = ap (λ b. quantized (named_grid count ls) (made_by b (snapped_to count ls))) e ∙ sym (law guards count t limit ls taken unasked e)
+    written_by law unasked taken false e =
+        ap (λ b. quantized (named_grid count ls) (made_by b (snapped_to count ls))) e
+        ∙ sym (ap (λ s. layers_under count t limit ls s guards.no_crossings) unasked ∙ ap (λ b. cond b (guarded_contents true t limit (written count 0 0 ls)) (written count t limit ls)) e)
 
     -- ---- the steps of making it
 
@@ -109,6 +115,6 @@ module _ (guards : Guards) (t limit : ℕ) where
           (subst (λ z. EachCell (IsOn (named_grid count ls)) (made_by guards.no_crossings z)) (sym moved)
           (cells_by cells assembles guards.no_crossings (named_grid count ls) (snapped_to count ls) snap.on snap.sound)))
 
-      pub as_written_under : GuardedIsAssembledOf → AreTaken count ls → (z : Contents) → z ≡ quantized g y → z ≡ written_under guards count t limit ls
-      as_written_under law taken z e =
-          e ∙ ap (λ k. quantized k y) asked ∙ ap (quantized (named_grid count ls)) (made ∙ ap (made_by guards.no_crossings) moved) ∙ written_by law taken guards.no_crossings refl
+      pub as_written_under : GuardedIsAssembledOf → guards.keep_shapes ≡ false → AreTaken count ls → (z : Contents) → z ≡ quantized g y → z ≡ written_under guards count t limit ls
+      as_written_under law unasked taken z e =
+          e ∙ ap (λ k. quantized k y) asked ∙ ap (quantized (named_grid count ls)) (made ∙ ap (made_by guards.no_crossings) moved) ∙ written_by law unasked taken guards.no_crossings refl

@@ -1,37 +1,69 @@
 -- What is left of a topology where guards are asked for.
-use Rattle.std.specs.Prelude.{◌≡◌, ℕ, ◌≤◌, Bool, true, false, List, if◌then◌else◌}
+use Rattle.std.specs.Prelude.{◌≡◌, ℕ, ◌≤◌, ℤ, Bool, true, false, ◌||◌, List, [], Some, if◌then◌else◌}
 use Rattle.geometry.specs.declared.address.Dropped.{Dropped}
+use Rattle.guarded_meaning.specs.Elimination.{Guard}
+use Rattle.guarded_meaning.specs.Guards.{guarded_by}
+use Rattle.guarded_meaning.specs.Lists.{EachTo}
 use Rattle.layer_topology.specs.Levels.{is_level}
 use Rattle.layer_topology.specs.declared.guards.Guards.{Guards}
 use Rattle.layer_topology.specs.declared.level.Level.{Level}
 use Rattle.layer_topology.specs.declared.level.Level.TheVariants.{Fixed, Share}
-use Rattle.simplified_topology.specs.Guarded.{crossings_of, guarded_contents, guarded_dropped, guarded_removed_count}
+use Rattle.simplified_topology.specs.GridLaws.{all_features}
+use Rattle.simplified_topology.specs.Guarded.{arc_positions, crossings_of, guarded_contents, guarded_dropped, guarded_removed_count}
+use Rattle.simplified_topology.specs.Protected.{greatest_ring, protected_of, protected_rings, protecting_contents, protecting_dropped, protecting_removed_count}
+use Rattle.simplified_topology.specs.ProtectedLaws.{protecting_reduced, HasRing}
 use Rattle.simplified_topology.specs.Thresholds.{simplified_contents, simplified_dropped, simplified_removed_count}
 use Rattle.topojson_types.specs.Topologies.{Contents}
 
 -- nothing is asked for
 abbrev pub no_guards : Guards
-no_guards = record { no_crossings = false }
+no_guards = record { no_crossings = false; keep_shapes = false }
+
+-- all arcs are reduced at once
+abbrev pub is_at_once : Guards → Bool
+is_at_once guards = guards.no_crossings || guards.keep_shapes
 
 -- a topology may be simplified at this level: at any threshold, and by a share
 abbrev pub is_simplifying_level : Level → Bool
 is_simplifying_level (Fixed t) = true
 is_simplifying_level (Share p q) = is_level (Share p q)
 
--- with all arcs reduced at once, where crossings may not be made, and otherwise each by itself, and without the lines and rings that are
--- then small by a limit
+-- the arc indexes of the rings that have to stay: where shapes do, of each feature the outer ring that encloses most, of those with four positions or
+-- more
+abbrev pub rings_under : Guards → Contents → List (List ℤ)
+rings_under guards y = if guards.keep_shapes then protected_rings (greatest_ring (arc_positions y)) y.objects else []
+
+-- what then holds corners
+abbrev pub guard_under : Guards → Contents → Guard
+guard_under guards y = guarded_by guards.no_crossings (rings_under guards y)
+
+-- with all arcs reduced at once, where shapes stay or crossings may not be made, and otherwise each by itself, and without the lines and rings that
+-- are then small by a limit; where shapes stay, their protected rings aren't
 abbrev pub simplified_under : Guards → ℕ → ℕ → Contents → Contents
-simplified_under guards t limit y = if guards.no_crossings then guarded_contents true t limit y else simplified_contents t limit y
+simplified_under guards t limit y =
+    if guards.keep_shapes then protecting_contents guards.no_crossings (greatest_ring (arc_positions y)) t limit y
+    else (if guards.no_crossings then guarded_contents true t limit y else simplified_contents t limit y)
 
 -- the lines and rings that are then dropped, in reading order
 abbrev pub dropped_under : Guards → ℕ → ℕ → Contents → List Dropped
-dropped_under guards t limit y = if guards.no_crossings then guarded_dropped true t limit y else simplified_dropped t limit y
+dropped_under guards t limit y =
+    if guards.keep_shapes then protecting_dropped guards.no_crossings (greatest_ring (arc_positions y)) t limit y
+    else (if guards.no_crossings then guarded_dropped true t limit y else simplified_dropped t limit y)
 
 -- how many positions are then removed from the arcs that stay
 abbrev pub removed_count_under : Guards → ℕ → ℕ → Contents → ℕ
-removed_count_under guards t limit y = if guards.no_crossings then guarded_removed_count true t limit y else simplified_removed_count t limit y
+removed_count_under guards t limit y =
+    if guards.keep_shapes then protecting_removed_count guards.no_crossings (greatest_ring (arc_positions y)) t limit y
+    else (if guards.no_crossings then guarded_removed_count true t limit y else simplified_removed_count t limit y)
 
 -- no more pairs of segments of the second topology meet badly than of the first, and none where none of the first do
 pub record CrossesNoMore (before after : Contents) : Type 0 where
   pub fewer : crossings_of after ≤ crossings_of before
   pub none : crossings_of before ≡ 0 → crossings_of after ≡ 0
+
+-- Each feature of the first topology with an outer ring of four positions or more has the one that encloses most, the first of equals, in the
+-- second topology: a ring of the same arcs, as they are reduced at this threshold, and with four positions or more.
+abbrev pub KeepsShapes : Bool → ℕ → Contents → Contents → Type 0
+KeepsShapes no_crossings t before after =
+    EachTo (λ f g. (refs : List ℤ) → protected_of (greatest_ring (arc_positions before)) g ≡ Some refs → HasRing (protecting_reduced no_crossings (greatest_ring (arc_positions before)) t before) (arc_positions after) refs f)
+    (all_features after) (all_features before)

@@ -7,16 +7,18 @@ use Rattle.effective_area.specs.Calls.{Call}
 use Rattle.geometry.specs.declared.address.Dropped.{Dropped}
 use Rattle.layer_topology.specs.declared.guards.Guards.{Guards}
 use Rattle.layer_topology.specs.declared.level.Level.{Level}
+use Rattle.layer_topology.specs.Guarded.{is_at_once}
 use Rattle.layer_topology.specs.Levels.{level_calls}
 use Rattle.layer_topology.specs.Written.{snapped_to, written}
 use Rattle.simplified_topology.specs.Assembled.{assembled, assembled_dropped, assembled_removed_count}
-use Rattle.simplified_topology.specs.Guarded.{guarded_arc_indexes, guarded_contents}
+use Rattle.simplified_topology.specs.Guarded.{arc_positions, guarded_arc_indexes, guarded_contents}
+use Rattle.simplified_topology.specs.Protected.{greatest_ring, protecting_contents}
 use Rattle.topojson_types.specs.Topologies.{Contents}
 
 -- ---- what is made of layers as they are
 
--- where crossings may not be made, what is assembled of them over the arcs that they have at zero, reduced at once, and the others whole;
--- otherwise what is built of them
+-- where nothing is asked of shapes: what is assembled of them over the arcs that they have at zero, reduced at once, and the others whole, where
+-- crossings may not be made; otherwise what is built of them
 abbrev pub made_under : Guards → ℕ → ℕ → Named → Contents
 made_under guards t limit ls = if guards.no_crossings then assembled (guarded_arc_indexes true t ls) limit ls else built t limit ls
 
@@ -30,10 +32,12 @@ made_removed_under guards t limit ls = if guards.no_crossings then assembled_rem
 
 -- ---- what is written of them
 
--- where crossings may not be made, what is left of the one that is written at zero with all its arcs reduced at once, and otherwise the one
--- that is written at the threshold
+-- where shapes stay or crossings may not be made, what is left of the one that is written at zero with all its arcs reduced at once, and otherwise
+-- the one that is written at the threshold
 abbrev pub written_under : Guards → Option ℕ → ℕ → ℕ → Named → Contents
-written_under guards count t limit ls = if guards.no_crossings then guarded_contents true t limit (written count 0 0 ls) else written count t limit ls
+written_under guards count t limit ls =
+    if guards.keep_shapes then protecting_contents guards.no_crossings (greatest_ring (arc_positions (written count 0 0 ls))) t limit (written count 0 0 ls)
+    else (if guards.no_crossings then guarded_contents true t limit (written count 0 0 ls) else written count t limit ls)
 
 -- the lines and rings of the snapped layers that are then dropped, in reading order
 abbrev pub lines_dropped_under : Guards → Option ℕ → ℕ → ℕ → Named → List Dropped
@@ -45,6 +49,6 @@ positions_removed_under guards count t limit ls = made_removed_under guards t li
 
 -- ---- calls
 
--- what a reducer is asked for: nothing where crossings may not be made, as all arcs are then reduced at once
+-- what a reducer is asked for: nothing where shapes stay or crossings may not be made, as all arcs are then reduced at once
 abbrev pub calls_under : Guards → Option ℕ → Level → Named → List Call
-calls_under guards count level ls = if guards.no_crossings then [] else level_calls count level ls
+calls_under guards count level ls = if is_at_once guards then [] else level_calls count level ls

@@ -5,13 +5,15 @@ use crate::laws::{simplifies_to_written, written_laws};
 use guarded_meaning::{kept_by_weight, share_stays};
 use simplified_topology::{
     guarded_crossings_never_rise, guarded_is_assembled, guarded_is_valid, guarded_keeps,
-    guarded_none_stays_none, reduced_is_valid, simplified_keeps, snapped_are_on,
-    unguarded_is_simplified,
+    guarded_none_stays_none, protecting_crossings_never_rise, protecting_is_valid,
+    protecting_keeps, protecting_none_stays_none, reduced_is_valid, shapes_stay, simplified_keeps,
+    snapped_are_on, spared_nests_no_deeper, unguarded_is_simplified,
 };
 
 /// What is left of a valid topology is valid, with the same names, identifiers, properties and transform, and nests no deeper, whatever guards
 /// are asked for.
-/// Where no crossing may be made, no more pairs of its segments meet badly than of the topology, and none where none of that did.
+/// Where no crossing may be made, no more pairs of its segments meet badly than of the topology, and none where none of that did. Where shapes stay,
+/// each feature keeps the outer ring that enclosed most.
 pub fn simplified_under_law()
     ensures { SimplifiedUnderLaw }
 {
@@ -21,6 +23,12 @@ pub fn simplified_under_law()
     guarded_keeps();
     guarded_crossings_never_rise();
     guarded_none_stays_none();
+    protecting_is_valid();
+    protecting_keeps();
+    protecting_crossings_never_rise();
+    protecting_none_stays_none();
+    spared_nests_no_deeper();
+    shapes_stay();
 }
 
 /// Of arcs that are reduced at once at least the share stays that is asked for, whatever holds corners: of the positions between the ends, before
@@ -42,7 +50,7 @@ pub fn written_under_law()
     written_laws();
 }
 
-/// What is written of layers at a threshold and a limit of zero is the same whatever guards are asked for.
+/// What is written of layers at a threshold and a limit of zero is the same whether crossings may be made or not.
 pub fn guarded_at_zero()
     ensures { GuardedAtZero }
 {
@@ -51,8 +59,8 @@ pub fn guarded_at_zero()
     simplifies_to_written();
 }
 
-/// Where no crossing may be made, it is assembled of the snapped layers: of the arcs that they have at zero, reduced at once, and of the others
-/// whole.
+/// Where no crossing may be made and nothing is asked of shapes, it is assembled of the snapped layers: of the arcs that they have at zero, reduced at
+/// once, and of the others whole.
 pub fn guarded_is_assembled_of()
     ensures { GuardedIsAssembledOf }
 {

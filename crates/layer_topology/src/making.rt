@@ -1,5 +1,5 @@
 // Making the topology of layers.
-ghost use Rattle.std.specs.Prelude.{◌≡◌, ◌<◌, ◌≤◌, ◌^◌, ◌++◌, [], IfOk, if◌then◌else◌, length, map, true};
+ghost use Rattle.std.specs.Prelude.{◌≡◌, ◌<◌, ◌≤◌, ◌^◌, ◌++◌, [], IfOk, if◌then◌else◌, false, length, map, true};
 ghost use Rattle.arc_table.specs.Arcs.{table_of};
 ghost use Rattle.build_meaning.specs.Built.{built, removed_count};
 ghost use Rattle.build_meaning.specs.Expected.{expected_dropped};
@@ -293,7 +293,8 @@ fn snapped_layers(
 /// keep its share, rings that then enclose less than half the ring limit are left out, and positions on a grid become cells of it. Where
 /// the guards forbid crossings, the arcs that the topology has at zero are reduced at once in place of that, a share is one of their positions,
 /// and the others stay whole. With it come the lines and rings that are dropped, in reading order, how many positions were removed from the
-/// arcs that stay, a count that stays at `u64::MAX` where it would pass it, and the threshold, where it was chosen.
+/// arcs that stay, a count that stays at `u64::MAX` where it would pass it, and the threshold, where it was chosen. Nothing can be
+/// asked of shapes yet.
 pub fn topology_of_layers<Q: Reducer>(
     alloc: Global,
     reducer: &mut Q,
@@ -304,6 +305,7 @@ pub fn topology_of_layers<Q: Reducer>(
     level: Level,
     ring_limit: u128,
 ) -> Result<(Topology, Vec<Dropped>, u64, Option<u128>), Memory>
+    requires shapes { guards.keep_shapes ≡ false }
     requires level { is_level level ≡ true }
     requires taken { AreTaken grid layers.items }
     requires limit { ring_limit ≤ threshold_limit }

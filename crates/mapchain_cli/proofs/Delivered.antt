@@ -48,7 +48,7 @@ pub kept_calls : (path : List ℕ) (fresh : Drained) (ended : Ended) (before ope
     → after.noted ≡ with_ended ended opened.noted → CallsFor (used (begun (Some fresh) path before) opened) request asked calls → CallsFor (used before after) request asked calls
 kept_calls path fresh ended before opened after (Build layers exact grid area keep ring_area no_crossings) asked calls noted (options, olds, news, fits, opens, are, called) =
     (options, olds, news, fits, opens, ap (λ (n : Noted). n.sources) noted ∙ are, called)
-kept_calls path fresh ended before opened after (Simplify area keep ring_area no_crossings path2) asked calls noted (level, old, new, fits, opens, is, called) =
+kept_calls path fresh ended before opened after (Simplify area keep ring_area no_crossings keep_shapes path2) asked calls noted (level, old, new, fits, opens, is, called) =
     (level, old, new, fits, opens, ap (λ (n : Noted). n.source) noted ∙ is, called)
 kept_calls path fresh ended before opened after (Geo name path2) asked calls noted h = h
 kept_calls path fresh ended before opened after (Stat crossings path2) asked calls noted h = h

@@ -97,8 +97,8 @@ reads_on before between after h k = record {
 pub answered : (files : FileUse) (request : Request) (old new : Drained) (report : Option Report) → IsAnswered files request old new report → Stays files
 answered files (Build layers exact grid area keep ring_area no_crossings) old new (Some report) h = read_all files (length (texts_of layers.items)) h.2.sources_new h.2.each_once
 answered files (Build layers exact grid area keep ring_area no_crossings) old new None h = absurd h
-answered files (Simplify area keep ring_area no_crossings path) old new (Some report) h = read_one files h.4.source_new h.4.once
-answered files (Simplify area keep ring_area no_crossings path) old new None h = absurd h
+answered files (Simplify area keep ring_area no_crossings keep_shapes path) old new (Some report) h = read_one files h.4.source_new h.4.once
+answered files (Simplify area keep ring_area no_crossings keep_shapes path) old new None h = absurd h
 answered files (Geo name path) old new (Some report) h = absurd h
 answered files (Geo name path) old new None h = read_one files h.source_new h.once
 answered files (Stat crossings path) old new (Some report) h = absurd h
@@ -113,7 +113,7 @@ layers_refused files o layers old new e (inr (inr h)) = read_all files (length l
 
 build_refused : (files : FileUse) (request : Request) (old new : Drained) (e : BuildFault) → RefusesBuild files request old new e → Stays files
 build_refused files (Build layers exact grid area keep ring_area no_crossings) old new e h = layers_refused files h.0 _ old new e h.2
-build_refused files (Simplify area keep ring_area no_crossings path) old new e h = absurd h
+build_refused files (Simplify area keep ring_area no_crossings keep_shapes path) old new e h = absurd h
 build_refused files (Geo name path) old new e h = absurd h
 build_refused files (Stat crossings path) old new e h = absurd h
 
@@ -124,13 +124,13 @@ file_refused files path old new Fails e (inr h) = read_one files h.source_new h.
 
 topology_refused : (files : FileUse) (request : Request) (old new : Drained) (e : FileFault) → RefusesTopology files request old new e → Stays files
 topology_refused files (Build layers exact grid area keep ring_area no_crossings) old new e h = absurd h
-topology_refused files (Simplify area keep ring_area no_crossings path) old new e h = file_refused files path.now old new _ e h.4
+topology_refused files (Simplify area keep ring_area no_crossings keep_shapes path) old new e h = file_refused files path.now old new _ e h.4
 topology_refused files (Geo name path) old new e h = file_refused files path.now old new _ e h
 topology_refused files (Stat crossings path) old new e h = file_refused files path.now old new _ e h
 
 memory_refused : (files : FileUse) (request : Request) (old new : Drained) → IsRefused files request old new Memory → Stays files
 memory_refused files (Build layers exact grid area keep ring_area no_crossings) old new h = opened files h.1.0 h.1.2
-memory_refused files (Simplify area keep ring_area no_crossings path) old new h = opened files 0 h.1
+memory_refused files (Simplify area keep ring_area no_crossings keep_shapes path) old new h = opened files 0 h.1
 memory_refused files (Geo name path) old new h = opened files 0 h.1
 memory_refused files (Stat crossings path) old new h = opened files 0 h.1
 

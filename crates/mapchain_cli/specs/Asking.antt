@@ -1,5 +1,5 @@
 -- What is asked for, and its outcome.
-use Rattle.std.specs.Prelude.{◌≡◌, ℕ, Bool, List, length, map, Option, Some, None}
+use Rattle.std.specs.Prelude.{◌≡◌, ℕ, Bool, false, List, length, map, Option, Some, None}
 use Rattle.std.specs.Borrow.{Bor}
 use Rattle.std.specs.Option.{option_map}
 use Rattle.byte_ends.specs.Ends.{Drained, Fed}
@@ -33,9 +33,9 @@ abbrev pub level_of : ℕ → Option (Bor (List ℕ)) → Option Level
 level_of t None = Some (level.Fixed t)
 level_of t (Some keep) = option_map (λ s. level.Share s.0 s.1) (share_of keep.now)
 
--- the guards under which no crossing may be made (true) or may
-abbrev pub guards_of : Bool → Guards
-guards_of no_crossings = record { no_crossings = no_crossings }
+-- the guards under which no crossing may be made (true) or may, and shapes stay (true) or needn't
+abbrev pub guards_of : Bool → Bool → Guards
+guards_of no_crossings keep_shapes = record { no_crossings = no_crossings; keep_shapes = keep_shapes }
 
 -- this is the level of the texts of an area and of a share in its place
 abbrev pub IsLevelOf : List ℕ → Option (Bor (List ℕ)) → Level → Type 0
@@ -46,16 +46,16 @@ IsLevelOf area keep level = (t : ℕ) × (threshold_of area ≡ Some t) × (leve
 abbrev pub IsAskedFor : Bool → Option ℕ → List ℕ → Option (Bor (List ℕ)) → List ℕ → Bool → Options → Type 0
 IsAskedFor exact grid area keep ring_area no_crossings options =
     (options.exact ≡ exact) × (options.grid ≡ grid) × IsLevelOf area keep options.level
-    × (threshold_of ring_area ≡ Some options.ring_limit) × (options.guards ≡ guards_of no_crossings)
+    × (threshold_of ring_area ≡ Some options.ring_limit) × (options.guards ≡ guards_of no_crossings false)
 
 -- what was asked for was written of these files: a build with its options, or what is left of a topology, which have a report; the
 -- features of an object; a summary
 abbrev pub IsAnswered : FileUse → Request → Drained → Drained → Option Report → Type 0
 IsAnswered files (Build layers exact grid area keep ring_area no_crossings) old new (Some report) =
     (options : Options) × IsAskedFor exact grid area.now keep ring_area.now no_crossings options × BuildsOf files options (texts_of layers.items) old new report
-IsAnswered files (Simplify area keep ring_area no_crossings path) old new (Some report) =
+IsAnswered files (Simplify area keep ring_area no_crossings keep_shapes path) old new (Some report) =
     (level : Level) × (limit : ℕ) × IsLevelOf area.now keep level × (threshold_of ring_area.now ≡ Some limit)
-    × SimplifiesOf files (guards_of no_crossings) level limit path.now old new report
+    × SimplifiesOf files (guards_of no_crossings keep_shapes) level limit path.now old new report
 IsAnswered files (Geo name path) old new None = DecodesOf files name.now path.now old new
 IsAnswered files (Stat crossings path) old new None = Summarises files crossings path.now old new
 IsAnswered files request old new report = ⊥
@@ -80,7 +80,7 @@ LevelIsRefused area keep ring_area e = AreRefused area ring_area e
 -- the areas or the share that are asked for are refused in this way
 abbrev pub HasBadArea : Request → Ending → Type 0
 HasBadArea (Build layers exact grid area keep ring_area no_crossings) e = LevelIsRefused area.now keep ring_area.now e
-HasBadArea (Simplify area keep ring_area no_crossings path) e = LevelIsRefused area.now keep ring_area.now e
+HasBadArea (Simplify area keep ring_area no_crossings keep_shapes path) e = LevelIsRefused area.now keep ring_area.now e
 HasBadArea request e = ⊥
 
 -- why the build that is asked for isn't done
@@ -91,9 +91,9 @@ RefusesBuild files request old new e = ⊥
 
 -- why the topology of a file isn't simplified, decoded or summarised as is asked for
 abbrev pub RefusesTopology : FileUse → Request → Drained → Drained → FileFault → Type 0
-RefusesTopology files (Simplify area keep ring_area no_crossings path) old new e =
+RefusesTopology files (Simplify area keep ring_area no_crossings keep_shapes path) old new e =
     (level : Level) × (limit : ℕ) × IsLevelOf area.now keep level × (threshold_of ring_area.now ≡ Some limit)
-    × RefusesFile files path.now old new (λ s u. IsSimplifyFault (guards_of no_crossings) level limit s u old new) e
+    × RefusesFile files path.now old new (λ s u. IsSimplifyFault (guards_of no_crossings keep_shapes) level limit s u old new) e
 RefusesTopology files (Geo name path) old new e = RefusesFile files path.now old new (λ s u. IsGeoFault name.now s u old new) e
 RefusesTopology files (Stat crossings path) old new e = RefusesFile files path.now old new (IsSummaryFault crossings old new) e
 RefusesTopology files request old new e = ⊥
@@ -104,15 +104,16 @@ OpensSome files (Build layers exact grid area keep ring_area no_crossings) = Ope
 OpensSome files request = Opened 0 files
 
 -- a reducer that was asked for so much before was asked for this since: to reduce each arc of the layers, or of the topology that is simplified, as
--- the sources that are noted were read, at the threshold of the area, or for nothing where a share takes its place or no crossing may be made,
+-- the sources that are noted were read, at the threshold of the area, or for nothing where a share takes its place, no crossing may be made or
+-- shapes stay,
 -- and for nothing else
 abbrev pub CallsFor : FileUse → Request → List Call → List Call → Type 0
 CallsFor files (Build layers exact grid area keep ring_area no_crossings) before after =
     (options : Options) × (olds : Sources) × (news : Sources) × IsAskedFor exact grid area.now keep ring_area.now no_crossings options
     × AreOpened files.before.contents (texts_of layers.items) olds × (files.after.noted.sources ≡ Some news) × CallsForLayers options olds news before after
-CallsFor files (Simplify area keep ring_area no_crossings path) before after =
+CallsFor files (Simplify area keep ring_area no_crossings keep_shapes path) before after =
     (level : Level) × (old : Fed) × (new : Fed) × IsLevelOf area.now keep level × IsOpened files.before.contents path.now old
-    × (files.after.noted.source ≡ Some new) × CallsForTopology (guards_of no_crossings) level old new before after
+    × (files.after.noted.source ≡ Some new) × CallsForTopology (guards_of no_crossings keep_shapes) level old new before after
 CallsFor files request before after = after ≡ before
 
 -- why what was asked for isn't done

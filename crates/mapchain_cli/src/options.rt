@@ -97,7 +97,10 @@ pub(crate) fn options_of(
     let (level, ring_limit) = level_and_limit(alloc, area, keep, ring_area)?;
     Ok(Options {
         grid,
-        guards: Guards { no_crossings },
+        guards: Guards {
+            no_crossings,
+            keep_shapes: false,
+        },
         level,
         ring_limit,
         exact,

@@ -139,10 +139,12 @@ pub(crate) fn answer<F: Files, V: Drain>(
             keep,
             ring_area,
             no_crossings,
+            keep_shapes,
             path,
         } => {
             let guards = Guards {
                 no_crossings: *no_crossings,
+                keep_shapes: *keep_shapes,
             };
             let (level, ring_limit) = level_and_limit(alloc, area, *keep, ring_area)?;
             let report = simplify_file(

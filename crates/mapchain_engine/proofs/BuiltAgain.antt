@@ -23,7 +23,7 @@ use Rattle.layer_topology.specs.declared.level.Level.TheVariants.{Fixed}
 use Rattle.layer_topology.specs.Guarded.{simplified_under}
 use Rattle.layer_topology.specs.GuardedLaws.{GuardedAtZero, WrittenUnderLaw}
 use Rattle.layer_topology.specs.GuardedWritten.{written_under}
-use Rattle.layer_topology.specs.GuardedLevels.{guarded_chosen, guarded_threshold}
+use Rattle.layer_topology.specs.GuardedLevels.{guarded_chosen, guarded_threshold, sparing_chosen, sparing_threshold}
 use Rattle.layer_topology.specs.Levels.{chosen_at, level_chosen, level_threshold, threshold_at}
 use Rattle.mapchain_engine.specs.Building.{chosen_for, expected_for, snapped_for, threshold_for, whole_for, written_for, IsBuilt}
 use Rattle.mapchain_engine.specs.BuildLaws.{ReadAreTaken}
@@ -110,7 +110,7 @@ module _ (one_value : OneValue) (o : Options) (olds news : Sources) (sink_old si
   zero_is : GuardedAtZero → AreTaken o.grid is.layers → threshold_for o is.layers ≡ 0 → o.ring_limit ≡ 0 → is.builds.topology.contents ≡ written_on o.grid 0 0 is.layers
   zero_is at_zero are zero none =
       is.builds.topology.shared ∙ ap (λ z. written_under o.guards o.grid z o.ring_limit is.layers) zero ∙ ap (λ z. written_under o.guards o.grid 0 z is.layers) none
-      ∙ at_zero o.guards o.grid is.layers are
+      ∙ at_zero o.guards o.grid is.layers o.shapes are
 
   -- what is left of it by a threshold and a limit under guards is what is then written of the layers by both under them
   simplified_is : GuardedAtZero → WrittenUnderLaw → AreTaken o.grid is.layers → (guards : Guards) (t limit : ℕ) → threshold_for o is.layers ≡ 0 → o.ring_limit ≡ 0
@@ -154,30 +154,36 @@ module _ (one_value : OneValue) (valid : ReadsValid) (may : ReadAreTaken) (o p :
       ap arc_positions full.builds.topology.shared ∙ has ∙ ap (λ g. arcs_of_layers (snapped_to g full.layers)) (sym grid)
       ∙ ap (λ ls. arcs_of_layers (snapped_to p.grid ls)) (sym same)
 
-  -- and they are those of what is written of the second's layers at zero
-  arcs_at_zero : GuardedAtZero → arc_positions full.builds.topology.contents ≡ arc_positions (whole_for p small.layers)
-  arcs_at_zero at_zero =
-      ap arc_positions (zero_is one_value o olds news sink_old sink_new report full source from at_zero (taken valid may o olds news sink_old sink_new report full) zero none)
-      ∙ ap (λ g. arc_positions (written_on g 0 0 full.layers)) (sym grid) ∙ ap (λ ls. arc_positions (written_on p.grid 0 0 ls)) (sym same)
+  -- the first is what is written of the second's layers at zero
+  whole_at_zero : GuardedAtZero → full.builds.topology.contents ≡ whole_for p small.layers
+  whole_at_zero at_zero =
+      zero_is one_value o olds news sink_old sink_new report full source from at_zero (taken valid may o olds news sink_old sink_new report full) zero none
+      ∙ ap (λ g. written_on g 0 0 full.layers) (sym grid) ∙ ap (λ ls. written_on p.grid 0 0 ls) (sym same)
 
   -- so at one level both have the same threshold, with guards by what is written at zero, and without by the arcs of the layers
   same_thresholds : GuardedAtZero → (p.guards.no_crossings ≡ false → HasEachArc o full.layers) → topology_threshold p.guards p.level full.builds.topology.contents ≡ threshold_for p small.layers
-  same_thresholds at_zero has = by p.guards.no_crossings has
+  same_thresholds at_zero has = by p.guards.keep_shapes p.guards.no_crossings has
     where
-      by : (b : Bool) → (b ≡ false → HasEachArc o full.layers)
-          → cond b (guarded_threshold true [] p.level (arc_positions full.builds.topology.contents)) (threshold_at p.level (arc_positions full.builds.topology.contents))
-          ≡ cond b (guarded_threshold true [] p.level (arc_positions (whole_for p small.layers))) (level_threshold p.grid p.level small.layers)
-      by true has = ap (guarded_threshold true [] p.level) (arcs_at_zero at_zero)
-      by false has = ap (threshold_at p.level) (same_arcs (has refl))
+      by : (s b : Bool) → (b ≡ false → HasEachArc o full.layers)
+          → cond s (sparing_threshold b p.level full.builds.topology.contents)
+          (cond b (guarded_threshold true [] p.level (arc_positions full.builds.topology.contents)) (threshold_at p.level (arc_positions full.builds.topology.contents)))
+          ≡ cond s (sparing_threshold b p.level (whole_for p small.layers))
+          (cond b (guarded_threshold true [] p.level (arc_positions (whole_for p small.layers))) (level_threshold p.grid p.level small.layers))
+      by true b has = ap (sparing_threshold b p.level) (whole_at_zero at_zero)
+      by false true has = ap (λ y. guarded_threshold true [] p.level (arc_positions y)) (whole_at_zero at_zero)
+      by false false has = ap (threshold_at p.level) (same_arcs (has refl))
 
   chosen_same : GuardedAtZero → (p.guards.no_crossings ≡ false → HasEachArc o full.layers) → topology_chosen p.guards p.level full.builds.topology.contents ≡ chosen_for p small.layers
-  chosen_same at_zero has = by p.guards.no_crossings has
+  chosen_same at_zero has = by p.guards.keep_shapes p.guards.no_crossings has
     where
-      by : (b : Bool) → (b ≡ false → HasEachArc o full.layers)
-          → cond b (guarded_chosen true [] p.level (arc_positions full.builds.topology.contents)) (chosen_at p.level (arc_positions full.builds.topology.contents))
-          ≡ cond b (guarded_chosen true [] p.level (arc_positions (whole_for p small.layers))) (level_chosen p.grid p.level small.layers)
-      by true has = ap (guarded_chosen true [] p.level) (arcs_at_zero at_zero)
-      by false has = ap (chosen_at p.level) (same_arcs (has refl))
+      by : (s b : Bool) → (b ≡ false → HasEachArc o full.layers)
+          → cond s (sparing_chosen b p.level full.builds.topology.contents)
+          (cond b (guarded_chosen true [] p.level (arc_positions full.builds.topology.contents)) (chosen_at p.level (arc_positions full.builds.topology.contents)))
+          ≡ cond s (sparing_chosen b p.level (whole_for p small.layers))
+          (cond b (guarded_chosen true [] p.level (arc_positions (whole_for p small.layers))) (level_chosen p.grid p.level small.layers))
+      by true b has = ap (sparing_chosen b p.level) (whole_at_zero at_zero)
+      by false true has = ap (λ y. guarded_chosen true [] p.level (arc_positions y)) (whole_at_zero at_zero)
+      by false false has = ap (chosen_at p.level) (same_arcs (has refl))
 
   same_chosen : GuardedAtZero → (p.guards.no_crossings ≡ false → HasEachArc o full.layers) → IsSimplified p.guards p.level p.ring_limit source after out_old out_new simplified
       → simplified.chosen ≡ more_report.chosen
@@ -187,14 +193,15 @@ module _ (one_value : OneValue) (valid : ReadsValid) (may : ReadAreTaken) (o p :
       ∙ chosen_same at_zero has ∙ sym (ap (λ (r : Report). r.chosen) small.reported)
 
 -- a threshold that is given is the same with guards and without
-given : (b : Bool) (t : ℕ) → cond b t t ≡ t
-given true t = refl
-given false t = refl
+given : (s b : Bool) (t : ℕ) → cond s t (cond b t t) ≡ t
+given true b t = refl
+given false true t = refl
+given false false t = refl
 
 pub simplifies_to_built : OneValue → GuardedAtZero → WrittenUnderLaw → ReadsValid → ReadAreTaken → SimplifiesToBuilt
 simplifies_to_built one_value at_zero law valid may o p olds news sink_old sink_new report full more_olds more_news more_old more_new more_report small zero none grid same source after out_old out_new simplified from =
     built_at one_value valid may o p olds news sink_old sink_new report full more_olds more_news more_old more_new more_report small zero none grid same source after out_old out_new simplified from at_zero law
-    (Fixed (threshold_for p small.layers)) (given p.guards.no_crossings (threshold_for p small.layers))
+    (Fixed (threshold_for p small.layers)) (given p.guards.keep_shapes p.guards.no_crossings (threshold_for p small.layers))
 
 pub simplifies_by_level : OneValue → GuardedAtZero → WrittenUnderLaw → ReadsValid → ReadAreTaken → SimplifiesByLevel
 simplifies_by_level one_value at_zero law valid may o p olds news sink_old sink_new report full more_olds more_news more_old more_new more_report small zero none grid same has source after out_old out_new simplified from s = (

@@ -7,7 +7,6 @@ use Rattle.geometry.specs.Points.{Point}
 use Rattle.inputs.specs.declared.file_fault.FileFault.{FileFault}
 use Rattle.inputs.specs.declared.file_fault.FileFault.TheVariants.{Read, Json, Topo, NoObject, Write, Memory}
 use Rattle.json_value.specs.Text.{json_text}
-use Rattle.simplified_topology.specs.Guarded.{arc_positions}
 use Rattle.simplified_topology.specs.Thresholds.{placed_cells}
 use Rattle.reports.specs.declared.report.Report.{Report}
 use Rattle.topojson_types.specs.declared.transform.Transform.{Transform}
@@ -46,7 +45,7 @@ module _ (guards : Guards) (level : Level) (limit : ℕ) (old new : Fed) (sink_o
   sent_whole utf8 law stays may sent w =
       let all = subst (λ z. WritesAll sink_old sink_new 0 (json_text (topology_value z)) sent) is.left w.0 in
       let read = is.read in
-      record { contents = is.contents; counts = is.counts; read = is.read; utf8 = utf8 guards level limit read.bytes is.contents is.counts read.spells; written = all.took; sound = all.sound; flushed = w.1; reported = is.reported; crosses = (law guards (topology_threshold guards level is.contents) limit is.contents).crosses; share = stays guards level (arc_positions is.contents) may }
+      record { contents = is.contents; counts = is.counts; read = is.read; utf8 = utf8 guards level limit read.bytes is.contents is.counts read.spells; written = all.took; sound = all.sound; flushed = w.1; reported = is.reported; crosses = (law guards (topology_threshold guards level is.contents) limit is.contents).crosses; stays = (law guards (topology_threshold guards level is.contents) limit is.contents).stays; share = stays guards level is.contents may }
 
   pub cut_short : (e : FileFault) → SendsText sink_old sink_new (json_text (topology_value less)) (Err e) → IsSimplifyFault guards level limit old new sink_old sink_new e
   cut_short (Write sent) w =

@@ -27,7 +27,6 @@ use Rattle.layer_topology.specs.GuardedLevels.{level_chosen_under, level_thresho
 use Rattle.layer_topology.specs.GuardedWritten.{calls_under, lines_dropped_under, positions_removed_under, written_under}
 use Rattle.layer_topology.specs.Laws.{WrittenLaws}
 use Rattle.layer_topology.specs.Written.{snapped_to, written as written_on}
-use Rattle.simplified_topology.specs.Guarded.{arc_positions}
 use Rattle.simplified_topology.specs.Laws.{labels}
 use Rattle.topojson_meaning.specs.Laws.{ReadsBack, TextIsRead}
 use Rattle.topojson_meaning.specs.Texts.{TextIsUtf8}
@@ -95,7 +94,7 @@ pub record IsGuarded (o : Options) (layers : Named) (contents : Contents) : Type
   pub labels_stay : labels contents ≡ labels (whole_for o layers)
   pub crosses : CrossesNoMore (whole_for o layers) contents
   pub left : contents ≡ simplified_under o.guards (threshold_for o layers) o.ring_limit (whole_for o layers)
-  pub share : KeepsShareUnder o.guards o.level (arc_positions (whole_for o layers))
+  pub share : KeepsShareUnder o.guards o.level (whole_for o layers)
 
 -- The text is UTF-8, and JSON (RFC 8259) of a topology (TopoJSON 1.0) whose objects have the names of the layers, in order. Decoding each gives
 -- the features that are expected of its layer, snapped to the grid that is asked for, at the threshold and the least ring area, unless no

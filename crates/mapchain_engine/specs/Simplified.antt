@@ -7,12 +7,11 @@ use Rattle.geojson_types.specs.declared.counts.Counts.{Counts}
 use Rattle.inputs.specs.declared.file_fault.FileFault.{FileFault}
 use Rattle.inputs.specs.declared.file_fault.FileFault.TheVariants.{Write}
 use Rattle.json_value.specs.Text.{json_text}
-use Rattle.layer_topology.specs.Guarded.{simplified_under, dropped_under, removed_count_under, CrossesNoMore}
+use Rattle.layer_topology.specs.Guarded.{is_at_once, simplified_under, dropped_under, removed_count_under, CrossesNoMore, KeepsShapes}
 use Rattle.layer_topology.specs.GuardedLevels.{chosen_under, threshold_under, KeepsShareUnder}
 use Rattle.layer_topology.specs.Levels.{calls_at}
 use Rattle.layer_topology.specs.declared.guards.Guards.{Guards}
 use Rattle.layer_topology.specs.declared.level.Level.{Level}
-use Rattle.simplified_topology.specs.Guarded.{arc_positions}
 use Rattle.simplified_topology.specs.Thresholds.{placed_cells}
 use Rattle.reports.specs.declared.report.Report.{Report}
 use Rattle.reports.specs.Summaries.{report_with}
@@ -26,11 +25,11 @@ use Rattle.mapchain_engine.specs.Files.{IsTopologyRead, FailsToGive}
 -- The share is of the positions between the ends of all its arcs as they stand, also of those that no line uses, by the positions that the
 -- cells stand for
 abbrev pub topology_threshold : Guards → Level → Contents → ℕ
-topology_threshold guards level y = threshold_under guards level (arc_positions y)
+topology_threshold guards level y = threshold_under guards level y
 
 -- this threshold, where it is chosen for a share
 abbrev pub topology_chosen : Guards → Level → Contents → Option ℕ
-topology_chosen guards level y = chosen_under guards level (arc_positions y)
+topology_chosen guards level y = chosen_under guards level y
 
 -- the text (TopoJSON 1.0) of what is left of a topology where its arcs are reduced at the threshold, under the guards that are asked for
 abbrev pub simplified_contents_text : Guards → Level → ℕ → Contents → List ℕ
@@ -56,7 +55,7 @@ pub record IsReadAndSimplified (guards : Guards) (level : Level) (limit : ℕ) (
 -- what a reducer is asked for: to reduce each arc at a threshold, by the positions that it stands for, in order, but nothing where all are
 -- reduced at once, nor at a share, for which each arc is weighed once in place of that
 abbrev pub calls_of : Guards → Level → Contents → List Call
-calls_of guards level y = if guards.no_crossings then [] else calls_at level (map (placed_cells y.transform) y.arcs)
+calls_of guards level y = if is_at_once guards then [] else calls_at level (map (placed_cells y.transform) y.arcs)
 
 -- the source was read to its end, its bytes spell a topology, and a reducer that was asked for so much before was asked to reduce each of its
 -- arcs at this level since, unless all are reduced at once, and for nothing else
@@ -67,8 +66,9 @@ pub record CallsForTopology (guards : Guards) (level : Level) (old new : Fed) (b
   pub called : after ≡ before ++ calls_of guards level contents
 
 -- the source was read to its end, its bytes spell a topology, the text of what is left of it is UTF-8, the sink took the whole of
--- it and passed it on, and this is its report; where crossings may not be made, what is left crosses no more than the topology, and at least
--- the share that is asked for stays of the positions between the ends of its arcs, before lines are dropped
+-- it and passed it on, and this is its report; where crossings may not be made, what is left crosses no more than the topology; where shapes
+-- stay, each feature with an outer ring of four positions or more keeps the one that encloses most; and where either is asked for, at least the
+-- share that is asked for stays of the positions between the ends of its arcs, before lines are dropped
 pub record IsSimplified (guards : Guards) (level : Level) (limit : ℕ) (old new : Fed) (sink_old sink_new : Drained) (report : Report) : Type 0 where
   pub contents : Contents
   pub counts : Counts
@@ -79,7 +79,9 @@ pub record IsSimplified (guards : Guards) (level : Level) (limit : ℕ) (old new
   pub flushed : sink_new.flushed ≡ true
   pub reported : report ≡ report_of guards level limit contents counts
   pub crosses : guards.no_crossings ≡ true → CrossesNoMore contents (simplified_under guards (topology_threshold guards level contents) limit contents)
-  pub share : KeepsShareUnder guards level (arc_positions contents)
+  pub stays : guards.keep_shapes ≡ true
+      → KeepsShapes guards.no_crossings (topology_threshold guards level contents) contents (simplified_under guards (topology_threshold guards level contents) limit contents)
+  pub share : KeepsShareUnder guards level contents
 
 -- the device failed when it had taken a prefix of that text
 pub record IsSimplifiedInPart (guards : Guards) (level : Level) (limit : ℕ) (old new : Fed) (sink_old sink_new : Drained) (sent : ℕ) : Type 0 where

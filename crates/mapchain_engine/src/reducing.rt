@@ -16,7 +16,7 @@ ghost use Rattle.mapchain_engine.specs.Simplified.{topology_chosen, topology_thr
 ghost use Rattle.layer_topology.specs.Guarded.{dropped_under, is_simplifying_level, no_guards, removed_count_under, simplified_under};
 ghost use Rattle.layer_topology.specs.declared.level.Level.TheVariants.{Fixed};
 
-use crate::guarding::guarded_topology;
+use crate::guarding::{guarded_topology, sparing_topology};
 use crate::sharing::shared_topology;
 use byte_ends::Memory;
 use effective_area::Reducer;
@@ -192,7 +192,9 @@ fn topology_under<Q: Reducer>(
     ensures chosen { IfOk result (λ r. r.3 ≡ topology_chosen guards level topology) }
     ensures called { IfOk result (λ _. Q.calls reducer.new ≡ Q.calls reducer.old ++ spec.calls_of guards level topology) }
 {
-    if guards.no_crossings {
+    if guards.keep_shapes {
+        sparing_topology(alloc, topology, guards.no_crossings, level, ring_limit)
+    } else if guards.no_crossings {
         guarded_topology(alloc, topology, level, ring_limit)
     } else {
         topology_at(alloc, reducer, topology, level, ring_limit)

@@ -59,9 +59,10 @@ fn send<W: Drain>(topology: &Topology, sink: &mut Sink<W>) -> Result<u64, FileFa
 ///
 /// Each arc is reduced once at the threshold of `level`, twice an area in square units, by the positions that it stands for (Visvalingam
 /// and Whyatt 1993). For a share it is the greatest at which the share of the positions between the ends of all arcs stays. Where
-/// `guards` forbid crossings, all arcs are reduced at once in place of that, and so is a share reckoned. The cells that stay keep their
-/// numbers, and the transform stays. A line or ring that is left with too few positions is dropped, a ring of which twice the area is
-/// under `ring_limit` (in square units), and a ring of a polygon whose outer ring is; arcs that no line uses are left out. The report
+/// `guards` forbid crossings or keep shapes, all arcs are reduced at once in place of that, and so is a share reckoned. The cells that stay keep
+/// their numbers, and the transform stays. A line or ring that is left with too few positions is dropped, a ring of which twice the area is
+/// under `ring_limit` (in square units), and a ring of a polygon whose outer ring is, but where shapes stay not the largest outer ring of a
+/// feature; arcs that no line uses are left out. The report
 /// says what was counted in reading, what is dropped, of the arcs that are left how many positions stay and were removed, and the
 /// threshold, where it was chosen. The topology is refused as by `stat`. On each fault but `Write` the sink is as it was. On `Write` it took a prefix of the text, of
 /// the length that is reported. At `Ok` the sink is flushed.
@@ -77,7 +78,8 @@ pub fn simplify<Q: Reducer, R: Feed, W: Drain>(
     requires level { is_simplifying_level level ≡ true }
     requires limit { ring_limit ≤ threshold_limit }
     // The bytes spell a topology, what was written is the text of what is left of it, which is UTF-8, and the report is that of it. Where no
-    // crossing may be made, no more pairs of segments of what is left meet badly than of the topology, and none where none of that do, and at
+    // crossing may be made, no more pairs of segments of what is left meet badly than of the topology, and none where none of that do. Where
+    // shapes stay, each feature that has an outer ring of four positions or more keeps the one that encloses most. Where either is asked for, at
     // least the share that is asked for stays of the positions between the ends of its arcs, before lines are dropped.
     ensures written { IfOk result (λ report. IsSimplified guards level ring_limit source.old source.new sink.old sink.new report) }
     // The reducer was asked to reduce each arc of the topology that was read at the threshold, in order, and for nothing else; for nothing at all

@@ -4,7 +4,7 @@
 //! no code but the laws. The layers above use the definitions and the laws: what is reduced, and what is put on a grid, stays valid; on a
 //! grid it decodes to the same, and to the features that are expected of the snapped layers; and what is built at a threshold of zero and
 //! then reduced is what is built at the threshold, with a grid and without. `specs/Protected.antt` says what is left where in each feature one
-//! ring is protected; no command asks for it yet.
+//! ring is protected.
 #![tactic(auto)]
 
 mod grid_laws;

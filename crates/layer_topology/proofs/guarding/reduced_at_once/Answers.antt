@@ -1,4 +1,4 @@
-use Rattle.std.proofs.Common.{◌∙◌, List, length, map, ap, sym}
+use Rattle.std.proofs.Common.{◌∙◌, List, length, ap, sym}
 use Rattle.std.proofs.lemmas.List.{length-map}
 use Rattle.std.proofs.Common.{true, [], ℕ}
 use Rattle.geometry.specs.Points.{Point}

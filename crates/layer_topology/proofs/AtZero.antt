@@ -9,10 +9,12 @@ use Rattle.guarded_meaning.specs.Weights.{passing, weight}
 use Rattle.guarded_meaning.proofs.Weights.{kept_at_zero}
 use Rattle.layer_topology.specs.GuardedLaws.{GuardedAtZero}
 use Rattle.layer_topology.proofs.Guarded.{layers_under}
+use Rattle.layer_topology.proofs.SparedAtZero.{nothing_goes, spared_alike}
 use Rattle.layer_topology.specs.Laws.{SimplifiesToWritten}
 use Rattle.layer_topology.specs.Written.{written}
 use Rattle.simplified_topology.specs.Guarded.{arc_positions, guarded_contents}
 use Rattle.simplified_topology.specs.GuardedLaws.{UnguardedIsSimplified}
+use Rattle.simplified_topology.specs.Protected.{greatest_ring, protected_rings, protecting_contents, protecting_indexes}
 use Rattle.simplified_topology.specs.Simplified.{simplified_by}
 use Rattle.topojson_types.specs.Topologies.{Contents}
 
@@ -26,9 +28,21 @@ guarded_at : KeptByWeight → (limit : ℕ) (y : Contents) → guarded_contents 
 unfolding guarded_contents
 guarded_at by_weight limit y = ap (λ kept. simplified_by kept limit y) (same_at_zero by_weight (guarded_by true []) (guarded_by false []) (arc_positions y))
 
+-- also where shapes stay
+sparing_at : KeptByWeight → (b : Bool) (y : Contents) → protecting_contents b (greatest_ring (arc_positions y)) 0 0 y ≡ guarded_contents false 0 0 y
+unfolding guarded_contents protecting_contents
+sparing_at by_weight b y =
+    let guard = guarded_by b (protected_rings (greatest_ring (arc_positions y)) y.objects) in
+    spared_alike (protecting_indexes b (greatest_ring (arc_positions y)) 0 y) y (nothing_goes by_weight guard y)
+    ∙ ap (λ kept. simplified_by kept 0 y) (same_at_zero by_weight guard (guarded_by false []) (arc_positions y))
+
 pub guarded_at_zero : KeptByWeight → UnguardedIsSimplified → SimplifiesToWritten → GuardedAtZero
-guarded_at_zero by_weight plain less guards count ls unasked taken = ap (λ s. layers_under count 0 0 ls s guards.no_crossings) unasked ∙ on guards.no_crossings
+guarded_at_zero by_weight plain less guards count ls taken = on guards.keep_shapes guards.no_crossings
   where
-    on : (b : Bool) → cond b (guarded_contents true 0 0 (written count 0 0 ls)) (written count 0 0 ls) ≡ written count 0 0 ls
-    on true = guarded_at by_weight 0 (written count 0 0 ls) ∙ (plain 0 0 (written count 0 0 ls)).contents ∙ less count 0 0 ls taken
-    on false = refl
+    unguarded : guarded_contents false 0 0 (written count 0 0 ls) ≡ written count 0 0 ls
+    unguarded = (plain 0 0 (written count 0 0 ls)).contents ∙ less count 0 0 ls taken
+
+    on : (s b : Bool) → layers_under count 0 0 ls s b ≡ written count 0 0 ls
+    on true b = sparing_at by_weight b (written count 0 0 ls) ∙ unguarded
+    on false true = guarded_at by_weight 0 (written count 0 0 ls) ∙ unguarded
+    on false false = refl

@@ -1,24 +1,27 @@
 -- What is left of a topology where guards are asked for.
 use Rattle.std.proofs.Common.{◌≡◌, ◌∙◌, ℕ, ◌≤◌, Bool, true, false, cond, List, [], ◌∷◌, map, Option, refl, ap, arith, subst, sym}
 use Rattle.std.specs.List.{AllByRecursion}
-use Rattle.build_meaning.specs.Layers.{Named}
+use Rattle.build_meaning.specs.Built.{built}
+use Rattle.build_meaning.specs.Layers.{Named, names_of}
 use Rattle.geojson_types.specs.declared.id.Id.{Id}
 use Rattle.geojson_types.proofs.Nestings.{option_pruned_nests}
 use Rattle.json_value.specs.declared.json.Json.{Json}
 use Rattle.layer_topology.specs.Guarded.{CrossesNoMore, KeepsShapes}
-use Rattle.layer_topology.specs.GuardedLaws.{GuardedIsAssembledOf, SimplifiedUnderLaw, WrittenUnderLaw}
+use Rattle.layer_topology.specs.GuardedLaws.{SimplifiedUnderLaw, WrittenIsMade, WrittenUnderLaw}
 use Rattle.layer_topology.specs.GuardedWritten.{written_under}
 use Rattle.layer_topology.specs.Laws.{HasNames, IsValid, NestsNoDeeper, SimplifiesToWritten}
 use Rattle.layer_topology.specs.Written.{snapped_to, written, AreTaken}
 use Rattle.layer_topology.proofs.Laid.{snapped}
 use Rattle.simplified_topology.specs.GridLaws.{SnappedAreOn}
-use Rattle.simplified_topology.specs.Guarded.{arc_positions, guarded_contents, guarded_indexes}
+use Rattle.simplified_topology.specs.Assembled.{assembled}
+use Rattle.simplified_topology.specs.Guarded.{arc_positions, guarded_arc_indexes, guarded_contents, guarded_indexes}
 use Rattle.simplified_topology.specs.GuardedLaws.{GuardedCrossingsNeverRise, GuardedIsAssembled, GuardedIsValid, GuardedKeeps, GuardedNoneStaysNone}
 use Rattle.simplified_topology.specs.Laws.{labels, ReducedIsValid, SimplifiedKeeps}
 use Rattle.simplified_topology.specs.Protected.{Protection, greatest_ring, protecting_contents, protecting_indexes}
 use Rattle.simplified_topology.specs.ProtectedLaws.{ProtectingCrossingsNeverRise, ProtectingIsValid, ProtectingKeeps, ProtectingNoneStaysNone, ShapesStay}
-use Rattle.simplified_topology.specs.ProtectedLayersLaws.{SparedNestsNoDeeper}
-use Rattle.simplified_topology.specs.Quantized.{named_grid}
+use Rattle.simplified_topology.specs.ProtectedLayers.{protecting_arc_indexes, assembled_sparing}
+use Rattle.simplified_topology.specs.ProtectedLayersLaws.{ProtectingIsAssembled, SparedNestsNoDeeper}
+use Rattle.simplified_topology.specs.Quantized.{named_grid, quantized}
 use Rattle.simplified_topology.specs.Simplified.{Refs, feature_pruned}
 use Rattle.simplified_topology.specs.Thresholds.{reduced_indexes, simplified_contents}
 use Rattle.simplified_topology.proofs.Left.{left_features}
@@ -129,6 +132,16 @@ module _ (count : Option ℕ) (t limit : ℕ) (ls : Named) where
   simplified_is taken less false true = refl
   simplified_is taken less false false = less count t limit ls taken
 
+  -- what is made of layers
+  abbrev pub made_of : Bool → Bool → Named → Contents
+  made_of s b ms = cond s (assembled_sparing (protecting_arc_indexes b t ms) limit ms) (cond b (assembled (guarded_arc_indexes true t ms) limit ms) (built t limit ms))
+
+  is_made : SnappedAreOn → GuardedIsAssembled → ProtectingIsAssembled → AreTaken count ls → (s b : Bool) → layers_under s b ≡ quantized (named_grid count ls) (made_of s b (snapped_to count ls))
+  unfolding written
+  is_made on assembles spares taken true b = let snap = snapped on count ls taken in (spares b (named_grid count ls) t limit (snapped_to count ls) snap.on snap.sound).contents
+  is_made on assembles spares taken false true = let snap = snapped on count ls taken in (assembles true (named_grid count ls) t limit (snapped_to count ls) snap.on snap.sound).contents
+  is_made on assembles spares taken false false = refl
+
 pub written_under_law : SimplifiedUnderLaw → SimplifiesToWritten → IsValid → HasNames → NestsNoDeeper → WrittenUnderLaw
 written_under_law law less valid names nests guards count t limit ls taken =
     let same = simplified_is count t limit ls taken less guards.keep_shapes guards.no_crossings in
@@ -144,10 +157,5 @@ written_under_law law less valid names nests guards count t limit ls taken =
       simplified = same;
     }
 
-pub guarded_is_assembled_of : SnappedAreOn → GuardedIsAssembled → GuardedIsAssembledOf
-unfolding written
-guarded_is_assembled_of on assembles guards count t limit ls taken unasked e =
-    let s = snapped on count ls taken in
-    ap (λ s. layers_under count t limit ls s guards.no_crossings) unasked
-    ∙ ap (λ b. cond b (guarded_contents true t limit (written count 0 0 ls)) (written count t limit ls)) e
-    ∙ (assembles true (named_grid count ls) t limit (snapped_to count ls) s.on s.sound).contents
+pub written_is_made : SnappedAreOn → GuardedIsAssembled → ProtectingIsAssembled → WrittenIsMade
+written_is_made on assembles spares guards count t limit ls taken = is_made count t limit ls on assembles spares taken guards.keep_shapes guards.no_crossings

@@ -1,22 +1,27 @@
 -- Arcs of which some are reduced at once and the others stay whole.
-use Rattle.std.proofs.Common.{◌≡◌, ℕ, zero, suc, Bool, true, false, cond, List, [], ◌∷◌, map, length, Option, refl, subst, sym, ap, ◌∙◌}
+use Rattle.std.proofs.Common.{◌≡◌, ℕ, ◌≤◌, ℤ, zero, suc, Bool, true, false, cond, List, [], ◌∷◌, map, length, Option, refl, subst, sym, ap, ◌∙◌, arith}
+use Rattle.std.specs.List.{AllByRecursion}
 use Rattle.std.specs.Prelude.{not}
 use Rattle.build_meaning.specs.Built.{built, untrimmed}
+use Rattle.build_meaning.specs.Laws.{AreSound}
 use Rattle.build_meaning.specs.Layers.{Named}
 use Rattle.build_meaning.specs.Trimming.{is_used, keep_from}
 use Rattle.elimination_meaning.specs.Laws.{ZeroLaw}
+use Rattle.elimination_meaning.proofs.Sublists.{sub_all}
 use Rattle.geometry.specs.Joins.{or_empty, first_of}
 use Rattle.geometry.specs.Lists.{tail}
 use Rattle.geometry.specs.Points.{Point}
 use Rattle.guarded_meaning.specs.Elimination.{Guard, reduce_arcs}
+use Rattle.guarded_meaning.specs.Guards.{guarded_by}
 use Rattle.guarded_meaning.specs.Laws.{ArcsRise}
 use Rattle.guarded_meaning.specs.Lists.{EachTo}
 use Rattle.layer_topology.specs.GuardedLevels.{guarded_chosen, guarded_threshold, reduced_by}
 use Rattle.layer_topology.specs.declared.level.Level.{Level}
 use Rattle.simplified_topology.specs.Assembled.{arcs_of_layers}
-use Rattle.simplified_topology.specs.Guarded.{all_indexes, arc_positions, spread, guarded_arc_indexes}
+use Rattle.simplified_topology.specs.Guarded.{all_indexes, arc_positions, spread}
 use Rattle.simplified_topology.specs.Simplified.{EachFromFirstToLast, retained, retained_arcs}
-use Rattle.simplified_topology.proofs.GuardedLayers.{all_retained, built_arcs, built_positions, built_through, spread_left}
+use Rattle.simplified_topology.proofs.Guarded.{each_through, sub_left}
+use Rattle.simplified_topology.proofs.GuardedLayers.{all_retained, built_arcs, built_positions, layers_long, spread_left}
 use Rattle.topojson_types.specs.declared.object.TopoObject.{TopoObject}
 use Rattle.topo_model.specs.Retaining.{IsDraftOf}
 use Rattle.topo_model.specs.DraftLaws.{DraftUsesAtZero}
@@ -38,7 +43,7 @@ as_many rise guard t arcs = each_same _ (reduce_arcs guard t arcs) arcs (rise gu
 
 -- ---- flags that are answers
 
-answers_many : (passes : ℕ → Bool) (n count : ℕ) → length (answers passes n count) ≡ count
+pub answers_many : (passes : ℕ → Bool) (n count : ℕ) → length (answers passes n count) ≡ count
 answers_many passes n zero = refl
 answers_many passes n (suc count) = ap suc (answers_many passes (suc n) count)
 
@@ -99,42 +104,52 @@ answers_same : {X : Type 0} (f g : ℕ → X) → ((n : ℕ) → f n ≡ g n) �
 answers_same f g same n zero = refl
 answers_same f g same n (suc count) = ap (λ x. x ∷ answers f (suc n) count) (same n) ∙ ap (λ xs. g n ∷ xs) (answers_same f g same (suc n) count)
 
-module _ (ls : Named) (level : Level) where
+module _ (ls : Named) where
   abbrev used : ℕ → Bool
   used = is_used (untrimmed 0 0 ls).objects
 
-  -- the threshold of the arcs of what is built of the layers at zero
-  abbrev t : ℕ
-  t = guarded_threshold true [] level (arc_positions (built 0 0 ls))
-
-  -- these arcs are those that the draft uses
+  -- the arcs of what is built of the layers at zero are those that the draft uses
   arcs_are : ZeroLaw → arc_positions (built 0 0 ls) ≡ keep_from used 0 (arcs_of_layers ls)
   arcs_are stays = built_positions ls ∙ built_arcs ls stays
 
-  -- the lists of the arcs that the draft uses, spread over all, are those of the layers' arcs
-  spread_of_layers : ZeroLaw → spread used 0 (reduced_by level (keep_from used 0 (arcs_of_layers ls))) (arcs_of_layers ls) ≡ guarded_arc_indexes true t ls
-  spread_of_layers stays = ap (λ arcs. spread used 0 (reduced_by level arcs) (arcs_of_layers ls)) (sym (arcs_are stays))
+  abbrev IsLong : List Point → Type 0
+  IsLong ps = 2 ≤ length ps
+
+  arcs_long : ZeroLaw → AreSound ls → AllByRecursion IsLong (arc_positions (built 0 0 ls))
+  arcs_long stays sound = subst (AllByRecursion IsLong) (sym (arcs_are stays)) (sub_all IsLong (sub_left used 0 (arcs_of_layers ls)) (layers_long ls sound))
 
   module _ (uses : DraftUsesAtZero) (objects : List (List ℕ × TopoObject)) (flags : List Bool) (arcs : List (List Point)) (draft : IsDraftOf ls objects) (are : arcs ≡ arcs_of_layers ls)
       (flagged : flags ≡ answers (is_used (objects_pruned with_refs objects)) 0 (length arcs)) where
-    flags_are : flags ≡ answers used 0 (length arcs)
+    pub flags_are : flags ≡ answers (is_used (untrimmed 0 0 ls).objects) 0 (length arcs)
     flags_are = flagged
         ∙ answers_same (is_used (objects_pruned with_refs objects)) used (λ n. ap (λ os. is_used (objects_pruned with_refs os) n) draft.drafted ∙ uses ls n draft.sound) 0 (length arcs)
 
-    pub left_of_layers : ZeroLaw → ArcsRise → (left : List (List Point))
-        → ((passes : ℕ → Bool) → flags ≡ answers passes 0 (length arcs) → EachFromFirstToLast (reduced_by level (keep_from passes 0 arcs)) (keep_from passes 0 arcs)
-        → left ≡ retained_arcs (spread passes 0 (reduced_by level (keep_from passes 0 arcs)) arcs) arcs)
-        → left ≡ retained_arcs (guarded_arc_indexes true t ls) (arcs_of_layers ls)
-    left_of_layers stays rise left f =
-        let through : EachFromFirstToLast (reduced_by level (keep_from used 0 arcs)) (keep_from used 0 arcs) =
-        subst (λ xs. EachFromFirstToLast (reduced_by level (keep_from used 0 xs)) (keep_from used 0 xs)) (sym are)
-        (subst (λ xs. EachFromFirstToLast (reduced_by level xs) (keep_from used 0 (arcs_of_layers ls))) (arcs_are stays) (built_through ls stays rise true t draft.sound)) in
-        f used flags_are through
-        ∙ ap (λ xs. retained_arcs (spread used 0 (reduced_by level (keep_from used 0 xs)) xs) xs) are
-        ∙ ap (λ kept. retained_arcs kept (arcs_of_layers ls)) (spread_of_layers stays)
+    -- those that are marked
+    pub marked_of_layers : ZeroLaw → chosen flags arcs ≡ arc_positions (built 0 0 ls)
+    marked_of_layers stays = chosen_as used (length arcs) flags arcs flags_are refl ∙ ap (keep_from used 0) are ∙ sym (arcs_are stays)
 
-    -- and the threshold is that of these arcs
-    pub chosen_of_layers : ZeroLaw → (chosen : Option ℕ) → ((passes : ℕ → Bool) → flags ≡ answers passes 0 (length arcs) → chosen ≡ guarded_chosen true [] level (keep_from passes 0 arcs))
-        → chosen ≡ guarded_chosen true [] level (arc_positions (built 0 0 ls))
-    chosen_of_layers stays chosen f =
-        f used flags_are ∙ ap (λ xs. guarded_chosen true [] level (keep_from used 0 xs)) are ∙ ap (guarded_chosen true [] level) (sym (arcs_are stays))
+    module _ (no_crossings : Bool) (rings : List (List ℤ)) (level : Level) (stays : ZeroLaw) where
+      -- how they are reduced
+      abbrev by : List (List Point) → List (List ℕ)
+      by = reduced_by no_crossings rings level
+
+      through : ArcsRise → EachFromFirstToLast (by (arc_positions (built 0 0 ls))) (arc_positions (built 0 0 ls))
+      through rise =
+          each_through (by (arc_positions (built 0 0 ls))) (arc_positions (built 0 0 ls))
+          (rise (guarded_by no_crossings rings) (guarded_threshold no_crossings rings level (arc_positions (built 0 0 ls))) (arc_positions (built 0 0 ls))) (arcs_long stays draft.sound)
+
+      -- their numbers, spread over all arcs, are those of the layers' arcs
+      pub left_of_layers : ArcsRise → (left : List (List Point))
+          → ((passes : ℕ → Bool) → flags ≡ answers passes 0 (length arcs) → EachFromFirstToLast (reduced_by no_crossings rings level (keep_from passes 0 arcs)) (keep_from passes 0 arcs)
+          → left ≡ retained_arcs (spread passes 0 (reduced_by no_crossings rings level (keep_from passes 0 arcs)) arcs) arcs)
+          → left ≡ retained_arcs (spread (is_used (untrimmed 0 0 ls).objects) 0 (reduced_by no_crossings rings level (arc_positions (built 0 0 ls))) (arcs_of_layers ls)) (arcs_of_layers ls)
+      left_of_layers rise left f =
+          let same : arc_positions (built 0 0 ls) ≡ keep_from used 0 arcs = arcs_are stays ∙ ap (keep_from used 0) (sym are) in
+          f used flags_are (subst (λ xs. EachFromFirstToLast (by xs) xs) same (through rise))
+          ∙ ap (λ xs. retained_arcs (spread used 0 (by xs) arcs) arcs) (sym same)
+          ∙ ap (λ xs. retained_arcs (spread used 0 (by (arc_positions (built 0 0 ls))) xs) xs) are
+
+      -- and the threshold is that of these arcs
+      pub chosen_of_layers : (t : Option ℕ) → ((passes : ℕ → Bool) → flags ≡ answers passes 0 (length arcs) → t ≡ guarded_chosen no_crossings rings level (keep_from passes 0 arcs))
+          → t ≡ guarded_chosen no_crossings rings level (arc_positions (built 0 0 ls))
+      chosen_of_layers t f = f used flags_are ∙ ap (λ xs. guarded_chosen no_crossings rings level (keep_from used 0 xs)) are ∙ ap (guarded_chosen no_crossings rings level) (sym (arcs_are stays))

@@ -4,6 +4,7 @@ pub mod AtOnceRows
 pub mod AtZero
 pub mod Chosen
 pub mod Covered
+pub mod DraftRings
 pub mod Guarded
 pub mod GuardedArcs
 pub mod GuardedMade
@@ -11,5 +12,6 @@ pub mod Kept
 pub mod Laid
 pub mod Made
 pub mod Snapping
+pub mod SparedAtZero
 pub mod Split
 pub mod Unvisited

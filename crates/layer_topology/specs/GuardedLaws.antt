@@ -10,11 +10,9 @@ use Rattle.layer_topology.specs.declared.guards.Guards.{Guards}
 use Rattle.layer_topology.specs.declared.level.Level.{Level}
 use Rattle.layer_topology.specs.Guarded.{is_simplifying_level, simplified_under, CrossesNoMore, KeepsShapes}
 use Rattle.layer_topology.specs.GuardedLevels.{guarded_threshold, KeepsShare, KeepsShareUnder}
-use Rattle.layer_topology.specs.GuardedWritten.{written_under}
+use Rattle.layer_topology.specs.GuardedWritten.{made_under, written_under}
 use Rattle.layer_topology.specs.Written.{snapped_to, written, AreTaken}
-use Rattle.simplified_topology.specs.Assembled.{assembled}
 use Rattle.simplified_topology.specs.GridLaws.{EachFeature}
-use Rattle.simplified_topology.specs.Guarded.{guarded_arc_indexes}
 use Rattle.simplified_topology.specs.Laws.{labels}
 use Rattle.simplified_topology.specs.Quantized.{named_grid, quantized}
 use Rattle.topojson_meaning.specs.Bounds as bounds
@@ -61,11 +59,11 @@ pub record IsWrittenUnder (guards : Guards) (count : Option ℕ) (t limit : ℕ)
 abbrev pub WrittenUnderLaw : Type 0
 WrittenUnderLaw = (guards : Guards) (count : Option ℕ) (t limit : ℕ) (ls : Named) → AreTaken count ls → IsWrittenUnder guards count t limit ls
 
--- at a threshold and a limit of zero nothing is removed, whether crossings may be made or not
+-- at a threshold and a limit of zero nothing is removed, whatever guards are asked for
 abbrev pub GuardedAtZero : Type 0
-GuardedAtZero = (guards : Guards) (count : Option ℕ) (ls : Named) → guards.keep_shapes ≡ false → AreTaken count ls → written_under guards count 0 0 ls ≡ written count 0 0 ls
+GuardedAtZero = (guards : Guards) (count : Option ℕ) (ls : Named) → AreTaken count ls → written_under guards count 0 0 ls ≡ written count 0 0 ls
 
--- where crossings may not be made and nothing is asked of shapes, it is assembled of the snapped layers, and put on the grid
-abbrev pub GuardedIsAssembledOf : Type 0
-GuardedIsAssembledOf = (guards : Guards) (count : Option ℕ) (t limit : ℕ) (ls : Named) → AreTaken count ls → guards.keep_shapes ≡ false → guards.no_crossings ≡ true →
-    written_under guards count t limit ls ≡ quantized (named_grid count ls) (assembled (guarded_arc_indexes true t (snapped_to count ls)) limit (snapped_to count ls))
+-- it is what is made of the snapped layers, put on the grid
+abbrev pub WrittenIsMade : Type 0
+WrittenIsMade = (guards : Guards) (count : Option ℕ) (t limit : ℕ) (ls : Named) → AreTaken count ls →
+    written_under guards count t limit ls ≡ quantized (named_grid count ls) (made_under guards t limit (snapped_to count ls))

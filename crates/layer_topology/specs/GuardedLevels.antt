@@ -33,9 +33,9 @@ abbrev pub guarded_chosen : Bool → List (List ℤ) → Level → List (List Po
 guarded_chosen no_crossings rings (Fixed t) arcs = None
 guarded_chosen no_crossings rings (Share p q) arcs = Some (guarded_threshold no_crossings rings (Share p q) arcs)
 
--- the numbers of the positions that stay, arc by arc, where no crossing may be made
-abbrev pub reduced_by : Level → List (List Point) → List (List ℕ)
-reduced_by level arcs = reduce_arcs (guarded_by true []) (guarded_threshold true [] level arcs) arcs
+-- the numbers of the positions that then stay, arc by arc
+abbrev pub reduced_by : Bool → List (List ℤ) → Level → List (List Point) → List (List ℕ)
+reduced_by no_crossings rings level arcs = reduce_arcs (guarded_by no_crossings rings) (guarded_threshold no_crossings rings level arcs) arcs
 
 -- a weight, and this one where there is none
 abbrev pub or_weight : ℕ → Option ℕ → Weight
@@ -74,13 +74,17 @@ KeepsShareUnder guards level y =
 
 -- ---- layers
 
--- as they are, where nothing is asked of shapes: the threshold of the arcs of what is built of them at zero, where crossings may not be made, and
--- otherwise of all arcs that their lines have
+-- as they are: the threshold of the arcs of what is built of them at zero, where shapes stay or crossings may not be made, and otherwise of all arcs
+-- that their lines have
 abbrev pub made_threshold : Guards → Level → Named → ℕ
-made_threshold guards level ls = if guards.no_crossings then guarded_threshold true [] level (arc_positions (built 0 0 ls)) else threshold_at level (arcs_of_layers ls)
+made_threshold guards level ls =
+    if guards.keep_shapes then sparing_threshold guards.no_crossings level (built 0 0 ls)
+    else (if guards.no_crossings then guarded_threshold true [] level (arc_positions (built 0 0 ls)) else threshold_at level (arcs_of_layers ls))
 
 abbrev pub made_chosen : Guards → Level → Named → Option ℕ
-made_chosen guards level ls = if guards.no_crossings then guarded_chosen true [] level (arc_positions (built 0 0 ls)) else chosen_at level (arcs_of_layers ls)
+made_chosen guards level ls =
+    if guards.keep_shapes then sparing_chosen guards.no_crossings level (built 0 0 ls)
+    else (if guards.no_crossings then guarded_chosen true [] level (arc_positions (built 0 0 ls)) else chosen_at level (arcs_of_layers ls))
 
 -- on the grid of so many coordinates: the threshold of the arcs of what is written of them at zero, where shapes stay or crossings may not be made
 abbrev pub level_threshold_under : Guards → Option ℕ → Level → Named → ℕ

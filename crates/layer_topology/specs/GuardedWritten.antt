@@ -13,22 +13,29 @@ use Rattle.layer_topology.specs.Written.{snapped_to, written}
 use Rattle.simplified_topology.specs.Assembled.{assembled, assembled_dropped, assembled_removed_count}
 use Rattle.simplified_topology.specs.Guarded.{arc_positions, guarded_arc_indexes, guarded_contents}
 use Rattle.simplified_topology.specs.Protected.{greatest_ring, protecting_contents}
+use Rattle.simplified_topology.specs.ProtectedLayers.{protecting_arc_indexes, assembled_sparing, assembled_sparing_dropped, assembled_sparing_removed_count}
 use Rattle.topojson_types.specs.Topologies.{Contents}
 
 -- ---- what is made of layers as they are
 
--- where nothing is asked of shapes: what is assembled of them over the arcs that they have at zero, reduced at once, and the others whole, where
--- crossings may not be made; otherwise what is built of them
+-- where shapes stay or crossings may not be made, what is assembled of them over the arcs that they have at zero, reduced at once, and the others
+-- whole, and where shapes stay with the ring left that encloses most in each feature; otherwise what is built of them
 abbrev pub made_under : Guards → ℕ → ℕ → Named → Contents
-made_under guards t limit ls = if guards.no_crossings then assembled (guarded_arc_indexes true t ls) limit ls else built t limit ls
+made_under guards t limit ls =
+    if guards.keep_shapes then assembled_sparing (protecting_arc_indexes guards.no_crossings t ls) limit ls
+    else (if guards.no_crossings then assembled (guarded_arc_indexes true t ls) limit ls else built t limit ls)
 
 -- their lines and rings that are then dropped, in reading order
 abbrev pub made_dropped_under : Guards → ℕ → ℕ → Named → List Dropped
-made_dropped_under guards t limit ls = if guards.no_crossings then assembled_dropped (guarded_arc_indexes true t ls) limit ls else expected_dropped t limit ls
+made_dropped_under guards t limit ls =
+    if guards.keep_shapes then assembled_sparing_dropped (protecting_arc_indexes guards.no_crossings t ls) limit ls
+    else (if guards.no_crossings then assembled_dropped (guarded_arc_indexes true t ls) limit ls else expected_dropped t limit ls)
 
 -- how many positions are then removed from the arcs that stay
 abbrev pub made_removed_under : Guards → ℕ → ℕ → Named → ℕ
-made_removed_under guards t limit ls = if guards.no_crossings then assembled_removed_count (guarded_arc_indexes true t ls) limit ls else removed_count t limit ls
+made_removed_under guards t limit ls =
+    if guards.keep_shapes then assembled_sparing_removed_count (protecting_arc_indexes guards.no_crossings t ls) limit ls
+    else (if guards.no_crossings then assembled_removed_count (guarded_arc_indexes true t ls) limit ls else removed_count t limit ls)
 
 -- ---- what is written of them
 

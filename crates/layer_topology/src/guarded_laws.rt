@@ -1,13 +1,13 @@
 // Laws of the definitions. A function here changes nothing: its contract is the law.
-ghost use Rattle.layer_topology.specs.GuardedLaws.{GuardedAtZero, GuardedIsAssembledOf, ShareStaysAtOnce, ShareStaysUnder, SimplifiedUnderLaw, WrittenUnderLaw};
+ghost use Rattle.layer_topology.specs.GuardedLaws.{GuardedAtZero, ShareStaysAtOnce, ShareStaysUnder, SimplifiedUnderLaw, WrittenIsMade, WrittenUnderLaw};
 
 use crate::laws::{simplifies_to_written, written_laws};
 use guarded_meaning::{kept_by_weight, share_stays};
 use simplified_topology::{
     guarded_crossings_never_rise, guarded_is_assembled, guarded_is_valid, guarded_keeps,
-    guarded_none_stays_none, protecting_crossings_never_rise, protecting_is_valid,
-    protecting_keeps, protecting_none_stays_none, reduced_is_valid, shapes_stay, simplified_keeps,
-    snapped_are_on, spared_nests_no_deeper, unguarded_is_simplified,
+    guarded_none_stays_none, protecting_crossings_never_rise, protecting_is_assembled,
+    protecting_is_valid, protecting_keeps, protecting_none_stays_none, reduced_is_valid, shapes_stay, simplified_keeps, snapped_are_on,
+    spared_nests_no_deeper, unguarded_is_simplified,
 };
 
 /// What is left of a valid topology is valid, with the same names, identifiers, properties and transform, and nests no deeper, whatever guards
@@ -50,7 +50,7 @@ pub fn written_under_law()
     written_laws();
 }
 
-/// What is written of layers at a threshold and a limit of zero is the same whether crossings may be made or not.
+/// What is written of layers at a threshold and a limit of zero is the same whatever guards are asked for.
 pub fn guarded_at_zero()
     ensures { GuardedAtZero }
 {
@@ -59,11 +59,11 @@ pub fn guarded_at_zero()
     simplifies_to_written();
 }
 
-/// Where no crossing may be made and nothing is asked of shapes, it is assembled of the snapped layers: of the arcs that they have at zero, reduced at
-/// once, and of the others whole.
-pub fn guarded_is_assembled_of()
-    ensures { GuardedIsAssembledOf }
+/// What is written of layers is what is made of the snapped layers, put on the grid, whatever guards are asked for.
+pub fn written_is_made()
+    ensures { WrittenIsMade }
 {
     snapped_are_on();
     guarded_is_assembled();
+    protecting_is_assembled();
 }

@@ -1,11 +1,12 @@
 // Reducing the arcs of layers at once.
-ghost use Rattle.std.specs.Prelude.{◌≡◌, [], ℕ, Bool, IfOk, length, true};
+ghost use Rattle.std.specs.Prelude.{◌≡◌, ℕ, Bool, IfOk, length, true};
 ghost use Rattle.layer_topology.specs.Guarded.{is_simplifying_level};
 ghost use Rattle.layer_topology.specs.GuardedLevels.{guarded_chosen, reduced_by};
 ghost use Rattle.build_meaning.specs.Trimming.{keep_from};
 ghost use Rattle.simplified_topology.specs.Guarded.{spread};
+ghost use Rattle.simplified_topology.specs.ProtectedRings.{CanStay};
 ghost use Rattle.simplified_topology.specs.Simplified.{EachFromFirstToLast, retained_arcs};
-ghost use Rattle.topo_model.specs.Uses.{answers};
+ghost use Rattle.topo_model.specs.Uses.{answers, chosen as chosen_of};
 
 use crate::at_once::kept_at_once;
 use crate::level::Level;
@@ -15,28 +16,34 @@ use guarded_meaning::arcs_rise;
 use json_value::Items;
 use owned_values::Memory;
 use std::alloc::Global;
-use topo_model::{Cell, cells, positions_of_all};
+use topo_model::{ArcRef, Cell, cells, positions_of_all};
 
-/// Of each arc the positions that stay where all are reduced at once at a level and no crossing may be made, and the threshold, where it was
-/// chosen. The arcs are freed.
+/// Of each arc the positions that stay where all are reduced at once at a level, no crossing may be made, where that is asked for, and these
+/// rings have to stay; and the threshold, where it was chosen. The arcs are freed.
 fn reduced_at_once(
     alloc: Global,
     arcs: Vec<Items<Position>>,
+    no_crossings: bool,
+    rings: &[Items<ArcRef>],
     level: Level,
 ) -> Result<(Vec<Items<Cell>>, Option<u128>), Memory>
-    requires { is_simplifying_level level ≡ true }
-    ensures left { IfOk result (λ r. r.0.items ≡ retained_arcs (reduced_by level arcs.items) arcs.items) }
-    ensures chosen { IfOk result (λ r. r.1 ≡ guarded_chosen true [] level arcs.items) }
+    requires level { is_simplifying_level level ≡ true }
+    requires rings { CanStay arcs.items rings.now }
+    ensures left { IfOk result (λ r. r.0.items ≡ retained_arcs (reduced_by no_crossings rings.now level arcs.items) arcs.items) }
+    ensures chosen { IfOk result (λ r. r.1 ≡ guarded_chosen no_crossings rings.now level arcs.items) }
 {
     arcs_rise();
-    let (kept, chosen) = kept_at_once(alloc, &arcs, true, &[], level)?;
+    let (kept, chosen) = kept_at_once(alloc, &arcs, no_crossings, rings, level)?;
     let left = positions_of_all(alloc, &kept, &arcs)?;
     Ok((left, chosen))
 }
 
-/// The positions of arcs that stay whole. The arcs are freed.
-fn whole_arcs(alloc: Global, arcs: Vec<Items<Position>>) -> Result<Vec<Items<Cell>>, Memory>
-    ensures { IfOk result (λ whole. whole.items ≡ arcs.items) }
+/// The cells of all positions of arcs.
+pub(crate) fn whole_arcs(
+    alloc: Global,
+    arcs: &[Items<Position>],
+) -> Result<Vec<Items<Cell>>, Memory>
+    ensures { IfOk result (λ whole. whole.items ≡ arcs.now) }
 {
     let mut whole = Vec::with_capacity(alloc, arcs.len())?;
     'arcs: for arc in arcs {
@@ -45,24 +52,28 @@ fn whole_arcs(alloc: Global, arcs: Vec<Items<Position>>) -> Result<Vec<Items<Cel
     Ok(whole)
 }
 
-/// Of each arc the positions that stay where those that are used are reduced at once at a level and no crossing may be made, and the threshold,
-/// where it was chosen. The others stay whole, hold nothing, and count for no share.
+/// Of each arc the positions that stay where those that are used are reduced at once at a level, no crossing may be made, where that is asked for,
+/// and these rings of them have to stay; and the threshold, where it was chosen. The others stay whole, hold nothing, and count for no share.
 pub(crate) fn guarded_arcs(
     alloc: Global,
     arcs: Vec<Items<Position>>,
     used: &[bool],
+    no_crossings: bool,
+    rings: &[Items<ArcRef>],
     level: Level,
 ) -> Result<(Vec<Items<Cell>>, Option<u128>), Memory>
-    requires { is_simplifying_level level ≡ true }
+    requires level { is_simplifying_level level ≡ true }
+    requires rings { CanStay (chosen_of used.now arcs.items) rings.now }
     ensures left { IfOk result (λ r. (passes : ℕ → Bool) → used.now ≡ answers passes 0 (length arcs.items)
-        → EachFromFirstToLast (reduced_by level (keep_from passes 0 arcs.items)) (keep_from passes 0 arcs.items)
-        → r.0.items ≡ retained_arcs (spread passes 0 (reduced_by level (keep_from passes 0 arcs.items)) arcs.items) arcs.items) }
+        → EachFromFirstToLast (reduced_by no_crossings rings.now level (keep_from passes 0 arcs.items)) (keep_from passes 0 arcs.items)
+        → r.0.items ≡ retained_arcs (spread passes 0 (reduced_by no_crossings rings.now level (keep_from passes 0 arcs.items)) arcs.items) arcs.items) }
     ensures chosen { IfOk result (λ r. (passes : ℕ → Bool) → used.now ≡ answers passes 0 (length arcs.items)
-        → r.1 ≡ guarded_chosen true [] level (keep_from passes 0 arcs.items)) }
+        → r.1 ≡ guarded_chosen no_crossings rings.now level (keep_from passes 0 arcs.items)) }
 {
     let (marked, others) = split_arcs(alloc, arcs, used)?;
-    let (reduced, chosen) = reduced_at_once(alloc, marked, level)?;
-    let whole = whole_arcs(alloc, others)?;
+    let (reduced, chosen) = reduced_at_once(alloc, marked, no_crossings, rings, level)?;
+    let whole = whole_arcs(alloc, &others)?;
+    drop(others);
     let left = joined_arcs(alloc, used, reduced, whole)?;
     Ok((left, chosen))
 }

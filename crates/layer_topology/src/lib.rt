@@ -16,6 +16,8 @@ mod layers;
 mod level;
 mod making;
 mod objects;
+mod renumbering;
+mod sparing;
 mod splitting;
 mod topology;
 mod transforms;
@@ -23,8 +25,7 @@ mod transforms;
 pub use at_once::kept_at_once;
 pub use choosing::{reduced_line, weigh_arcs};
 pub use guarded_laws::{
-    guarded_at_zero, guarded_is_assembled_of, share_stays_at_once, simplified_under_law,
-    written_under_law,
+    guarded_at_zero, share_stays_at_once, simplified_under_law, written_is_made, written_under_law,
 };
 pub use guards::Guards;
 pub use laws::{simplifies_to_written, written_laws};

@@ -1,5 +1,5 @@
 // Making the topology of layers.
-ghost use Rattle.std.specs.Prelude.{◌≡◌, ◌<◌, ◌≤◌, ◌^◌, ◌++◌, [], IfOk, if◌then◌else◌, false, length, map, true};
+ghost use Rattle.std.specs.Prelude.{◌≡◌, ◌<◌, ◌≤◌, ◌^◌, ◌++◌, [], IfOk, if◌then◌else◌, length, map, true};
 ghost use Rattle.arc_table.specs.Arcs.{table_of};
 ghost use Rattle.build_meaning.specs.Built.{built, removed_count};
 ghost use Rattle.build_meaning.specs.Expected.{expected_dropped};
@@ -10,7 +10,7 @@ ghost use Rattle.cutter.specs.Slices.{split_of};
 ghost use Rattle.elimination_meaning.specs.Elimination.{reduce};
 ghost use Rattle.geometry.specs.Units.{threshold_limit};
 ghost use Rattle.simplified_topology.specs.Quantized.{AreInputs, IsCount, named_grid};
-ghost use Rattle.layer_topology.specs.Guarded.{is_simplifying_level};
+ghost use Rattle.layer_topology.specs.Guarded.{is_at_once, is_simplifying_level};
 ghost use Rattle.layer_topology.specs.GuardedLevels.{guarded_chosen, guarded_threshold, level_chosen_under, level_threshold_under, made_chosen, made_threshold};
 ghost use Rattle.layer_topology.specs.GuardedWritten.{calls_under, lines_dropped_under, made_dropped_under, made_removed_under, made_under};
 ghost use Rattle.layer_topology.specs.GuardedWritten.{positions_removed_under, written_under};
@@ -24,11 +24,12 @@ ghost use Rattle.topojson_types.specs.Validity.{AreDistinct};
 ghost use Rattle.topo_model.specs.Retaining.{IsDraftOf};
 
 use crate::choosing::left_of_arcs;
-use crate::guarded_laws::guarded_is_assembled_of;
+use crate::guarded_laws::written_is_made;
 use crate::guarding::guarded_arcs;
 use crate::guards::Guards;
 use crate::layers::snap_layers;
 use crate::level::Level;
+use crate::sparing::sparing_topology;
 use crate::topology::on_grid;
 use arc_table::Table;
 use cutter::{Pieces, cut};
@@ -41,8 +42,9 @@ use json_value::{Items, OwnText};
 use linework::{Lines, OfLayers, Vertices};
 use owned_values::Memory;
 use simplified_topology::{
-    arc_indexes_reach, assembles_to_built, assembling_drops_expected, assembling_removes,
-    built_cells_are_on, guarded_arc_indexes_reach, guarded_is_assembled, snapped_are_on,
+    arc_indexes_reach, assembled_sparing_is_on, assembles_to_built, assembling_drops_expected,
+    assembling_removes, built_cells_are_on, guarded_arc_indexes_reach, guarded_is_assembled,
+    protecting_on_grid, snapped_are_on,
 };
 use std::alloc::Global;
 use topo_model::{
@@ -167,7 +169,7 @@ fn left_of_draft(
     zero_law();
     arcs_rise();
     let used = draft_arcs(alloc, objects, arcs.len())?;
-    guarded_arcs(alloc, arcs, &used, level)
+    guarded_arcs(alloc, arcs, &used, true, &[], level)
 }
 
 /// The topology that is assembled of a draft of layers whose arcs are reduced at once, where no crossing may be made, without rings under
@@ -209,33 +211,64 @@ fn assembled_topology(
     }
 }
 
-/// The topology that is assembled of named layers whose arcs are reduced at once, where no crossing may be made, and what comes with it.
-/// The layers are freed before an arc is reduced.
+/// The topology that is made of a draft of layers whose arcs are reduced at once, where its protected rings stay or no crossing may be made, and
+/// what comes with it.
+fn topology_of_draft(
+    alloc: Global,
+    objects: Vec<(OwnText, TopoObject)>,
+    arcs: Vec<Items<Position>>,
+    guards: Guards,
+    level: Level,
+    ring_limit: u128,
+) -> Result<(Topology, Vec<Dropped>, u64, Option<u128>), Memory>
+    requires at_once { is_at_once guards ≡ true }
+    requires level { is_simplifying_level level ≡ true }
+    requires draft { (ls : Named) × IsDraftOf ls objects.items × (arcs.items ≡ arcs_of_layers ls) }
+    requires limit { ring_limit ≤ threshold_limit }
+    ensures topology { IfOk result (λ r. (ls : Named) → IsDraftOf ls objects.items → arcs.items ≡ arcs_of_layers ls
+        → r.0 ≡ made_under guards (made_threshold guards level ls) ring_limit ls) }
+    ensures dropped { IfOk result (λ r. (ls : Named) → IsDraftOf ls objects.items → arcs.items ≡ arcs_of_layers ls
+        → r.1.items ≡ made_dropped_under guards (made_threshold guards level ls) ring_limit ls) }
+    ensures removed_count { IfOk result (λ r. (ls : Named) → IsDraftOf ls objects.items → arcs.items ≡ arcs_of_layers ls
+        → r.2 ≡ saturated (made_removed_under guards (made_threshold guards level ls) ring_limit ls)) }
+    ensures chosen { IfOk result (λ r. (ls : Named) → IsDraftOf ls objects.items → arcs.items ≡ arcs_of_layers ls
+        → r.3 ≡ made_chosen guards level ls) }
+    ensures few { IfOk result (λ r. length r.0.arcs < 2 ^ 63) }
+{
+    if guards.keep_shapes {
+        sparing_topology(
+            alloc, objects, arcs, guards.no_crossings, level, ring_limit,
+        )
+    } else {
+        assembled_topology(alloc, objects, arcs, level, ring_limit)
+    }
+}
+
+/// The topology that is made of named layers whose arcs are reduced at once, and what comes with it. The layers are freed before an arc is reduced.
 fn guarded_topology(
     alloc: Global,
     seed: u64,
     layers: Vec<(OwnText, Layer)>,
+    guards: Guards,
     level: Level,
     ring_limit: u128,
 ) -> Result<(Topology, Vec<Dropped>, u64, Option<u128>), Memory>
+    requires at_once { is_at_once guards ≡ true }
     requires level { is_simplifying_level level ≡ true }
     requires sound { AreSound layers.items }
     requires names { AreDistinct (names_of layers.items) }
     requires limit { ring_limit ≤ threshold_limit }
-    ensures topology { IfOk result (λ r. r.0
-        ≡ assembled (guarded_arc_indexes true (guarded_threshold true [] level (arc_positions (built 0 0 layers.items))) layers.items) ring_limit layers.items) }
-    ensures dropped { IfOk result (λ r. r.1.items
-        ≡ assembled_dropped (guarded_arc_indexes true (guarded_threshold true [] level (arc_positions (built 0 0 layers.items))) layers.items) ring_limit layers.items) }
-    ensures removed_count { IfOk result (λ r. r.2
-        ≡ saturated (assembled_removed_count (guarded_arc_indexes true (guarded_threshold true [] level (arc_positions (built 0 0 layers.items))) layers.items) ring_limit layers.items)) }
-    ensures chosen { IfOk result (λ r. r.3 ≡ guarded_chosen true [] level (arc_positions (built 0 0 layers.items))) }
+    ensures topology { IfOk result (λ r. r.0 ≡ made_under guards (made_threshold guards level layers.items) ring_limit layers.items) }
+    ensures dropped { IfOk result (λ r. r.1.items ≡ made_dropped_under guards (made_threshold guards level layers.items) ring_limit layers.items) }
+    ensures removed_count { IfOk result (λ r. r.2 ≡ saturated (made_removed_under guards (made_threshold guards level layers.items) ring_limit layers.items)) }
+    ensures chosen { IfOk result (λ r. r.3 ≡ made_chosen guards level layers.items) }
     ensures few { IfOk result (λ r. length r.0.arcs < 2 ^ 63) }
 {
     match shared_arcs(alloc, seed, &layers) {
         Ok(table) => {
             let (arcs, refs) = table.into_parts();
             let objects = drafted_objects(alloc, layers, refs)?;
-            assembled_topology(alloc, objects, arcs, level, ring_limit)
+            topology_of_draft(alloc, objects, arcs, guards, level, ring_limit)
         }
         Err(fault) => {
             drop(layers);
@@ -263,11 +296,11 @@ fn topology_under<Q: Reducer>(
     ensures dropped { IfOk result (λ r. r.1.items ≡ made_dropped_under guards (made_threshold guards level layers.items) ring_limit layers.items) }
     ensures removed_count { IfOk result (λ r. r.2 ≡ saturated (made_removed_under guards (made_threshold guards level layers.items) ring_limit layers.items)) }
     ensures chosen { IfOk result (λ r. r.3 ≡ made_chosen guards level layers.items) }
-    ensures called { IfOk result (λ _. Q.calls reducer.new ≡ Q.calls reducer.old ++ (if guards.no_crossings then [] else calls_at level (arcs_of_layers layers.items))) }
+    ensures called { IfOk result (λ _. Q.calls reducer.new ≡ Q.calls reducer.old ++ (if is_at_once guards then [] else calls_at level (arcs_of_layers layers.items))) }
     ensures few { IfOk result (λ r. length r.0.arcs < 2 ^ 63) }
 {
-    if guards.no_crossings {
-        guarded_topology(alloc, seed, layers, level, ring_limit)
+    if guards.no_crossings || guards.keep_shapes {
+        guarded_topology(alloc, seed, layers, guards, level, ring_limit)
     } else {
         reduced_topology(alloc, reducer, seed, layers, level, ring_limit)
     }
@@ -291,10 +324,10 @@ fn snapped_layers(
 /// The topology of named layers: they are snapped to the grid that is asked for, if one is, the lines and rings are cut into the arcs
 /// that they share, each arc is reduced once at the threshold (twice an area, in square units) that the level gives or for which all arcs
 /// keep its share, rings that then enclose less than half the ring limit are left out, and positions on a grid become cells of it. Where
-/// the guards forbid crossings, the arcs that the topology has at zero are reduced at once in place of that, a share is one of their positions,
-/// and the others stay whole. With it come the lines and rings that are dropped, in reading order, how many positions were removed from the
-/// arcs that stay, a count that stays at `u64::MAX` where it would pass it, and the threshold, where it was chosen. Nothing can be
-/// asked of shapes yet.
+/// the guards forbid crossings or shapes stay, the arcs that the topology has at zero are reduced at once in place of that, a share is one of
+/// their positions, and the others stay whole. Where shapes stay, in each feature the outer ring is left that encloses most before, of those with
+/// four positions or more. With it come the lines and rings that are dropped, in reading order, how many positions were removed from the arcs that
+/// stay, a count that stays at `u64::MAX` where it would pass it, and the threshold, where it was chosen.
 pub fn topology_of_layers<Q: Reducer>(
     alloc: Global,
     reducer: &mut Q,
@@ -305,7 +338,6 @@ pub fn topology_of_layers<Q: Reducer>(
     level: Level,
     ring_limit: u128,
 ) -> Result<(Topology, Vec<Dropped>, u64, Option<u128>), Memory>
-    requires shapes { guards.keep_shapes ≡ false }
     requires level { is_level level ≡ true }
     requires taken { AreTaken grid layers.items }
     requires limit { ring_limit ≤ threshold_limit }
@@ -321,7 +353,9 @@ pub fn topology_of_layers<Q: Reducer>(
     built_cells_are_on();
     nothing_is_new();
     guarded_is_assembled();
-    guarded_is_assembled_of();
+    assembled_sparing_is_on();
+    protecting_on_grid();
+    written_is_made();
     let (snapped, grid) = snapped_layers(layers, grid);
     let (topology, dropped, removed_count, chosen) = topology_under(
         alloc, reducer, seed, snapped, guards, level, ring_limit,

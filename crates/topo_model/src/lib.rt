@@ -51,3 +51,4 @@ pub use topojson_types::{
     ArcRef, CELL_LIMIT, Cell, GRID_LIMIT, SumFault, TopoFeature, TopoObject, TopoShape, Topology,
     Transform, TransformNumber, placed, sums,
 };
+pub use trimming::{renumber_all, renumbering};

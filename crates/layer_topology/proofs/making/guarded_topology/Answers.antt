@@ -2,8 +2,8 @@ use Rattle.std.proofs.lemmas.Result.{IfOk-weaker}
 use Rattle.layer_topology.proofs.Made.{draft_of_table}
 use Rattle.layer_topology.proofs.making.guarded_topology.Goals as goal
 
-pub assembled_topology-requires-clause-draft : goal.assembled_topology-requires-clause-draft
-assembled_topology-requires-clause-draft c =
+pub topology_of_draft-requires-clause-draft : goal.topology_of_draft-requires-clause-draft
+topology_of_draft-requires-clause-draft c =
     let of = draft_of_table c.args.layers.items c.in-Ok.table c.into_parts-arcs.result.0.items c.into_parts-arcs.result.1.items c.in_ok-objects-in-Ok.objects.items (rw c.deref.ensures.value at c.in-Ok.ensures) c.into_parts-arcs.ensures.arcs
     c.into_parts-arcs.ensures.refs c.requires.sound c.requires.names c.in_ok-objects-in-Ok.ensures in
     (c.args.layers.items, of.0, of.1)
@@ -12,22 +12,22 @@ pub returns-in_ok-objects-in-Ok-clause-topology : goal.returns-in_ok-objects-in-
 returns-in_ok-objects-in-Ok-clause-topology c =
     let of = draft_of_table c.args.layers.items c.in-Ok.table c.into_parts-arcs.result.0.items c.into_parts-arcs.result.1.items c.in_ok-objects-in-Ok.objects.items (rw c.deref.ensures.value at c.in-Ok.ensures) c.into_parts-arcs.ensures.arcs
     c.into_parts-arcs.ensures.refs c.requires.sound c.requires.names c.in_ok-objects-in-Ok.ensures in
-    IfOk-weaker c.assembled_topology.result _ _ (λ r h. h c.args.layers.items of.0 of.1) c.assembled_topology.ensures.topology
+    IfOk-weaker c.topology_of_draft.result _ _ (λ r h. h c.args.layers.items of.0 of.1) c.topology_of_draft.ensures.topology
 
 pub returns-in_ok-objects-in-Ok-clause-dropped : goal.returns-in_ok-objects-in-Ok-clause-dropped
 returns-in_ok-objects-in-Ok-clause-dropped c =
     let of = draft_of_table c.args.layers.items c.in-Ok.table c.into_parts-arcs.result.0.items c.into_parts-arcs.result.1.items c.in_ok-objects-in-Ok.objects.items (rw c.deref.ensures.value at c.in-Ok.ensures) c.into_parts-arcs.ensures.arcs
     c.into_parts-arcs.ensures.refs c.requires.sound c.requires.names c.in_ok-objects-in-Ok.ensures in
-    IfOk-weaker c.assembled_topology.result _ _ (λ r h. h c.args.layers.items of.0 of.1) c.assembled_topology.ensures.dropped
+    IfOk-weaker c.topology_of_draft.result _ _ (λ r h. h c.args.layers.items of.0 of.1) c.topology_of_draft.ensures.dropped
 
 pub returns-in_ok-objects-in-Ok-clause-removed_count : goal.returns-in_ok-objects-in-Ok-clause-removed_count
 returns-in_ok-objects-in-Ok-clause-removed_count c =
     let of = draft_of_table c.args.layers.items c.in-Ok.table c.into_parts-arcs.result.0.items c.into_parts-arcs.result.1.items c.in_ok-objects-in-Ok.objects.items (rw c.deref.ensures.value at c.in-Ok.ensures) c.into_parts-arcs.ensures.arcs
     c.into_parts-arcs.ensures.refs c.requires.sound c.requires.names c.in_ok-objects-in-Ok.ensures in
-    IfOk-weaker c.assembled_topology.result _ _ (λ r h. h c.args.layers.items of.0 of.1) c.assembled_topology.ensures.removed_count
+    IfOk-weaker c.topology_of_draft.result _ _ (λ r h. h c.args.layers.items of.0 of.1) c.topology_of_draft.ensures.removed_count
 
 pub returns-in_ok-objects-in-Ok-clause-chosen : goal.returns-in_ok-objects-in-Ok-clause-chosen
 returns-in_ok-objects-in-Ok-clause-chosen c =
     let of = draft_of_table c.args.layers.items c.in-Ok.table c.into_parts-arcs.result.0.items c.into_parts-arcs.result.1.items c.in_ok-objects-in-Ok.objects.items (rw c.deref.ensures.value at c.in-Ok.ensures) c.into_parts-arcs.ensures.arcs
     c.into_parts-arcs.ensures.refs c.requires.sound c.requires.names c.in_ok-objects-in-Ok.ensures in
-    IfOk-weaker c.assembled_topology.result _ _ (λ r h. h c.args.layers.items of.0 of.1) c.assembled_topology.ensures.chosen
+    IfOk-weaker c.topology_of_draft.result _ _ (λ r h. h c.args.layers.items of.0 of.1) c.topology_of_draft.ensures.chosen

@@ -1,4 +1,4 @@
-use Rattle.std.proofs.Common.{◌≡◌, ◌∙◌, length, ap, rules}
+use Rattle.std.proofs.Common.{◌≡◌, ◌∙◌, [], true, length, ap, rules}
 use Rattle.std.proofs.lemmas.Result.{IfOk-weaker}
 use Rattle.build_meaning.specs.Trimming.{is_used}
 use Rattle.simplified_topology.specs.Simplified.{objects_pruned}
@@ -12,7 +12,7 @@ returns-clause-left c =
     let many : c.len.result ≡ length c.args.arcs.items = search rules in
     let flagged = c.deref.ensures.value ∙ c.in_ok-used.ensures ∙ ap (answers (is_used (objects_pruned with_refs c.args.objects.now)) 0) many in
     IfOk-weaker c.guarded_arcs.result _ _
-    (λ r h ls draft are. left_of_layers ls c.args.level c.draft_uses_at_zero.ensures c.args.objects.now c.deref.result.now c.args.arcs.items draft are flagged c.zero_law.ensures c.arcs_rise.ensures r.0.items h)
+    (λ r h ls draft are. left_of_layers ls c.draft_uses_at_zero.ensures c.args.objects.now c.deref.result.now c.args.arcs.items draft are flagged true [] c.args.level c.zero_law.ensures c.arcs_rise.ensures r.0.items h)
     c.guarded_arcs.ensures.left
 
 pub returns-clause-chosen : goal.returns-clause-chosen
@@ -20,5 +20,5 @@ returns-clause-chosen c =
     let many : c.len.result ≡ length c.args.arcs.items = search rules in
     let flagged = c.deref.ensures.value ∙ c.in_ok-used.ensures ∙ ap (answers (is_used (objects_pruned with_refs c.args.objects.now)) 0) many in
     IfOk-weaker c.guarded_arcs.result _ _
-    (λ r h ls draft are. chosen_of_layers ls c.args.level c.draft_uses_at_zero.ensures c.args.objects.now c.deref.result.now c.args.arcs.items draft are flagged c.zero_law.ensures r.1 h)
+    (λ r h ls draft are. chosen_of_layers ls c.draft_uses_at_zero.ensures c.args.objects.now c.deref.result.now c.args.arcs.items draft are flagged true [] c.args.level c.zero_law.ensures r.1 h)
     c.guarded_arcs.ensures.chosen

@@ -1,18 +1,13 @@
-use Rattle.std.proofs.Common.{◌≡◌, ◌++◌, ◌∙◌, Bool, true, false, [], ap, refl, subst, sym}
-use Rattle.std.specs.Prelude.{◌||◌, if◌then◌else◌}
+use Rattle.std.proofs.Common.{◌≡◌, ◌++◌, ◌∙◌, [], ap, subst}
+use Rattle.std.specs.Prelude.{if◌then◌else◌}
 use Rattle.byte_ends.specs.Ends.{saturated}
 use Rattle.layer_topology.specs.GuardedWritten.{made_dropped_under, made_removed_under, made_under}
-use Rattle.layer_topology.specs.GuardedLevels.{level_threshold_under}
+use Rattle.layer_topology.specs.GuardedLevels.{level_threshold_under, made_threshold}
+use Rattle.layer_topology.specs.Guarded.{is_at_once}
 use Rattle.layer_topology.specs.Levels.{calls_at}
-use Rattle.layer_topology.specs.Written.{snapped_to}
 use Rattle.simplified_topology.specs.Assembled.{arcs_of_layers}
 use Rattle.layer_topology.proofs.GuardedMade.{as_written_under, cells_under, plain_under, same_chosen, same_threshold}
 use Rattle.layer_topology.proofs.making.topology_of_layers.Goals as goal
-
--- where nothing is asked of shapes, arcs are reduced at once just where crossings may not be made
-alone : (b s : Bool) → s ≡ false → b || s ≡ b
-alone true s e = refl
-alone false s e = e
 
 pub on_grid-requires-clause-plain : goal.on_grid-requires-clause-plain
 on_grid-requires-clause-plain g c =
@@ -23,20 +18,20 @@ pub on_grid-requires-clause-on : goal.on_grid-requires-clause-on
 on_grid-requires-clause-on g c =
     let e = c.snapped_layers-snapped.ensures in
     cells_under c.args.guards _ c.args.ring_limit c.args.grid c.args.layers.items _ _ _ e.grid e.snapped c.in_ok-topology.ensures.topology
-    c.snapped_are_on.ensures c.built_cells_are_on.ensures c.guarded_is_assembled.ensures c.requires.taken
+    c.snapped_are_on.ensures c.built_cells_are_on.ensures c.guarded_is_assembled.ensures c.assembled_sparing_is_on.ensures c.requires.taken
 
 pub returns-in-Ok-clause-topology : goal.returns-in-Ok-clause-topology
 returns-in-Ok-clause-topology g c =
     let e = c.snapped_layers-snapped.ensures in
-    let same = same_threshold c.nothing_is_new.ensures c.snapped_are_on.ensures c.args.guards c.args.level c.args.grid c.args.layers.items _ e.snapped c.requires.shapes c.requires.taken in
+    let same = same_threshold c.nothing_is_new.ensures c.snapped_are_on.ensures c.protecting_on_grid.ensures c.built_cells_are_on.ensures c.args.guards c.args.level c.args.grid c.args.layers.items _ e.snapped c.requires.taken in
     let made : c.in_ok-topology.topology ≡ made_under c.args.guards (level_threshold_under c.args.guards c.args.grid c.args.level c.args.layers.items) c.args.ring_limit c.snapped_layers-snapped.result.0.items =
     subst (λ t. c.in_ok-topology.topology ≡ made_under c.args.guards t c.args.ring_limit c.snapped_layers-snapped.result.0.items) same c.in_ok-topology.ensures.topology in
-    as_written_under c.args.guards _ c.args.ring_limit c.args.grid c.args.layers.items _ _ _ e.grid e.snapped made c.guarded_is_assembled_of.ensures c.requires.shapes c.requires.taken _ c.in-Ok.ensures
+    as_written_under c.args.guards _ c.args.ring_limit c.args.grid c.args.layers.items _ _ _ e.grid e.snapped made c.written_is_made.ensures c.requires.taken _ c.in-Ok.ensures
 
 pub returns-in-Ok-clause-dropped : goal.returns-in-Ok-clause-dropped
 returns-in-Ok-clause-dropped g c =
     let e = c.snapped_layers-snapped.ensures in
-    let same = same_threshold c.nothing_is_new.ensures c.snapped_are_on.ensures c.args.guards c.args.level c.args.grid c.args.layers.items _ e.snapped c.requires.shapes c.requires.taken in
+    let same = same_threshold c.nothing_is_new.ensures c.snapped_are_on.ensures c.protecting_on_grid.ensures c.built_cells_are_on.ensures c.args.guards c.args.level c.args.grid c.args.layers.items _ e.snapped c.requires.taken in
     c.in_ok-topology.ensures.dropped
     ∙ ap (λ t. made_dropped_under c.args.guards t c.args.ring_limit c.snapped_layers-snapped.result.0.items) same
     ∙ ap (made_dropped_under c.args.guards (level_threshold_under c.args.guards c.args.grid c.args.level c.args.layers.items) c.args.ring_limit) e.snapped
@@ -44,7 +39,7 @@ returns-in-Ok-clause-dropped g c =
 pub returns-in-Ok-clause-removed_count : goal.returns-in-Ok-clause-removed_count
 returns-in-Ok-clause-removed_count g c =
     let e = c.snapped_layers-snapped.ensures in
-    let same = same_threshold c.nothing_is_new.ensures c.snapped_are_on.ensures c.args.guards c.args.level c.args.grid c.args.layers.items _ e.snapped c.requires.shapes c.requires.taken in
+    let same = same_threshold c.nothing_is_new.ensures c.snapped_are_on.ensures c.protecting_on_grid.ensures c.built_cells_are_on.ensures c.args.guards c.args.level c.args.grid c.args.layers.items _ e.snapped c.requires.taken in
     c.in_ok-topology.ensures.removed_count
     ∙ ap (λ t. saturated (made_removed_under c.args.guards t c.args.ring_limit c.snapped_layers-snapped.result.0.items)) same
     ∙ ap (λ ls. saturated (made_removed_under c.args.guards (level_threshold_under c.args.guards c.args.grid c.args.level c.args.layers.items) c.args.ring_limit ls)) e.snapped
@@ -52,10 +47,9 @@ returns-in-Ok-clause-removed_count g c =
 pub returns-in-Ok-clause-chosen : goal.returns-in-Ok-clause-chosen
 returns-in-Ok-clause-chosen g c =
     let e = c.snapped_layers-snapped.ensures in
-    c.in_ok-topology.ensures.chosen ∙ same_chosen c.nothing_is_new.ensures c.snapped_are_on.ensures c.args.guards c.args.level c.args.grid c.args.layers.items _ e.snapped c.requires.shapes c.requires.taken
+    c.in_ok-topology.ensures.chosen ∙ same_chosen c.nothing_is_new.ensures c.snapped_are_on.ensures c.protecting_on_grid.ensures c.built_cells_are_on.ensures c.args.guards c.args.level c.args.grid c.args.layers.items _ e.snapped c.requires.taken
 
 pub returns-in-Ok-clause-called : goal.returns-in-Ok-clause-called
 returns-in-Ok-clause-called g c =
     c.in_ok-topology.ensures.called
-    ∙ ap (λ ls. g.Q.Reducer.calls c.args.reducer.now ++ (if c.args.guards.no_crossings then [] else calls_at c.args.level (arcs_of_layers ls))) c.snapped_layers-snapped.ensures.snapped
-    ∙ ap (λ b. g.Q.Reducer.calls c.args.reducer.now ++ (if b then [] else calls_at c.args.level (arcs_of_layers (snapped_to c.args.grid c.args.layers.items)))) (sym (alone c.args.guards.no_crossings c.args.guards.keep_shapes c.requires.shapes))
+    ∙ ap (λ ls. g.Q.Reducer.calls c.args.reducer.now ++ (if is_at_once c.args.guards then [] else calls_at c.args.level (arcs_of_layers ls))) c.snapped_layers-snapped.ensures.snapped

@@ -1,7 +1,7 @@
 -- The outcome of building layers.
 use Rattle.std.proofs.Common.{◌≡◌, ◌∙◌, inl, inr, ℕ, suc, ◌<◌, ◌^◌, Bool, true, false, cond, List, ◌∷◌, length, map, Some, None, Ok, Err, ap, arith, refl, subst, sym}
 use Rattle.std.specs.List.{AllByRecursion}
-use Rattle.std.specs.Prelude.{IsUtf8}
+use Rattle.std.specs.Prelude.{◌||◌, IsUtf8}
 use Rattle.byte_ends.specs.Ends.{Fed, Drained}
 use Rattle.byte_ends.specs.Writes.{WritesAll, Sends as SendsText}
 use Rattle.byte_ends.specs.declared.sink.WriteFault.{WriteFault}
@@ -10,12 +10,12 @@ use Rattle.json_value.specs.Limits.{layer_depth, topology_depth}
 use Rattle.json_value.specs.Text.{json_text}
 use Rattle.geojson_types.specs.declared.counts.Counts.{Counts}
 use Rattle.geojson_types.specs.declared.layer.FeatureSet.TheVariants as set
-use Rattle.simplified_topology.specs.Guarded.{guarded_contents}
 use Rattle.topojson_types.specs.Decoding.{decoded}
 use Rattle.topojson_types.specs.Topologies.{Contents}
 use Rattle.topojson_types.specs.Validity.{AreDistinct}
 use Rattle.topojson_types.specs.Values.{topology_value}
 use Rattle.build_meaning.specs.Layers.{names_of}
+use Rattle.layer_topology.specs.Guarded.{is_at_once}
 use Rattle.layer_topology.specs.Written.{AreTaken, written as written_on}
 use Rattle.layer_topology.proofs.Guarded.{layers_under}
 use Rattle.topojson_meaning.specs.Laws.{IsStored}
@@ -41,16 +41,20 @@ text_for o ls = json_text (topology_value (written_for o ls))
 -- ---- what is written
 
 module _ (laws : BuildingLaws) (o : Options) where
-  -- where crossings may be made it is what is written without a guard
-  plainly : (ls : Named) → o.guards.no_crossings ≡ false → written_on o.grid (threshold_for o ls) o.ring_limit ls ≡ written_for o ls
-  plainly ls e =
-      sym (ap (λ s. layers_under o.grid (threshold_for o ls) o.ring_limit ls s o.guards.no_crossings) o.shapes
-      ∙ ap (λ b. cond b (guarded_contents true (threshold_for o ls) o.ring_limit (whole_for o ls)) (written_on o.grid (threshold_for o ls) o.ring_limit ls)) e)
+  -- without guards it is what is written without one
+  plainly : (ls : Named) → is_at_once o.guards ≡ false → written_on o.grid (threshold_for o ls) o.ring_limit ls ≡ written_for o ls
+  plainly ls e = by o.guards.keep_shapes o.guards.no_crossings e
+    where
+      by : (s b : Bool) → b || s ≡ false → written_on o.grid (threshold_for o ls) o.ring_limit ls ≡ layers_under o.grid (threshold_for o ls) o.ring_limit ls s b
+      by false false e = refl
+      by false true e = absurd cc
+      by true false e = absurd cc
+      by true true e = absurd cc
 
-  guarded : (ls : Named) → AreTaken o.grid ls → o.guards.no_crossings ≡ true → IsGuarded o ls (written_for o ls)
+  guarded : (ls : Named) → AreTaken o.grid ls → is_at_once o.guards ≡ true → IsGuarded o ls (written_for o ls)
   guarded ls are e =
       let under = laws.under o.guards o.grid (threshold_for o ls) o.ring_limit ls are in
-      record { valid = under.valid; whole = laws.written.back o.grid 0 0 ls are; labels_stay = under.labels_stay; crosses = under.crosses e; left = sym under.simplified; share = laws.share o.guards o.level (whole_for o ls) (simplifying_level_of o) }
+      record { valid = under.valid; whole = laws.written.back o.grid 0 0 ls are; labels_stay = under.labels_stay; crosses = under.crosses; stays = under.stays; left = sym under.simplified; share = laws.share o.guards o.level (whole_for o ls) (simplifying_level_of o) }
 
   says : (ls : Named) → AllTaken ls → AreDistinct (names_of ls) → AllByRecursion (λ n. IsUtf8 n) (names_of ls) → length (written_for o ls).arcs < 2 ^ 63 → SaysTopology o ls (text_for o ls)
   says ls taken distinct texts few =

@@ -3,7 +3,7 @@ use Rattle.std.proofs.Common.{◌≡◌, ℕ, Bool, true, false, cond, List, [],
 use Rattle.std.proofs.Math.Seq.{take-length}
 use Rattle.std.proofs.lemmas.List.{append_cancel_left}
 use Rattle.std.specs.Io.KnownBytes.{Appends}
-use Rattle.std.specs.Prelude.{IfSome}
+use Rattle.std.specs.Prelude.{◌||◌, IfSome}
 use Rattle.std.specs.List.{AllByRecursion}
 use Rattle.byte_ends.specs.Ends.{Fed, Drained, Takes}
 use Rattle.byte_ends.specs.Writes.{WritesAll}
@@ -20,7 +20,7 @@ use Rattle.reports.specs.declared.summary.Summary.{Summary}
 use Rattle.layer_topology.specs.declared.guards.Guards.{Guards}
 use Rattle.layer_topology.specs.declared.level.Level.{Level}
 use Rattle.layer_topology.specs.declared.level.Level.TheVariants.{Fixed}
-use Rattle.layer_topology.specs.Guarded.{simplified_under}
+use Rattle.layer_topology.specs.Guarded.{is_at_once, simplified_under}
 use Rattle.layer_topology.specs.GuardedLaws.{GuardedAtZero, WrittenUnderLaw}
 use Rattle.layer_topology.specs.GuardedWritten.{written_under}
 use Rattle.layer_topology.specs.GuardedLevels.{guarded_chosen, guarded_threshold, sparing_chosen, sparing_threshold}
@@ -100,7 +100,7 @@ module _ (one_value : OneValue) (o : Options) (olds news : Sources) (sink_old si
           let e = some_same d.features (Many l.1.features) (decoded d.given.contents l.0) d.given.found (rw contents h.0) in
           subst (λ fs. WritesAll out_old out_new 0 (features_text fs) sent) e d.written
 
-  writes_expected : o.guards.no_crossings ≡ false → WritesEach (expected_for o is.layers) source
+  writes_expected : is_at_once o.guards ≡ false → WritesEach (expected_for o is.layers) source
   writes_expected e = writes_each (expected_for o is.layers) (is.builds.topology.features e)
 
   summary_same : (after : Fed) (summary : Summary) → IsSummarised source after summary → summary ≡ summary_of (written_for o is.layers)
@@ -110,7 +110,7 @@ module _ (one_value : OneValue) (o : Options) (olds news : Sources) (sink_old si
   zero_is : GuardedAtZero → AreTaken o.grid is.layers → threshold_for o is.layers ≡ 0 → o.ring_limit ≡ 0 → is.builds.topology.contents ≡ written_on o.grid 0 0 is.layers
   zero_is at_zero are zero none =
       is.builds.topology.shared ∙ ap (λ z. written_under o.guards o.grid z o.ring_limit is.layers) zero ∙ ap (λ z. written_under o.guards o.grid 0 z is.layers) none
-      ∙ at_zero o.guards o.grid is.layers o.shapes are
+      ∙ at_zero o.guards o.grid is.layers are
 
   -- what is left of it by a threshold and a limit under guards is what is then written of the layers by both under them
   simplified_is : GuardedAtZero → WrittenUnderLaw → AreTaken o.grid is.layers → (guards : Guards) (t limit : ℕ) → threshold_for o is.layers ≡ 0 → o.ring_limit ≡ 0
@@ -161,10 +161,10 @@ module _ (one_value : OneValue) (valid : ReadsValid) (may : ReadAreTaken) (o p :
       ∙ ap (λ g. written_on g 0 0 full.layers) (sym grid) ∙ ap (λ ls. written_on p.grid 0 0 ls) (sym same)
 
   -- so at one level both have the same threshold, with guards by what is written at zero, and without by the arcs of the layers
-  same_thresholds : GuardedAtZero → (p.guards.no_crossings ≡ false → HasEachArc o full.layers) → topology_threshold p.guards p.level full.builds.topology.contents ≡ threshold_for p small.layers
+  same_thresholds : GuardedAtZero → (is_at_once p.guards ≡ false → HasEachArc o full.layers) → topology_threshold p.guards p.level full.builds.topology.contents ≡ threshold_for p small.layers
   same_thresholds at_zero has = by p.guards.keep_shapes p.guards.no_crossings has
     where
-      by : (s b : Bool) → (b ≡ false → HasEachArc o full.layers)
+      by : (s b : Bool) → (b || s ≡ false → HasEachArc o full.layers)
           → cond s (sparing_threshold b p.level full.builds.topology.contents)
           (cond b (guarded_threshold true [] p.level (arc_positions full.builds.topology.contents)) (threshold_at p.level (arc_positions full.builds.topology.contents)))
           ≡ cond s (sparing_threshold b p.level (whole_for p small.layers))
@@ -173,10 +173,10 @@ module _ (one_value : OneValue) (valid : ReadsValid) (may : ReadAreTaken) (o p :
       by false true has = ap (λ y. guarded_threshold true [] p.level (arc_positions y)) (whole_at_zero at_zero)
       by false false has = ap (threshold_at p.level) (same_arcs (has refl))
 
-  chosen_same : GuardedAtZero → (p.guards.no_crossings ≡ false → HasEachArc o full.layers) → topology_chosen p.guards p.level full.builds.topology.contents ≡ chosen_for p small.layers
+  chosen_same : GuardedAtZero → (is_at_once p.guards ≡ false → HasEachArc o full.layers) → topology_chosen p.guards p.level full.builds.topology.contents ≡ chosen_for p small.layers
   chosen_same at_zero has = by p.guards.keep_shapes p.guards.no_crossings has
     where
-      by : (s b : Bool) → (b ≡ false → HasEachArc o full.layers)
+      by : (s b : Bool) → (b || s ≡ false → HasEachArc o full.layers)
           → cond s (sparing_chosen b p.level full.builds.topology.contents)
           (cond b (guarded_chosen true [] p.level (arc_positions full.builds.topology.contents)) (chosen_at p.level (arc_positions full.builds.topology.contents)))
           ≡ cond s (sparing_chosen b p.level (whole_for p small.layers))
@@ -185,7 +185,7 @@ module _ (one_value : OneValue) (valid : ReadsValid) (may : ReadAreTaken) (o p :
       by false true has = ap (λ y. guarded_chosen true [] p.level (arc_positions y)) (whole_at_zero at_zero)
       by false false has = ap (chosen_at p.level) (same_arcs (has refl))
 
-  same_chosen : GuardedAtZero → (p.guards.no_crossings ≡ false → HasEachArc o full.layers) → IsSimplified p.guards p.level p.ring_limit source after out_old out_new simplified
+  same_chosen : GuardedAtZero → (is_at_once p.guards ≡ false → HasEachArc o full.layers) → IsSimplified p.guards p.level p.ring_limit source after out_old out_new simplified
       → simplified.chosen ≡ more_report.chosen
   same_chosen at_zero has s =
       ap (λ (r : Report). r.chosen) s.reported

@@ -41,7 +41,7 @@ module _ (o : Options) (olds news : Sources) (sink_old sink_new : Drained) (repo
   each [] h = tt
   each (l ∷ ls) h = (subst (FileHasOutcome (object_text l.0) from.bytes) (ap text_if_any h.0) (comes (object_text l.0)), each ls h.1)
 
-  all_come : o.guards.no_crossings ≡ false → AllByRecursion (λ l. FileHasOutcome (object_text l.0) from.bytes (Ok (features_text (Many l.1.features)))) (expected_for o is.layers)
+  all_come : is_at_once o.guards ≡ false → AllByRecursion (λ l. FileHasOutcome (object_text l.0) from.bytes (Ok (features_text (Many l.1.features)))) (expected_for o is.layers)
   all_come plain = each (expected_for o is.layers) (is.builds.topology.features plain)
 
   of_written : {A : Type 0} (asked : Contents → Counts → Result A FileFault) → FileHasOutcome asked from.bytes (asked (written_for o is.layers) no_counts)

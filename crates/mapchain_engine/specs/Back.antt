@@ -11,6 +11,7 @@ use Rattle.inputs.specs.Texts.{max_input}
 use Rattle.inputs.specs.Sources.{Sources}
 use Rattle.layer_topology.specs.declared.guards.Guards.{Guards}
 use Rattle.layer_topology.specs.declared.level.Level.{Level}
+use Rattle.layer_topology.specs.Guarded.{is_at_once}
 use Rattle.mapchain_engine.specs.Laws.{IsWrittenTo}
 use Rattle.reports.specs.declared.report.Report.{Report}
 use Rattle.reports.specs.declared.summary.Summary.{Summary}
@@ -24,13 +25,13 @@ use Rattle.mapchain_engine.specs.SimplifyOutcomes.{simplified, FollowsSimplified
 use Rattle.mapchain_engine.specs.Simplified.{simplified_contents_text, report_of, IsSimplifyFault}
 
 -- Where they are no more than an input may have, what a build wrote comes, with the name of each layer, to the text of the features that
--- are expected of it, where crossings might be made; with any name to the text of the features that its object of this name decodes to; to
+-- are expected of it, where it had no guards; with any name to the text of the features that its object of this name decodes to; to
 -- the summary of the topology that is built, and at each level and ring limit to what is left of that topology. So `to_geo`,
 -- `stat` and `simplify`, which answer the outcome of the bytes, refuse it only for memory or a device.
 abbrev pub ComesBack : Type 0
 ComesBack = (o : Options) (olds news : Sources) (sink_old sink_new : Drained) (report : Report) (is : IsBuilt o olds news sink_old sink_new report)
     (source : Fed) (from : IsWrittenTo sink_old sink_new source) → length from.bytes ≤ max_input
-    → (o.guards.no_crossings ≡ false → AllByRecursion (λ l. FileHasOutcome (object_text l.0) from.bytes (Ok (features_text (Many l.1.features)))) (expected_for o is.layers))
+    → (is_at_once o.guards ≡ false → AllByRecursion (λ l. FileHasOutcome (object_text l.0) from.bytes (Ok (features_text (Many l.1.features)))) (expected_for o is.layers))
     × ((name : List ℕ) → FileHasOutcome (object_text name) from.bytes (object_text name (written_for o is.layers) no_counts))
     × FileHasOutcome summarised from.bytes (Ok (summary_of (written_for o is.layers)))
     × ((guards : Guards) (level : Level) (limit : ℕ) → FileHasOutcome (simplified guards level limit) from.bytes (simplified guards level limit (written_for o is.layers) no_counts))
@@ -58,11 +59,11 @@ OrMemory P (Ok a) = P a
 OrMemory P (Err e) = e ≡ Memory
 
 -- Where they are no more than an input may have, and no device has failed, `to_geo` with the name of a layer writes, of what a build
--- wrote for which crossings might be made, the text of the features that are expected of that layer,
+-- wrote without guards, the text of the features that are expected of that layer,
 abbrev pub GeoIsNeverRefused : Type 0
 GeoIsNeverRefused = (o : Options) (olds news : Sources) (sink_old sink_new : Drained) (report : Report) (is : IsBuilt o olds news sink_old sink_new report)
     (source after : Fed) (out_old out_new : Drained) (result : Result ℕ FileFault) (from : IsWrittenTo sink_old sink_new source) → length from.bytes ≤ max_input
-    → after.failures ≡ 0 → out_new.failures ≡ 0 → o.guards.no_crossings ≡ false
+    → after.failures ≡ 0 → out_new.failures ≡ 0 → is_at_once o.guards ≡ false
     → AllByRecursion (λ l. AnswersGeo l.0 source after out_old out_new result → OrMemory (λ sent. WritesAll out_old out_new 0 (features_text (Many l.1.features)) sent) result)
     (expected_for o is.layers)
 

@@ -21,7 +21,7 @@ use Rattle.build_meaning.specs.Layers.{layers_of, names_of}
 use Rattle.cutter.specs.Segments.{line_segments}
 use Rattle.effective_area.specs.Calls.{Call}
 use Rattle.linework.specs.Linework.{linework}
-use Rattle.layer_topology.specs.Guarded.{simplified_under, CrossesNoMore}
+use Rattle.layer_topology.specs.Guarded.{is_at_once, simplified_under, CrossesNoMore, KeepsShapes}
 use Rattle.layer_topology.specs.GuardedLaws.{ShareStaysUnder, WrittenUnderLaw}
 use Rattle.layer_topology.specs.GuardedLevels.{level_chosen_under, level_threshold_under, KeepsShareUnder}
 use Rattle.layer_topology.specs.GuardedWritten.{calls_under, lines_dropped_under, positions_removed_under, written_under}
@@ -54,7 +54,7 @@ abbrev pub chosen_for : Options → Named → Option ℕ
 chosen_for o layers = level_chosen_under o.guards o.grid o.level layers
 
 -- what a reducer is asked for: to reduce each of their arcs at the threshold that is given, in order, and nothing for a share, nor where no
--- crossing may be made
+-- crossing may be made or shapes stay
 abbrev pub calls_for : Options → Named → List Call
 calls_for o layers = calls_under o.guards o.grid o.level layers
 
@@ -66,7 +66,7 @@ written_for o layers = written_under o.guards o.grid (threshold_for o layers) o.
 abbrev pub whole_for : Options → Named → Contents
 whole_for o layers = written_on o.grid 0 0 layers
 
--- the features that are expected of what is written where crossings may be made, by layers
+-- the features that are expected of what is written where crossings may be made and shapes needn't stay, by layers
 abbrev pub expected_for : Options → Named → Named
 expected_for o layers = expected (threshold_for o layers) o.ring_limit (snapped_for o layers)
 
@@ -84,21 +84,23 @@ pub record BuildingLaws : Type 0 where
 
 -- ---- what is written
 
--- Where no crossing may be made, the topology is valid, and it is what is left of the one that is written of the layers at zero where this is simplified
--- under the same guards. Decoding that one gives each layer's features whole; the topology has the same names, identifiers and properties, and
--- no more of its segments cross, lie on one another, or touch but at an end of both, and none where none of that one's do. Of the positions
--- between the ends of that one's arcs at least the share that is asked for stays, before lines are dropped.
+-- Where no crossing may be made or shapes stay, the topology is valid, and it is what is left of the one that is written of the layers at zero where
+-- this is simplified under the same guards. Decoding that one gives each layer's features whole; the topology has the same names, identifiers and
+-- properties. Where no crossing may be made, no more of its segments cross, lie on one another, or touch but at an end of both, and none where none of
+-- that one's do. Where shapes stay, each feature keeps the outer ring that encloses most in that one, of those with four positions or more. Of the
+-- positions between the ends of that one's arcs at least the share that is asked for stays, before lines are dropped.
 pub record IsGuarded (o : Options) (layers : Named) (contents : Contents) : Type 0 where
   pub valid : IsTopology contents
   pub whole : AllByRecursion (λ l. decoded (whole_for o layers) l.0 ≡ Some (set.Many l.1.features)) (expected 0 0 (snapped_for o layers))
   pub labels_stay : labels contents ≡ labels (whole_for o layers)
-  pub crosses : CrossesNoMore (whole_for o layers) contents
+  pub crosses : o.guards.no_crossings ≡ true → CrossesNoMore (whole_for o layers) contents
+  pub stays : o.guards.keep_shapes ≡ true → KeepsShapes o.guards.no_crossings (threshold_for o layers) (whole_for o layers) contents
   pub left : contents ≡ simplified_under o.guards (threshold_for o layers) o.ring_limit (whole_for o layers)
   pub share : KeepsShareUnder o.guards o.level (whole_for o layers)
 
 -- The text is UTF-8, and JSON (RFC 8259) of a topology (TopoJSON 1.0) whose objects have the names of the layers, in order. Decoding each gives
 -- the features that are expected of its layer, snapped to the grid that is asked for, at the threshold and the least ring area, unless no
--- crossing may be made; then it is what is left of the whole topology. The topology is the one that is written of the layers, the text is
+-- crossing may be made or shapes stay; then it is what is left of the whole topology. The topology is the one that is written of the layers, the text is
 -- its text, and before reduction each segment of the layers' lines lies once, in exactly one arc.
 pub record SaysTopology (o : Options) (layers : Named) (text : List ℕ) : Type 0 where
   pub utf8 : IsUtf8 text
@@ -107,8 +109,8 @@ pub record SaysTopology (o : Options) (layers : Named) (text : List ℕ) : Type 
   pub contents : Contents
   pub stands : topology value ≡ Ok (contents, no_counts)
   pub names : map (λ b. b.0) contents.objects ≡ names_of layers
-  pub features : o.guards.no_crossings ≡ false → AllByRecursion (λ l. decoded contents l.0 ≡ Some (set.Many l.1.features)) (expected_for o layers)
-  pub guarded : o.guards.no_crossings ≡ true → IsGuarded o layers contents
+  pub features : is_at_once o.guards ≡ false → AllByRecursion (λ l. decoded contents l.0 ≡ Some (set.Many l.1.features)) (expected_for o layers)
+  pub guarded : is_at_once o.guards ≡ true → IsGuarded o layers contents
   pub shared : contents ≡ written_for o layers
   pub written : text ≡ json_text (topology_value contents)
   pub once : AreOnceIn (all_arcs (linework (layers_of (snapped_for o layers)))) (line_segments (linework (layers_of (snapped_for o layers))))

@@ -8,6 +8,7 @@ use Rattle.build_meaning.specs.Expected.{kept_line}
 use Rattle.build_meaning.specs.Laws.{whole_line}
 use Rattle.build_meaning.specs.Layers.{layers_of, named_lines_and_rings}
 use Rattle.layer_topology.specs.declared.level.Level.TheVariants.{Fixed}
+use Rattle.layer_topology.specs.Guarded.{is_at_once}
 use Rattle.linework.specs.Linework.{linework}
 use Rattle.reports.specs.declared.report.Report.{Report}
 use Rattle.reports.specs.declared.summary.Summary.{Summary}
@@ -36,10 +37,10 @@ WritesEach layers source =
     AllByRecursion (λ l. (after : Fed) (out_old out_new : Drained) (sent : ℕ) → IsDecoded l.0 source after out_old out_new sent
     → WritesAll out_old out_new 0 (features_text (Many l.1.features)) sent) layers
 
--- what a build wrote for which crossings might be made is decoded to the features that are expected of each layer
+-- what a build wrote without guards is decoded to the features that are expected of each layer
 abbrev pub DecodesBack : Type 0
 DecodesBack = (o : Options) (olds news : Sources) (sink_old sink_new : Drained) (report : Report) (is : IsBuilt o olds news sink_old sink_new report)
-    (source : Fed) → o.guards.no_crossings ≡ false → IsWrittenTo sink_old sink_new source → WritesEach (expected_for o is.layers) source
+    (source : Fed) → is_at_once o.guards ≡ false → IsWrittenTo sink_old sink_new source → WritesEach (expected_for o is.layers) source
 
 -- at a threshold and a ring limit of zero each line of the layers, snapped to the grid that is asked for, is expected as it is, with
 -- equal neighbours as one position, a ring from its start, unless it has too few positions
@@ -70,11 +71,11 @@ HasEachArc o layers = arc_positions (written_for o layers) ≡ arcs_of_layers (s
 
 -- The topology that a build at a threshold and a ring limit of zero wrote, simplified by the level and the ring limit of another build of the same
 -- layers on the same grid, and under its guards, is byte for byte what that one writes, and both choose the same threshold, where each arc of the
--- layers is in it, or no crossing may be made.
+-- layers is in it, or no crossing may be made, or shapes stay.
 abbrev pub SimplifiesByLevel : Type 0
 SimplifiesByLevel = (o p : Options) (olds news : Sources) (sink_old sink_new : Drained) (report : Report) (full : IsBuilt o olds news sink_old sink_new report)
     (more_olds more_news : Sources) (more_old more_new : Drained) (more_report : Report) (small : IsBuilt p more_olds more_news more_old more_new more_report)
-    → threshold_for o full.layers ≡ 0 → o.ring_limit ≡ 0 → p.grid ≡ o.grid → small.layers ≡ full.layers → (p.guards.no_crossings ≡ false → HasEachArc o full.layers)
+    → threshold_for o full.layers ≡ 0 → o.ring_limit ≡ 0 → p.grid ≡ o.grid → small.layers ≡ full.layers → (is_at_once p.guards ≡ false → HasEachArc o full.layers)
     → (source after : Fed) (out_old out_new : Drained) (simplified : Report) → IsWrittenTo sink_old sink_new source
     → IsSimplified p.guards p.level p.ring_limit source after out_old out_new simplified
     → Takes out_old out_new small.text (length small.text) × (simplified.chosen ≡ more_report.chosen)

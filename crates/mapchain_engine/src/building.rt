@@ -86,8 +86,8 @@ fn build_layers<Q: Reducer, R: Feed, W: Drain, K: Watch>(
 
 /// Builds the topology (TopoJSON 1.0) of named layers (RFC 7946), each read from its source to the end, and writes it.
 ///
-/// A border that lines and rings of the layers share is one arc, which the reducer reduces once. Where no crossing may be made, all arcs
-/// are reduced at once in place of that. Names are looked at first, in order:
+/// A border that lines and rings of the layers share is one arc, which the reducer reduces once. Where no crossing may be made or shapes stay,
+/// all arcs are reduced at once in place of that. Names are looked at first, in order:
 /// up to there nothing is read. Then each layer is read, parsed and modelled before the next. Nothing is written before all layers
 /// are taken, so on each fault but `Write` the sink is as it was. On `Write` it took a prefix of the topology's text, of the length
 /// that is reported. At `Ok` the sink is flushed.
@@ -105,11 +105,12 @@ pub fn build<Q: Reducer, R: Feed, W: Drain>(
     // that are expected of its layer, snapped to the grid that is asked for: identifiers and properties unchanged, each line cut at
     // the junctions of all lines, each piece reduced at the threshold in the line's own direction and joined again, rings from their
     // starts, without what is dropped, as rings that enclose less than is asked for. The report says exactly what is dropped, and before
-    // reduction each segment of the lines lies once, in exactly one arc. Where no crossing may be made, what was written is in place of that what is
-    // left of the topology that is written at zero, whose features decode whole: no more pairs of segments of it meet badly.
+    // reduction each segment of the lines lies once, in exactly one arc. Where no crossing may be made or shapes stay, what was written is in place of
+    // that what is left of the topology that is written at zero, whose features decode whole: under the first no more pairs of segments of it meet badly,
+    // and under the second each feature keeps the outer ring that encloses most.
     ensures built { IfOk result (λ report. IsBuilt options.now sources.old sources.new sink.old sink.new report) }
     // The reducer was asked to reduce each arc of all lines at the threshold, in order, or nothing where a share is asked for: each arc is
-    // weighed once in place of that; and nothing where no crossing may be made.
+    // weighed once in place of that; and nothing where no crossing may be made or shapes stay.
     ensures reduced { IfOk result (λ _. CallsForLayers options.now sources.old sources.new (Q.calls reducer.old) (Q.calls reducer.new)) }
     // Every other fault is one that the sources or their bytes have, or a prefix of that text was written.
     ensures refused { IfErr result (λ e. (name_fault (map (λ s. s.0) sources.old) ≡ Some e)

@@ -19,7 +19,7 @@ use layer_topology::{guarded_at_zero, written_under_law};
 use simplified_topology::snapped_are_on;
 use topojson_meaning::topology_is_valid;
 
-/// What `build` wrote, at any threshold, where crossings might be made, `to_geo` reads again: with the name of a layer, answering `Ok`, it writes the text of the
+/// What `build` wrote, at any threshold, without guards, `to_geo` reads again: with the name of a layer, answering `Ok`, it writes the text of the
 /// features that are expected of this layer, the same as in the contract of `build`.
 pub fn built_text_decodes_back()
     ensures { DecodesBack }
@@ -27,8 +27,8 @@ pub fn built_text_decodes_back()
     one_value();
 }
 
-/// What `build` wrote, if it is no more than `MAX_INPUT` bytes, gives what is expected: `to_geo` with the name of a layer, where crossings
-/// might be made, `stat` and `simplify` answer exactly that by their contracts, unless memory or a device fails.
+/// What `build` wrote, if it is no more than `MAX_INPUT` bytes, gives what is expected: `to_geo` with the name of a layer, where no guard was
+/// asked for, `stat` and `simplify` answer exactly that by their contracts, unless memory or a device fails.
 pub fn built_text_comes_back()
     ensures { ComesBack }
 {}
@@ -73,10 +73,10 @@ pub fn simplified_text_is_built()
     read_layers_are_taken();
 }
 
-/// What `build` wrote at a threshold and a ring limit of zero, where each arc of the layers is in it, or no crossing may be made, simplified by
+/// What `build` wrote at a threshold and a ring limit of zero, where each arc of the layers is in it, or a guard is asked for, simplified by
 /// the level and the ring limit of another build of the same layers on the same grid, under its guards, is byte for byte what that one writes, and
-/// both choose the same threshold. An arc of the layers isn't in it where only holes of dropped outer rings have it: where crossings may be made,
-/// `build` counts its positions for a share.
+/// both choose the same threshold. An arc of the layers isn't in it where only holes of dropped outer rings have it: without guards `build` counts
+/// its positions for a share.
 pub fn simplified_by_level_is_built()
     ensures { SimplifiesByLevel }
 {

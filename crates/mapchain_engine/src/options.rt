@@ -1,5 +1,5 @@
 // What is asked for.
-ghost use Rattle.std.specs.Prelude.{◌≡◌, false, true};
+ghost use Rattle.std.specs.Prelude.{◌≡◌, true};
 ghost use Rattle.mapchain_engine.specs.Ranges.{is_in_range};
 
 use layer_topology::{Guards, Level};
@@ -9,7 +9,7 @@ use layer_topology::{Guards, Level};
 pub struct Options {
     /// The number of grid cells along each axis, from 2 to 10^9, that positions are snapped to, if any.
     pub grid: Option<u32>,
-    /// What reduction may not do. Nothing can be asked of shapes yet.
+    /// What reduction may not do.
     pub guards: Guards,
     /// How much of the detail of lines stays: a threshold of at most twice `AREA_LIMIT`, or a share of at most one.
     pub level: Level,
@@ -22,5 +22,4 @@ pub struct Options {
     pub seed: u64,
 
     ghost in_range: { is_in_range grid level ring_limit ≡ true },
-    ghost shapes: { guards.keep_shapes ≡ false },
 }

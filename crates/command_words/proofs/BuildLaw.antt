@@ -14,7 +14,7 @@ use Rattle.clap.specs.declared.parser.matches.ValueSource.TheVariants.{CommandLi
 use Rattle.clap.specs.Faults.{check_fault, level_fault, settle_fault, walk_fault}
 use Rattle.clap.specs.declared.builder.value_parser.ValueParser.TheVariants as vp
 use Rattle.clap.proofs.OnLiterals.{clap_on_literals}
-use Rattle.command_words.specs.Asked.{Asked, Ordered, build, build_in, exact_in, grid_at, grid_in, keep_in, layers_in, layers_of, no_crossings_in, order_of, output_in, ring_area_in, where_none}
+use Rattle.command_words.specs.Asked.{Asked, Ordered, build, build_in, exact_in, grid_at, grid_in, keep_in, keep_shapes_in, layers_in, layers_of, no_crossings_in, order_of, output_in, ring_area_in, where_none}
 use Rattle.command_words.specs.Written.{flag_word, value_word}
 use Rattle.command_words.proofs.CommandLevels.{asked_at, first_text, flag_read, more_words, no_fault, no_level_fault, or_else_nil, shape_of, text_read}
 use Rattle.command_words.proofs.Getters.{build_asked}
@@ -68,6 +68,10 @@ exact_taken = record { walks = λ rows new. ap between (values_replace (codes "e
 no_crossings_taken : Takes build_shape (flag_word (codes "no-crossings")) (flag_row (codes "no-crossings"))
 unfolding clap_on_literals
 no_crossings_taken = record { walks = λ rows new. ap between (values_replace (codes "no-crossings") AsWritten CommandLine (codes "true" ∷ []) rows new); faultless = λ rows new. rw new refl }
+
+keep_shapes_taken : Takes build_shape (flag_word (codes "keep-shapes")) (flag_row (codes "keep-shapes"))
+unfolding clap_on_literals
+keep_shapes_taken = record { walks = λ rows new. ap between (values_replace (codes "keep-shapes") AsWritten CommandLine (codes "true" ∷ []) rows new); faultless = λ rows new. rw new refl }
 
 abbrev pub is_taken : Text → Bool
 is_taken cells = accepts false (vp.Signed (pos 2) (pos 1000000000)) cells
@@ -130,18 +134,18 @@ cells_read : (o : Option Text) → option_and_then row_text (option_or (option_o
 cells_read None = refl
 cells_read (Some text) = refl
 
-module _ (output cells area keep : Option Text) (ring_area : Text) (no_crossings exact : Bool) (word : Text) (words : List Text) (fits : length words < usize_max) (taken : IfSome cells (λ c. is_taken c ≡ true)) where
+module _ (output cells area keep : Option Text) (ring_area : Text) (no_crossings keep_shapes exact : Bool) (word : Text) (words : List Text) (fits : length words < usize_max) (taken : IfSome cells (λ c. is_taken c ≡ true)) where
   abbrev settings : List Setting
   settings = value (codes "output") AsWritten output ∷ value (codes "grid") WithoutMinus cells ∷ value (codes "min-area") AsWritten area
       ∷ value (codes "keep") AsWritten keep ∷ value (codes "min-ring-area") AsWritten (Some ring_area)
-      ∷ flag (codes "no-crossings") no_crossings ∷ flag (codes "exact") exact ∷ []
+      ∷ flag (codes "no-crossings") no_crossings ∷ flag (codes "keep-shapes") keep_shapes ∷ flag (codes "exact") exact ∷ []
 
   grids_taken : (o : Option Text) → IfSome o (λ c. is_taken c ≡ true) → IfSome o (λ c. Takes build_shape (value_word (codes "grid") c) (value_row (codes "grid") WithoutMinus c))
   grids_taken None h = tt
   grids_taken (Some c) h = grid_taken c h
 
   all_taken : TakesAll build_shape settings
-  all_taken = (any_given output _ output_taken, (grids_taken cells taken, (any_given area _ area_taken, (any_given keep _ keep_taken, (ring_area_taken ring_area, (no_crossings_taken, (exact_taken, tt)))))))
+  all_taken = (any_given output _ output_taken, (grids_taken cells taken, (any_given area _ area_taken, (any_given keep _ keep_taken, (ring_area_taken ring_area, (no_crossings_taken, (keep_shapes_taken, (exact_taken, tt))))))))
 
   abbrev rows : List Row
   rows = rows_given settings
@@ -209,6 +213,9 @@ module _ (output cells area keep : Option Text) (ring_area : Text) (no_crossings
   no_crossings_read : no_crossings_in rows_at_end ≡ no_crossings
   no_crossings_read = ap (λ (o : Option Text). bytes_eq (unwrap_or o []) (codes "true")) (at_end (codes "no-crossings")) ∙ flag_read (codes "no-crossings") no_crossings
 
+  keep_shapes_read : keep_shapes_in rows_at_end ≡ keep_shapes
+  keep_shapes_read = ap (λ (o : Option Text). bytes_eq (unwrap_or o []) (codes "true")) (at_end (codes "keep-shapes")) ∙ flag_read (codes "keep-shapes") keep_shapes
+
   exact_read : exact_in rows_at_end ≡ exact
   exact_read = ap (λ (o : Option Text). bytes_eq (unwrap_or o []) (codes "true")) (at_end (codes "exact")) ∙ flag_read (codes "exact") exact
 
@@ -216,9 +223,9 @@ module _ (output cells area keep : Option Text) (ring_area : Text) (no_crossings
   layers_read = ap (λ (o : Option Row). layers_of (unwrap_or (option_map (λ (r : Row). r.values) o) [])) layers_found
 
   pub build_law : (grid : Option ℕ) (layers : List (Text × Text)) → grid_at (option_map without_minus cells) ≡ Some grid → layers_of (word ∷ words) ≡ Some layers
-      → (is_some area && is_some keep) ≡ false → order_of (codes "build" ∷ given) ≡ Some (build layers exact grid (unwrap_or area (codes "0")) keep ring_area no_crossings, output)
+      → (is_some area && is_some keep) ≡ false → order_of (codes "build" ∷ given) ≡ Some (build layers exact grid (unwrap_or area (codes "0")) keep ring_area no_crossings keep_shapes, output)
   build_law grid layers read named one =
-      asks ∙ order_asked rows_at_end output (build layers exact grid (unwrap_or area (codes "0")) keep ring_area no_crossings) output_read
-      (build_asked rows_at_end grid layers exact (unwrap_or area (codes "0")) keep ring_area no_crossings
+      asks ∙ order_asked rows_at_end output (build layers exact grid (unwrap_or area (codes "0")) keep ring_area no_crossings keep_shapes) output_read
+      (build_asked rows_at_end grid layers exact (unwrap_or area (codes "0")) keep ring_area no_crossings keep_shapes
       ((λ i. is_some (area_read i) && is_some (keep_read i)) ∙ one) (grid_read ∙ read) (layers_read ∙ named)
-      (sym exact_read) (ap (λ (o : Option Text). unwrap_or o (codes "0")) (sym area_read)) (sym keep_read) (sym ring_area_read) (sym no_crossings_read))
+      (sym exact_read) (ap (λ (o : Option Text). unwrap_or o (codes "0")) (sym area_read)) (sym keep_read) (sym ring_area_read) (sym no_crossings_read) (sym keep_shapes_read))

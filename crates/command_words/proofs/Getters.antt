@@ -19,7 +19,7 @@ use Rattle.command_words.specs.declared.words_fault.WordsFault.{WordsFault}
 use Rattle.command_words.specs.declared.words_fault.WordsFault.TheVariants.{GridRange, Help, Memory, NoEquals, Refused}
 use Rattle.clap.proofs.WalkLemmas.{first_value-rows, raw_values-rows}
 use Rattle.clap.proofs.ValueTestLemmas.{accepts-Accepts, Accepts-accepts}
-use Rattle.command_words.specs.Asked.{area_in, build, build_in, build_on, cells_of, exact_in, explains_in, grid_at, grid_in, has_both, keep_in, layer_words, layers_in, no_crossings_in, ring_area_in, where_none}
+use Rattle.command_words.specs.Asked.{area_in, build, build_in, build_on, cells_of, exact_in, explains_in, grid_at, grid_in, has_both, keep_in, keep_shapes_in, layer_words, layers_in, no_crossings_in, ring_area_in, where_none}
 
 now_or : (r : Option (Bor Text)) (x e : Bor Text) → x ≡ unwrap_or r e → x.now ≡ unwrap_or (option_map (λ s. s.now) r) e.now
 now_or None x e is = ap (λ (y : Bor Text). y.now) is
@@ -120,15 +120,15 @@ without_area f area a none = sym (ap (λ b. b && is_some (keep_in (rows_of f))) 
 
 -- ---- what `build` asks for
 
-pub build_asked : (rows : List Row) (grid : Option ℕ) (layers : List (Text × Text)) (exact : Bool) (area : Text) (keep : Option Text) (ring_area : Text) (no_crossings : Bool)
+pub build_asked : (rows : List Row) (grid : Option ℕ) (layers : List (Text × Text)) (exact : Bool) (area : Text) (keep : Option Text) (ring_area : Text) (no_crossings keep_shapes : Bool)
     → has_both rows ≡ false → grid_in rows ≡ Some grid → layers_in rows ≡ Some layers
-    → exact ≡ exact_in rows → area ≡ area_in rows → keep ≡ keep_in rows → ring_area ≡ ring_area_in rows → no_crossings ≡ no_crossings_in rows
-    → build_in rows ≡ Some (build layers exact grid area keep ring_area no_crossings)
-build_asked rows grid layers exact area keep ring_area no_crossings one g l x a k r n =
+    → exact ≡ exact_in rows → area ≡ area_in rows → keep ≡ keep_in rows → ring_area ≡ ring_area_in rows → no_crossings ≡ no_crossings_in rows → keep_shapes ≡ keep_shapes_in rows
+    → build_in rows ≡ Some (build layers exact grid area keep ring_area no_crossings keep_shapes)
+build_asked rows grid layers exact area keep ring_area no_crossings keep_shapes one g l x a k r n s =
     ap (λ (b : Bool). cond b None (option_and_then (λ n. option_map (build_on rows n) (layers_in rows)) (grid_in rows))) one
     ∙ ap (option_and_then (λ n. option_map (build_on rows n) (layers_in rows))) g
     ∙ ap (option_map (build_on rows grid)) l
-    ∙ (λ i. Some (build layers (sym x i) grid (sym a i) (sym k i) (sym r i) (sym n i)))
+    ∙ (λ i. Some (build layers (sym x i) grid (sym a i) (sym k i) (sym r i) (sym n i) (sym s i)))
 
 pub build_unasked : (rows : List Row) (grid : Option ℕ) → has_both rows ≡ false → grid_in rows ≡ Some grid → layers_in rows ≡ None → build_in rows ≡ None
 build_unasked rows grid one g l =

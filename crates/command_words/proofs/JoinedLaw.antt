@@ -17,10 +17,10 @@ same_exact : (exact : Bool) (words : List Text) → joined_from alone (and_flag 
 same_exact true words = ap (λ ws. codes "--exact" ∷ ws) (same_rest words)
 same_exact false words = same_rest words
 
-same_keep_shapes : (keep_shapes : Bool) (words : List Text)
-    → joined_from alone (and_flag (codes "keep-shapes") keep_shapes (codes "--" ∷ words)) ≡ and_flag (codes "keep-shapes") keep_shapes (codes "--" ∷ words)
-same_keep_shapes true words = ap (λ ws. codes "--keep-shapes" ∷ ws) (same_rest words)
-same_keep_shapes false words = same_rest words
+same_keep_shapes : (keep_shapes : Bool) (words : List Text) → joined_from alone words ≡ words
+    → joined_from alone (and_flag (codes "keep-shapes") keep_shapes words) ≡ and_flag (codes "keep-shapes") keep_shapes words
+same_keep_shapes true words h = ap (λ ws. codes "--keep-shapes" ∷ ws) h
+same_keep_shapes false words h = h
 
 same_no_crossings : (no_crossings : Bool) (words : List Text) → joined_from alone words ≡ words
     → joined_from alone (and_flag (codes "no-crossings") no_crossings words) ≡ and_flag (codes "no-crossings") no_crossings words
@@ -53,10 +53,11 @@ same_output None words joined_words h = h
 same_output (Some file) words joined_words h = ap (λ ws. value_word (codes "output") file ∷ ws) h
 
 joined_same : (o : Ordered) → joined (written o) ≡ written o
-joined_same (build layers exact grid area keep ring_area no_crossings, output) =
+joined_same (build layers exact grid area keep ring_area no_crossings keep_shapes, output) =
     let last = and_flag (codes "exact") exact (codes "--" ∷ map layer_word layers) in
-    let rest = and_flag (codes "no-crossings") no_crossings last in
-    let same = same_no_crossings no_crossings last (same_exact exact (map layer_word layers)) in
+    let shapes = and_flag (codes "keep-shapes") keep_shapes last in
+    let rest = and_flag (codes "no-crossings") no_crossings shapes in
+    let same = same_no_crossings no_crossings shapes (same_keep_shapes keep_shapes last (same_exact exact (map layer_word layers))) in
     let rings = ring_area_word ring_area ∷ rest in
     let levels = level_word area keep ∷ rings in
     let below = same_level rings rings (same_ring_area rest rest same ring_area) area keep in
@@ -64,7 +65,7 @@ joined_same (build layers exact grid area keep ring_area no_crossings, output) =
 joined_same (simplify area keep ring_area no_crossings keep_shapes path, output) =
     let last = and_flag (codes "keep-shapes") keep_shapes (codes "--" ∷ path ∷ []) in
     let rest = and_flag (codes "no-crossings") no_crossings last in
-    let same = same_no_crossings no_crossings last (same_keep_shapes keep_shapes (path ∷ [])) in
+    let same = same_no_crossings no_crossings last (same_keep_shapes keep_shapes (codes "--" ∷ path ∷ []) (same_rest (path ∷ []))) in
     let rings = ring_area_word ring_area ∷ rest in
     let levels = level_word area keep ∷ rings in
     ap (λ ws. codes "simplify" ∷ ws)
@@ -73,10 +74,11 @@ joined_same (geo name path, output) = ap (λ ws. codes "geo" ∷ ws) (same_after
 joined_same (stat crossings path, output) = ap (λ ws. codes "stat" ∷ ws) (same_after (and_value (codes "output") output (and_flag (codes "crossings") crossings (codes "--" ∷ path ∷ []))))
 
 joined_apart : (o : Ordered) → joined (written_apart o) ≡ written o
-joined_apart (build layers exact grid area keep ring_area no_crossings, output) =
+joined_apart (build layers exact grid area keep ring_area no_crossings keep_shapes, output) =
     let last = and_flag (codes "exact") exact (codes "--" ∷ map layer_word layers) in
-    let rest = and_flag (codes "no-crossings") no_crossings last in
-    let same = same_no_crossings no_crossings last (same_exact exact (map layer_word layers)) in
+    let shapes = and_flag (codes "keep-shapes") keep_shapes last in
+    let rest = and_flag (codes "no-crossings") no_crossings shapes in
+    let same = same_no_crossings no_crossings shapes (same_keep_shapes keep_shapes last (same_exact exact (map layer_word layers))) in
     let rings = ring_area_word ring_area ∷ rest in
     let apart = level_apart area keep (ring_area_apart ring_area rest) in
     let levels = level_word area keep ∷ rings in
@@ -85,7 +87,7 @@ joined_apart (build layers exact grid area keep ring_area no_crossings, output) 
 joined_apart (simplify area keep ring_area no_crossings keep_shapes path, output) =
     let last = and_flag (codes "keep-shapes") keep_shapes (codes "--" ∷ path ∷ []) in
     let rest = and_flag (codes "no-crossings") no_crossings last in
-    let same = same_no_crossings no_crossings last (same_keep_shapes keep_shapes (path ∷ [])) in
+    let same = same_no_crossings no_crossings last (same_keep_shapes keep_shapes (codes "--" ∷ path ∷ []) (same_rest (path ∷ []))) in
     let rings = ring_area_word ring_area ∷ rest in
     let apart = ring_area_apart ring_area rest in
     ap (λ ws. codes "simplify" ∷ ws)

@@ -18,7 +18,7 @@ use Rattle.command_words.specs.declared.request.Request.TheVariants.{Build, Simp
 
 -- its grid, if any, may have its number of cells
 abbrev Fits : Asked → Type 0
-Fits (build layers exact grid area keep ring_area no_crossings) = IfSome grid IsCells
+Fits (build layers exact grid area keep ring_area no_crossings keep_shapes) = IfSome grid IsCells
 Fits (simplify area keep ring_area no_crossings keep_shapes path) = Unit {0}
 Fits (geo name path) = Unit {0}
 Fits (stat crossings path) = Unit {0}
@@ -84,7 +84,7 @@ unless_refused [] o h = h
 unless_refused (k ∷ ks) o h = tt
 
 of_request : (request : Request) → Fits (asked request) → IsInRange request
-of_request (Build layers exact grid area keep ring_area no_crossings) h = h
+of_request (Build layers exact grid area keep ring_area no_crossings keep_shapes) h = h
 of_request (Simplify area keep ring_area no_crossings keep_shapes path) h = tt
 of_request (Geo name path) h = tt
 of_request (Stat crossings path) h = tt

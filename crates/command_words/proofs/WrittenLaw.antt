@@ -115,14 +115,14 @@ fits : (layers : List (Text × Text)) → suc (length layers) < usize_max → le
 fits layers few = let same = length_words layers in omega (arith, few)
 
 pub asked_as_written : (o : Ordered) → IsWritable o.0 → order_of (written o) ≡ Some o
-asked_as_written (build [] exact grid area keep ring_area no_crossings, output) can = absurd (omega (arith, can.1))
-asked_as_written (build (layer ∷ layers) exact grid area None ring_area no_crossings, output) can =
-    build_law output (option_map decimal grid) (Some area) None ring_area no_crossings exact (layer_word layer) (map layer_word layers) (fits layers can.2)
+asked_as_written (build [] exact grid area keep ring_area no_crossings keep_shapes, output) can = absurd (omega (arith, can.1))
+asked_as_written (build (layer ∷ layers) exact grid area None ring_area no_crossings keep_shapes, output) can =
+    build_law output (option_map decimal grid) (Some area) None ring_area no_crossings keep_shapes exact (layer_word layer) (map layer_word layers) (fits layers can.2)
     (grid_taken grid can.0) grid (layer ∷ layers) (grid_read grid can.0) (all_split (layer ∷ layers) can.3) refl
-asked_as_written (build (layer ∷ layers) exact grid area (Some share) ring_area no_crossings, output) can =
-    build_law output (option_map decimal grid) None (Some share) ring_area no_crossings exact (layer_word layer) (map layer_word layers) (fits layers can.2)
+asked_as_written (build (layer ∷ layers) exact grid area (Some share) ring_area no_crossings keep_shapes, output) can =
+    build_law output (option_map decimal grid) None (Some share) ring_area no_crossings keep_shapes exact (layer_word layer) (map layer_word layers) (fits layers can.2)
     (grid_taken grid can.0) grid (layer ∷ layers) (grid_read grid can.0) (all_split (layer ∷ layers) can.3) refl
-    ∙ (λ i. Some (build (layer ∷ layers) exact grid (sym can.4 i) (Some share) ring_area no_crossings, output))
+    ∙ (λ i. Some (build (layer ∷ layers) exact grid (sym can.4 i) (Some share) ring_area no_crossings keep_shapes, output))
 asked_as_written (simplify area None ring_area no_crossings keep_shapes path, output) can = simplify_law output (Some area) None ring_area path no_crossings keep_shapes refl
 asked_as_written (simplify area (Some share) ring_area no_crossings keep_shapes path, output) can =
     simplify_law output None (Some share) ring_area path no_crossings keep_shapes refl ∙ (λ i. Some (simplify (sym can i) (Some share) ring_area no_crossings keep_shapes path, output))

@@ -20,9 +20,9 @@ use Rattle.command_words.specs.declared.words_fault.WordsFault.{WordsFault}
 use Rattle.command_words.specs.declared.words_fault.WordsFault.TheVariants.{Memory}
 
 pub data Asked : Type 0 where
-  -- the names and paths of the layers, whether rounding is refused, the cells of the grid, the area, the share, the ring area, and whether no
-  -- crossing may be made
-  build : List (Text × Text) → Bool → Option ℕ → Text → Option Text → Text → Bool → Asked
+  -- the names and paths of the layers, whether rounding is refused, the cells of the grid, the area, the share, the ring area, whether no
+  -- crossing may be made, and whether shapes stay
+  build : List (Text × Text) → Bool → Option ℕ → Text → Option Text → Text → Bool → Bool → Asked
   -- the area, the share, the ring area, whether no crossing may be made, whether shapes stay, and the file
   simplify : Text → Option Text → Text → Bool → Bool → Text → Asked
   -- the object and the file
@@ -32,8 +32,8 @@ pub data Asked : Type 0 where
 
 -- a request as what it asks for
 abbrev pub asked : Request → Asked
-asked (Build layers exact grid area keep ring_area no_crossings) =
-    build (map (λ l. (l.0.now, l.1.now)) layers.items) exact grid area.now (option_map (λ k. k.now) keep) ring_area.now no_crossings
+asked (Build layers exact grid area keep ring_area no_crossings keep_shapes) =
+    build (map (λ l. (l.0.now, l.1.now)) layers.items) exact grid area.now (option_map (λ k. k.now) keep) ring_area.now no_crossings keep_shapes
 asked (Simplify area keep ring_area no_crossings keep_shapes path) =
     simplify area.now (option_map (λ k. k.now) keep) ring_area.now no_crossings keep_shapes path.now
 asked (Geo name path) = geo name.now path.now
@@ -119,7 +119,7 @@ layers_in rows = layers_of (layer_words rows)
 
 -- a build of these layers on this grid
 abbrev pub build_on : List Row → Option ℕ → List (Text × Text) → Asked
-build_on rows grid layers = build layers (exact_in rows) grid (area_in rows) (keep_in rows) (ring_area_in rows) (no_crossings_in rows)
+build_on rows grid layers = build layers (exact_in rows) grid (area_in rows) (keep_in rows) (ring_area_in rows) (no_crossings_in rows) (keep_shapes_in rows)
 
 -- what `build` asks for, which takes no share beside an area
 abbrev pub build_in : List Row → Option Asked

@@ -94,10 +94,11 @@ layers_rule = record (new_rule (codes "layers")) {
   range = Some (record { start_inclusive = 1; end_inclusive = usize_max });
 }
 
--- build [--grid N] [--min-area A] [--keep P/Q] [--min-ring-area B] [--no-crossings] [--exact] [-q] NAME=PATH.., with the common options
+-- build [--grid N] [--min-area A] [--keep P/Q] [--min-ring-area B] [--no-crossings] [--keep-shapes] [--exact] [-q] NAME=PATH.., with the
+-- common options
 abbrev pub build_app : App
 build_app = with_rule (with_rule
-    (with_common (with_rule (with_rule (with_rule (with_rule (with_rule (with_rule (new_app (codes "build")) grid_rule) area_rule) keep_rule) ring_area_rule) no_crossings_rule) exact_rule))
+    (with_common (with_rule (with_rule (with_rule (with_rule (with_rule (with_rule (with_rule (new_app (codes "build")) grid_rule) area_rule) keep_rule) ring_area_rule) no_crossings_rule) keep_shapes_rule) exact_rule))
     quiet_rule) layers_rule
 
 -- simplify [--min-area A] [--keep P/Q] [--min-ring-area B] [--no-crossings] [--keep-shapes] [-q] FILE, with the common options

@@ -9,7 +9,7 @@ IsCells n = (2 ≤ n) × (n ≤ 10 ^ 9)
 
 -- a grid that is asked for may have its number of cells
 abbrev pub IsInRange : Request → Type 0
-IsInRange (Build layers exact grid area keep ring_area no_crossings) = IfSome grid IsCells
+IsInRange (Build layers exact grid area keep ring_area no_crossings keep_shapes) = IfSome grid IsCells
 IsInRange (Simplify area keep ring_area no_crossings keep_shapes path) = Unit {0}
 IsInRange (Geo name path) = Unit {0}
 IsInRange (Stat crossings path) = Unit {0}

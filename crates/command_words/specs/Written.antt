@@ -37,9 +37,9 @@ ring_area_word ring_area = value_word (codes "min-ring-area") ring_area
 
 -- the words of a request whose output goes to this file, or to standard output
 abbrev pub written : Ordered → List Text
-written (build layers exact grid area keep ring_area no_crossings, output) =
+written (build layers exact grid area keep ring_area no_crossings keep_shapes, output) =
     codes "build" ∷ and_value (codes "output") output (and_value (codes "grid") (option_map decimal grid)
-    (level_word area keep ∷ ring_area_word ring_area ∷ and_flag (codes "no-crossings") no_crossings (and_flag (codes "exact") exact (codes "--" ∷ map layer_word layers))))
+    (level_word area keep ∷ ring_area_word ring_area ∷ and_flag (codes "no-crossings") no_crossings (and_flag (codes "keep-shapes") keep_shapes (and_flag (codes "exact") exact (codes "--" ∷ map layer_word layers)))))
 written (simplify area keep ring_area no_crossings keep_shapes path, output) =
     codes "simplify" ∷ and_value (codes "output") output
     (level_word area keep ∷ ring_area_word ring_area ∷ and_flag (codes "no-crossings") no_crossings (and_flag (codes "keep-shapes") keep_shapes (codes "--" ∷ path ∷ [])))
@@ -55,9 +55,9 @@ abbrev pub ring_area_apart : Text → List Text → List Text
 ring_area_apart ring_area words = codes "--min-ring-area" ∷ ring_area ∷ words
 
 abbrev pub written_apart : Ordered → List Text
-written_apart (build layers exact grid area keep ring_area no_crossings, output) =
+written_apart (build layers exact grid area keep ring_area no_crossings keep_shapes, output) =
     codes "build" ∷ and_value (codes "output") output (and_value (codes "grid") (option_map decimal grid)
-    (level_apart area keep (ring_area_apart ring_area (and_flag (codes "no-crossings") no_crossings (and_flag (codes "exact") exact (codes "--" ∷ map layer_word layers))))))
+    (level_apart area keep (ring_area_apart ring_area (and_flag (codes "no-crossings") no_crossings (and_flag (codes "keep-shapes") keep_shapes (and_flag (codes "exact") exact (codes "--" ∷ map layer_word layers)))))))
 written_apart (simplify area keep ring_area no_crossings keep_shapes path, output) =
     codes "simplify" ∷ and_value (codes "output") output
     (level_apart area keep (ring_area_apart ring_area (and_flag (codes "no-crossings") no_crossings (and_flag (codes "keep-shapes") keep_shapes (codes "--" ∷ path ∷ [])))))
@@ -72,7 +72,7 @@ HasPlainNames (layer ∷ layers) = (has_byte equals_sign layer.0 ≡ false) × H
 -- a request that `written` writes: a build has a layer or more, a grid from 2 to 10^9 cells if any, and beside a share
 -- an area of 0; so has simplifying
 abbrev pub IsWritable : Asked → Type 0
-IsWritable (build layers exact grid area keep ring_area no_crossings) = IfSome grid IsCells × (0 < length layers) × (length layers < usize_max)
+IsWritable (build layers exact grid area keep ring_area no_crossings keep_shapes) = IfSome grid IsCells × (0 < length layers) × (length layers < usize_max)
     × HasPlainNames layers × IfSome keep (λ _. area ≡ codes "0")
 IsWritable (simplify area keep ring_area no_crossings keep_shapes path) = IfSome keep (λ _. area ≡ codes "0")
 IsWritable (geo name path) = Unit {0}

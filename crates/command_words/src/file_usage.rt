@@ -1,9 +1,9 @@
 // The commands that take the file of a topology, and their help.
 ghost use Rattle.std.specs.Prelude.{IfOk};
-ghost use Rattle.command_words.specs.CommandLine.{IsApp, IsRule, crossings_rule, file_rule, geo_app, keep_rule, keep_shapes_rule, object_rule, simplify_app, stat_app};
+ghost use Rattle.command_words.specs.CommandLine.{IsApp, IsRule, crossings_rule, file_rule, geo_app, keep_rule, object_rule, simplify_app, stat_app};
 
 use crate::commands::{Help, command};
-use crate::usage::{area, no_crossings, quiet, ring_area, with_common};
+use crate::usage::{area, keep_shapes, no_crossings, quiet, ring_area, with_common};
 use clap::{Arg, ArgAction, Command};
 use std::alloc::{AllocError, Global};
 
@@ -21,9 +21,6 @@ pub(crate) const OBJECT: &str = "object";
 
 /// The option of `stat` that counts crossings.
 pub(crate) const CROSSINGS: &str = "crossings";
-
-/// The option of `simplify` that keeps shapes.
-pub(crate) const KEEP_SHAPES: &str = "keep-shapes";
 
 /// The file of the topology.
 pub(crate) const FILE: &str = "file";
@@ -43,8 +40,8 @@ is dropped as 'outer'. With '--keep-shapes' the largest outer ring of a feature 
 
 A topology that 'mapchain build' wrote without areas becomes, byte for byte, what
 'mapchain build' writes of the same files with the areas that are given here, and with
-'--no-crossings' where it is given; and so with '--keep', unless that topology has no
-arcs of a hole that was dropped as 'outer', and '--no-crossings' isn't given.",
+'--no-crossings' and '--keep-shapes' where they are given; and so with '--keep', unless
+that topology has no arcs of a hole that was dropped as 'outer', and neither is given.",
     after: "Example:
   mapchain simplify --min-area 0.0001 map.topojson > small.topojson",
     after_long: "Example:
@@ -52,16 +49,6 @@ arcs of a hole that was dropped as 'outer', and '--no-crossings' isn't given.",
 
 'mapchain --help' lists the exit statuses, and says where faults are explained.",
 };
-
-const KEEP_SHAPES_HELP: &str = "Keep the largest outer ring of each feature";
-
-const KEEP_SHAPES_LONG_HELP: &str =
-    "Of the points that '--min-area' removes leave those without which the largest outer ring
-of a feature would have fewer than four positions, and never drop this ring, even where
-it encloses less than '--min-ring-area'. It is the largest before any point is removed,
-of the outer rings that have four positions or more, and the first of equals. A feature
-that has none may vanish. Without '--no-crossings' lines may come to cross: an island
-stays where the coast beside it goes";
 
 const GEO_HELP: Help = Help {
     about: "Decode an object of a topology to GeoJSON",
@@ -117,17 +104,6 @@ fn file<'a>(alloc: Global) -> Arg<'a>
         .value_name("FILE")
         .required(true)
         .help(FILE_HELP)
-}
-
-/// The option that keeps shapes.
-fn keep_shapes<'a>(alloc: Global) -> Arg<'a>
-    ensures { IsRule result keep_shapes_rule }
-{
-    Arg::new(alloc, KEEP_SHAPES)
-        .long("keep-shapes")
-        .action(ArgAction::SetTrue)
-        .help(KEEP_SHAPES_HELP)
-        .long_help(KEEP_SHAPES_LONG_HELP)
 }
 
 /// The command line of `simplify`, with this option that keeps a share.

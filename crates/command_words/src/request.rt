@@ -17,10 +17,10 @@ ghost use Rattle.command_words.specs.Faults as faults;
 ghost use Rattle.command_words.specs.Faults.{IsBuildFault, IsCommandFault, IsFaultBy, IsFaultOf};
 ghost use Rattle.command_words.specs.Written.{IsWritable, written};
 
-use crate::file_usage::{CROSSINGS, FILE, GEO, KEEP_SHAPES, OBJECT, SIMPLIFY, STAT};
+use crate::file_usage::{CROSSINGS, FILE, GEO, OBJECT, SIMPLIFY, STAT};
 use crate::layer_words::names_and_paths;
 use crate::usage::{
-    AREA, BUILD, EXACT, EXPLAIN, GRID, KEEP, LAYERS, NO_CROSSINGS, OUTPUT, QUIET, REPORT,
+    AREA, BUILD, EXACT, EXPLAIN, GRID, KEEP, KEEP_SHAPES, LAYERS, NO_CROSSINGS, OUTPUT, QUIET, REPORT,
     RING_AREA, program, telling_program,
 };
 use crate::words_fault::WordsFault;
@@ -46,6 +46,8 @@ pub enum Request<'a> {
         ring_area: &'a str,
         /// No point is removed where lines would then cross.
         no_crossings: bool,
+        /// Each shape with a ring of four positions keeps its largest.
+        keep_shapes: bool,
     },
     /// What is left of the topology in the file of this path where its lines are reduced.
     Simplify {
@@ -219,6 +221,7 @@ fn build_request<'a>(
     let keep = keep_of(arguments);
     let ring_area = ring_area_of(arguments);
     let no_crossings = has_no_crossings(arguments);
+    let keep_shapes = has_keep_shapes(arguments);
     Ok(Some(Request::Build {
         layers,
         exact,
@@ -227,6 +230,7 @@ fn build_request<'a>(
         keep,
         ring_area,
         no_crossings,
+        keep_shapes,
     }))
 }
 

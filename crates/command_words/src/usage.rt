@@ -4,7 +4,7 @@ ghost use Rattle.clap.specs.declared.builder.value_parser.ValueParser.TheVariant
 ghost use Rattle.clap.specs.Simple.{App};
 ghost use Rattle.command_words.specs.CommandLine as spec;
 ghost use Rattle.command_words.specs.CommandLine.{IsApp, IsRule, area_rule, bare_app, build_app, exact_rule, grid_rule};
-ghost use Rattle.command_words.specs.CommandLine.{explain_rule, keep_rule, layers_rule, no_crossings_rule, output_rule, program_app, quiet_rule, report_rule, ring_area_rule};
+ghost use Rattle.command_words.specs.CommandLine.{explain_rule, keep_rule, keep_shapes_rule, layers_rule, no_crossings_rule, output_rule, program_app, quiet_rule, report_rule, ring_area_rule};
 
 use crate::commands::{Help, command};
 use crate::file_usage::{geo, simplify, stat};
@@ -32,6 +32,9 @@ pub(crate) const RING_AREA: &str = "min-ring-area";
 
 /// The option of `build` and `simplify` that keeps lines from crossing.
 pub(crate) const NO_CROSSINGS: &str = "no-crossings";
+
+/// The option of `build` and `simplify` that keeps shapes.
+pub(crate) const KEEP_SHAPES: &str = "keep-shapes";
 
 /// The option of `build` that refuses coordinates that would have to be rounded.
 pub(crate) const EXACT: &str = "exact";
@@ -92,7 +95,7 @@ are equal and follow each other count as one. A line that is left with one posit
 or a ring with fewer than four, is dropped as 'collapsed', or as 'small' where that is
 so only because points were removed. A ring that encloses less than '--min-ring-area'
 is dropped as 'small', too. Any other hole whose outer ring is dropped is dropped as
-'outer'.",
+'outer'. With '--keep-shapes' the largest outer ring of a feature stays.",
     after: "Example:
   mapchain build coast=coast.json rivers=rivers.json > map.topojson",
     after_long: "Example:
@@ -131,8 +134,8 @@ more where points go at the same area. P and Q are whole numbers, Q from 1 to
 1000000000 and P at most Q. The share is counted over all arcs, before small lines
 are dropped. The report gives the area in a line 'chosen T': T is twice the area, in
 square units of 10^-9; '--explain' says the area as '--min-area' takes it. This option
-can't stand beside '--min-area'. Beside '--no-crossings' points that are left at any
-area count as well, and more may stay than was asked";
+can't stand beside '--min-area'. Beside '--no-crossings' or '--keep-shapes' points that
+are left at any area count as well, and more may stay than was asked";
 
 const RING_AREA_HELP: &str = "Leave out rings that enclose less than the area B";
 
@@ -151,6 +154,16 @@ one another, or touch but at an end of both. A point that is left so goes later,
 what holds it is gone. Where no lines crossed before, a ring that encloses something
 stays, as a triangle at least: small islands go by '--min-ring-area'. Lines that crossed
 before go on crossing: nothing is repaired";
+
+const KEEP_SHAPES_HELP: &str = "Keep the largest outer ring of each feature";
+
+const KEEP_SHAPES_LONG_HELP: &str =
+    "Of the points that '--min-area' removes leave those without which the largest outer ring
+of a feature would have fewer than four positions, and never drop this ring, even where
+it encloses less than '--min-ring-area'. It is the largest before any point is removed,
+of the outer rings that have four positions or more, and the first of equals. A feature
+that has none may vanish. Without '--no-crossings' lines may come to cross: an island
+stays where the coast beside it goes";
 
 const OUTPUT_HELP: &str = "Write the output to a file in place of standard output";
 
@@ -294,6 +307,17 @@ pub(crate) fn no_crossings<'a>(alloc: Global) -> Arg<'a>
         .long_help(NO_CROSSINGS_LONG_HELP)
 }
 
+/// The option that keeps shapes.
+pub(crate) fn keep_shapes<'a>(alloc: Global) -> Arg<'a>
+    ensures { IsRule result keep_shapes_rule }
+{
+    Arg::new(alloc, KEEP_SHAPES)
+        .long("keep-shapes")
+        .action(ArgAction::SetTrue)
+        .help(KEEP_SHAPES_HELP)
+        .long_help(KEEP_SHAPES_LONG_HELP)
+}
+
 /// The option that names the file for the output.
 fn output<'a>(alloc: Global) -> Arg<'a>
     ensures { IsRule result output_rule }
@@ -386,6 +410,7 @@ fn build<'a>(alloc: Global, keep: Arg<'a>) -> Result<Command<'a>, AllocError>
         .arg(keep)?
         .arg(ring_area(alloc))?
         .arg(no_crossings(alloc))?
+        .arg(keep_shapes(alloc))?
         .arg(exact(alloc))?;
     with_common(alloc, command)?
         .arg(quiet(alloc))?

@@ -46,7 +46,7 @@ prefix_of old new count text (Write sent) h = (sent, h)
 -- what a reducer was asked for stays so where the output is kept, and what was known before it was begun is known of
 pub kept_calls : (path : List ℕ) (fresh : Drained) (ended : Ended) (before opened after : FileState) (request : Request) (asked calls : List Call)
     → after.noted ≡ with_ended ended opened.noted → CallsFor (used (begun (Some fresh) path before) opened) request asked calls → CallsFor (used before after) request asked calls
-kept_calls path fresh ended before opened after (Build layers exact grid area keep ring_area no_crossings) asked calls noted (options, olds, news, fits, opens, are, called) =
+kept_calls path fresh ended before opened after (Build layers exact grid area keep ring_area no_crossings keep_shapes) asked calls noted (options, olds, news, fits, opens, are, called) =
     (options, olds, news, fits, opens, ap (λ (n : Noted). n.sources) noted ∙ are, called)
 kept_calls path fresh ended before opened after (Simplify area keep ring_area no_crossings keep_shapes path2) asked calls noted (level, old, new, fits, opens, is, called) =
     (level, old, new, fits, opens, ap (λ (n : Noted). n.source) noted ∙ is, called)

@@ -46,7 +46,7 @@ layers_keep c o layers old new e (inr (inl h)) lt = h.0
 layers_keep c o layers old new e (inr (inr h)) lt = late_keeps o h.sources_old h.sources_new old new e h.fault lt
 
 build_keeps : (c : FileUse) (request : Request) (old new : Drained) (e : BuildFault) → RefusesBuild c request old new e → status_of e < 3 → new ≡ old
-build_keeps c (Build layers exact grid area keep ring_area no_crossings) old new e h lt = layers_keep c h.0 _ old new e h.2 lt
+build_keeps c (Build layers exact grid area keep ring_area no_crossings keep_shapes) old new e h lt = layers_keep c h.0 _ old new e h.2 lt
 build_keeps c (Simplify area keep ring_area no_crossings keep_shapes path) old new e h lt = absurd h
 build_keeps c (Geo name path) old new e h lt = absurd h
 build_keeps c (Stat crossings path) old new e h lt = absurd h
@@ -63,7 +63,7 @@ file_keeps IsFault old new at_read at_json at_topo at_object at_memory file.NoOb
 file_keeps IsFault old new at_read at_json at_topo at_object at_memory file.Memory h lt = at_memory h
 
 topology_keeps : (c : FileUse) (request : Request) (old new : Drained) (e : FileFault) → RefusesTopology c request old new e → file_status_of e < 3 → new ≡ old
-topology_keeps c (Build layers exact grid area keep ring_area no_crossings) old new e h lt = absurd h
+topology_keeps c (Build layers exact grid area keep ring_area no_crossings keep_shapes) old new e h lt = absurd h
 topology_keeps c (Simplify area keep ring_area no_crossings keep_shapes path) old new e h lt =
     elim h.4 [
       | inl k ↦ k.0
@@ -87,8 +87,8 @@ keeps c request old new Memory h lt = h.0
 -- ---- standard output of one that is
 
 sound : (c : FileUse) (request : Request) (old new : Drained) (report : Option Report) → IsAnswered c request old new report → (new.failures ≡ 0) × (new.flushed ≡ true)
-sound c (Build layers exact grid area keep ring_area no_crossings) old new (Some report) h = (h.2.built.sound, h.2.built.flushed)
-sound c (Build layers exact grid area keep ring_area no_crossings) old new None h = absurd h
+sound c (Build layers exact grid area keep ring_area no_crossings keep_shapes) old new (Some report) h = (h.2.built.sound, h.2.built.flushed)
+sound c (Build layers exact grid area keep ring_area no_crossings keep_shapes) old new None h = absurd h
 sound c (Simplify area keep ring_area no_crossings keep_shapes path) old new (Some report) h = (h.4.simplified.sound, h.4.simplified.flushed)
 sound c (Simplify area keep ring_area no_crossings keep_shapes path) old new None h = absurd h
 sound c (Geo name path) old new (Some report) h = absurd h

@@ -95,8 +95,8 @@ reads_on before between after h k = record {
 -- ---- requests that are done
 
 pub answered : (files : FileUse) (request : Request) (old new : Drained) (report : Option Report) → IsAnswered files request old new report → Stays files
-answered files (Build layers exact grid area keep ring_area no_crossings) old new (Some report) h = read_all files (length (texts_of layers.items)) h.2.sources_new h.2.each_once
-answered files (Build layers exact grid area keep ring_area no_crossings) old new None h = absurd h
+answered files (Build layers exact grid area keep ring_area no_crossings keep_shapes) old new (Some report) h = read_all files (length (texts_of layers.items)) h.2.sources_new h.2.each_once
+answered files (Build layers exact grid area keep ring_area no_crossings keep_shapes) old new None h = absurd h
 answered files (Simplify area keep ring_area no_crossings keep_shapes path) old new (Some report) h = read_one files h.4.source_new h.4.once
 answered files (Simplify area keep ring_area no_crossings keep_shapes path) old new None h = absurd h
 answered files (Geo name path) old new (Some report) h = absurd h
@@ -112,7 +112,7 @@ layers_refused files o layers old new e (inr (inl h)) = read_all files (length l
 layers_refused files o layers old new e (inr (inr h)) = read_all files (length layers) h.sources_new h.each_once
 
 build_refused : (files : FileUse) (request : Request) (old new : Drained) (e : BuildFault) → RefusesBuild files request old new e → Stays files
-build_refused files (Build layers exact grid area keep ring_area no_crossings) old new e h = layers_refused files h.0 _ old new e h.2
+build_refused files (Build layers exact grid area keep ring_area no_crossings keep_shapes) old new e h = layers_refused files h.0 _ old new e h.2
 build_refused files (Simplify area keep ring_area no_crossings keep_shapes path) old new e h = absurd h
 build_refused files (Geo name path) old new e h = absurd h
 build_refused files (Stat crossings path) old new e h = absurd h
@@ -123,13 +123,13 @@ file_refused files path old new Fails e (inl h) = following files 0 h.2
 file_refused files path old new Fails e (inr h) = read_one files h.source_new h.once
 
 topology_refused : (files : FileUse) (request : Request) (old new : Drained) (e : FileFault) → RefusesTopology files request old new e → Stays files
-topology_refused files (Build layers exact grid area keep ring_area no_crossings) old new e h = absurd h
+topology_refused files (Build layers exact grid area keep ring_area no_crossings keep_shapes) old new e h = absurd h
 topology_refused files (Simplify area keep ring_area no_crossings keep_shapes path) old new e h = file_refused files path.now old new _ e h.4
 topology_refused files (Geo name path) old new e h = file_refused files path.now old new _ e h
 topology_refused files (Stat crossings path) old new e h = file_refused files path.now old new _ e h
 
 memory_refused : (files : FileUse) (request : Request) (old new : Drained) → IsRefused files request old new Memory → Stays files
-memory_refused files (Build layers exact grid area keep ring_area no_crossings) old new h = opened files h.1.0 h.1.2
+memory_refused files (Build layers exact grid area keep ring_area no_crossings keep_shapes) old new h = opened files h.1.0 h.1.2
 memory_refused files (Simplify area keep ring_area no_crossings keep_shapes path) old new h = opened files 0 h.1
 memory_refused files (Geo name path) old new h = opened files 0 h.1
 memory_refused files (Stat crossings path) old new h = opened files 0 h.1

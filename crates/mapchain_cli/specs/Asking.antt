@@ -42,17 +42,17 @@ abbrev pub IsLevelOf : List ℕ → Option (Bor (List ℕ)) → Level → Type 0
 IsLevelOf area keep level = (t : ℕ) × (threshold_of area ≡ Some t) × (level_of t keep ≡ Some level)
 
 -- whether coordinates may be rounded, the grid, the texts of the area or the share whose level the options have, and of the least ring
--- area, and whether crossings may not be made
-abbrev pub IsAskedFor : Bool → Option ℕ → List ℕ → Option (Bor (List ℕ)) → List ℕ → Bool → Options → Type 0
-IsAskedFor exact grid area keep ring_area no_crossings options =
+-- area, and the guards
+abbrev pub IsAskedFor : Bool → Option ℕ → List ℕ → Option (Bor (List ℕ)) → List ℕ → Guards → Options → Type 0
+IsAskedFor exact grid area keep ring_area guards options =
     (options.exact ≡ exact) × (options.grid ≡ grid) × IsLevelOf area keep options.level
-    × (threshold_of ring_area ≡ Some options.ring_limit) × (options.guards ≡ guards_of no_crossings false)
+    × (threshold_of ring_area ≡ Some options.ring_limit) × (options.guards ≡ guards)
 
 -- what was asked for was written of these files: a build with its options, or what is left of a topology, which have a report; the
 -- features of an object; a summary
 abbrev pub IsAnswered : FileUse → Request → Drained → Drained → Option Report → Type 0
-IsAnswered files (Build layers exact grid area keep ring_area no_crossings) old new (Some report) =
-    (options : Options) × IsAskedFor exact grid area.now keep ring_area.now no_crossings options × BuildsOf files options (texts_of layers.items) old new report
+IsAnswered files (Build layers exact grid area keep ring_area no_crossings keep_shapes) old new (Some report) =
+    (options : Options) × IsAskedFor exact grid area.now keep ring_area.now (guards_of no_crossings keep_shapes) options × BuildsOf files options (texts_of layers.items) old new report
 IsAnswered files (Simplify area keep ring_area no_crossings keep_shapes path) old new (Some report) =
     (level : Level) × (limit : ℕ) × IsLevelOf area.now keep level × (threshold_of ring_area.now ≡ Some limit)
     × SimplifiesOf files (guards_of no_crossings keep_shapes) level limit path.now old new report
@@ -79,14 +79,14 @@ LevelIsRefused area keep ring_area e = AreRefused area ring_area e
 
 -- the areas or the share that are asked for are refused in this way
 abbrev pub HasBadArea : Request → Ending → Type 0
-HasBadArea (Build layers exact grid area keep ring_area no_crossings) e = LevelIsRefused area.now keep ring_area.now e
+HasBadArea (Build layers exact grid area keep ring_area no_crossings keep_shapes) e = LevelIsRefused area.now keep ring_area.now e
 HasBadArea (Simplify area keep ring_area no_crossings keep_shapes path) e = LevelIsRefused area.now keep ring_area.now e
 HasBadArea request e = ⊥
 
 -- why the build that is asked for isn't done
 abbrev pub RefusesBuild : FileUse → Request → Drained → Drained → BuildFault → Type 0
-RefusesBuild files (Build layers exact grid area keep ring_area no_crossings) old new e =
-    (options : Options) × IsAskedFor exact grid area.now keep ring_area.now no_crossings options × RefusesLayers files options (texts_of layers.items) old new e
+RefusesBuild files (Build layers exact grid area keep ring_area no_crossings keep_shapes) old new e =
+    (options : Options) × IsAskedFor exact grid area.now keep ring_area.now (guards_of no_crossings keep_shapes) options × RefusesLayers files options (texts_of layers.items) old new e
 RefusesBuild files request old new e = ⊥
 
 -- why the topology of a file isn't simplified, decoded or summarised as is asked for
@@ -100,7 +100,7 @@ RefusesTopology files request old new e = ⊥
 
 -- a prefix of the files that the request names was opened
 abbrev pub OpensSome : FileUse → Request → Type 0
-OpensSome files (Build layers exact grid area keep ring_area no_crossings) = OpensPrefix (length (texts_of layers.items)) files
+OpensSome files (Build layers exact grid area keep ring_area no_crossings keep_shapes) = OpensPrefix (length (texts_of layers.items)) files
 OpensSome files request = Opened 0 files
 
 -- a reducer that was asked for so much before was asked for this since: to reduce each arc of the layers, or of the topology that is simplified, as
@@ -108,8 +108,8 @@ OpensSome files request = Opened 0 files
 -- shapes stay,
 -- and for nothing else
 abbrev pub CallsFor : FileUse → Request → List Call → List Call → Type 0
-CallsFor files (Build layers exact grid area keep ring_area no_crossings) before after =
-    (options : Options) × (olds : Sources) × (news : Sources) × IsAskedFor exact grid area.now keep ring_area.now no_crossings options
+CallsFor files (Build layers exact grid area keep ring_area no_crossings keep_shapes) before after =
+    (options : Options) × (olds : Sources) × (news : Sources) × IsAskedFor exact grid area.now keep ring_area.now (guards_of no_crossings keep_shapes) options
     × AreOpened files.before.contents (texts_of layers.items) olds × (files.after.noted.sources ≡ Some news) × CallsForLayers options olds news before after
 CallsFor files (Simplify area keep ring_area no_crossings keep_shapes path) before after =
     (level : Level) × (old : Fed) × (new : Fed) × IsLevelOf area.now keep level × IsOpened files.before.contents path.now old

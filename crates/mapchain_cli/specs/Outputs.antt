@@ -16,7 +16,7 @@ use Rattle.mapchain_cli.specs.declared.ending.Ending.{Ending}
 use Rattle.mapchain_cli.specs.declared.ending.Ending.TheVariants.{Refused, FileRefused}
 
 abbrev pub is_build : Request → Bool
-is_build (Build layers exact grid area keep ring_area no_crossings) = true
+is_build (Build layers exact grid area keep ring_area no_crossings keep_shapes) = true
 is_build (Simplify area keep ring_area no_crossings keep_shapes path) = false
 is_build (Geo name path) = false
 is_build (Stat crossings path) = false

@@ -78,8 +78,7 @@ pub(crate) fn level_and_limit(
     Ok((level, ring_limit))
 }
 
-/// What is asked for with this grid, with the areas and the share of these texts, which are looked at in this order, and whether crossings may
-/// not be made.
+/// What is asked for with this grid, under these guards, with the areas and the share of these texts, which are looked at in this order.
 pub(crate) fn options_of(
     alloc: Global,
     exact: bool,
@@ -88,19 +87,16 @@ pub(crate) fn options_of(
     area: &str,
     keep: Option<&str>,
     ring_area: &str,
-    no_crossings: bool,
+    guards: Guards,
 ) -> Result<Options, Ending>
     requires { IfSome grid IsCells }
-    ensures asked { IfOk result (λ options. IsAskedFor exact grid area.now keep.entry ring_area.now no_crossings options) }
+    ensures asked { IfOk result (λ options. IsAskedFor exact grid area.now keep.entry ring_area.now guards options) }
     ensures refused { IfErr result (LevelIsRefused area.now keep.entry ring_area.now) }
 {
     let (level, ring_limit) = level_and_limit(alloc, area, keep, ring_area)?;
     Ok(Options {
         grid,
-        guards: Guards {
-            no_crossings,
-            keep_shapes: false,
-        },
+        guards,
         level,
         ring_limit,
         exact,

@@ -112,7 +112,12 @@ pub(crate) fn answer<F: Files, V: Drain>(
             keep,
             ring_area,
             no_crossings,
+            keep_shapes,
         } => {
+            let guards = Guards {
+                no_crossings: *no_crossings,
+                keep_shapes: *keep_shapes,
+            };
             let options = options_of(
                 alloc,
                 *exact,
@@ -121,7 +126,7 @@ pub(crate) fn answer<F: Files, V: Drain>(
                 area,
                 *keep,
                 ring_area,
-                *no_crossings,
+                guards,
             )?;
             let report = build_layers(
                 alloc,

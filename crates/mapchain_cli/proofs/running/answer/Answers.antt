@@ -9,7 +9,7 @@ use Rattle.mapchain_cli.proofs.running.answer.Goals as goal
 pub returns-in_err-report-in-Build-clause-refused : goal.returns-in_err-report-in-Build-clause-refused
 returns-in_err-report-in-Build-clause-refused g c =
     let p = err_from_is_err_and c.from_residual-in_err-report-in-Build.result c.from_residual-in_err-report-in-Build.ensures.1 in
-    let request = Build c.in-Build.layers c.in-Build.exact c.in-Build.grid c.in-Build.area c.in-Build.keep c.in-Build.ring_area c.in-Build.no_crossings in
+    let request = Build c.in-Build.layers c.in-Build.exact c.in-Build.grid c.in-Build.area c.in-Build.keep c.in-Build.ring_area c.in-Build.no_crossings c.in-Build.keep_shapes in
     let options = c.in_ok-options-in-Build.options in
     let refused = rw c.as_slice.ensures.value at c.in_err-report-in-Build.ensures.refused in
     rw (c.in-Build.is, p.1, p.2) (layers_refuse (used (g.F.Files.state c.args.files.now) (g.F.Files.state c.build_layers.new.files)) request options (texts_of c.in-Build.layers.items) c.args.out.now c.build_layers.new.out
@@ -39,5 +39,5 @@ returns-in_ok-report-in-Build-clause-reduced g c =
 pub returns-in_err-options-in-Build-clause-refused : goal.returns-in_err-options-in-Build-clause-refused
 returns-in_err-options-in-Build-clause-refused g c =
     let p = err_from_is_err_and c.from_residual.result c.from_residual.ensures.1 in
-    let request = Build c.in-Build.layers c.in-Build.exact c.in-Build.grid c.in-Build.area c.in-Build.keep c.in-Build.ring_area c.in-Build.no_crossings in
+    let request = Build c.in-Build.layers c.in-Build.exact c.in-Build.grid c.in-Build.area c.in-Build.keep c.in-Build.ring_area c.in-Build.no_crossings c.in-Build.keep_shapes in
     rw (c.in-Build.is, p.1, p.2) (words_refuse (g.F.Files.state c.args.files.now) request c.args.out.now c.in_err-options-in-Build.field-0.0 (λ f h. h) (λ f h. h) (0, omega arith, refl) c.in_err-options-in-Build.ensures.refused)

@@ -20,8 +20,8 @@ ghost use Rattle.command_words.specs.Written.{IsWritable, written};
 use crate::file_usage::{CROSSINGS, FILE, GEO, OBJECT, SIMPLIFY, STAT};
 use crate::layer_words::names_and_paths;
 use crate::usage::{
-    AREA, BUILD, EXACT, EXPLAIN, GRID, KEEP, KEEP_SHAPES, LAYERS, NO_CROSSINGS, OUTPUT, QUIET, REPORT,
-    RING_AREA, program, telling_program,
+    AREA, BUILD, EXACT, EXPLAIN, GRID, KEEP, KEEP_SHAPES, LAYERS, NO_CROSSINGS, OUTPUT, QUIET,
+    REPORT, RING_AREA, program, telling_program,
 };
 use crate::words_fault::WordsFault;
 use clap::error::ErrorKind;

@@ -1,5 +1,5 @@
 -- At a threshold of zero no corner goes, whatever the guard, so what is written is what is written without one.
-use Rattle.std.proofs.Common.{◌≡◌, ◌∙◌, ℕ, Bool, true, false, cond, List, [], map, refl, ap, sym}
+use Rattle.std.proofs.Common.{◌≡◌, ◌∙◌, ℕ, Bool, true, false, List, [], map, refl, ap, sym}
 use Rattle.elimination_meaning.specs.Elimination.{Vertex, numbered}
 use Rattle.geometry.specs.Points.{Point}
 use Rattle.guarded_meaning.specs.Elimination.{Guard, reduce_arcs}

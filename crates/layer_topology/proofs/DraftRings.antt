@@ -1,9 +1,9 @@
 -- The rings of a draft of layers that enclose most, by the numbers of the arcs that it uses, are those of what is built of the layers at zero.
-use Rattle.std.proofs.Common.{arith, ◌≡◌, ◌∙◌, ℕ, ℤ, pos, Bool, true, List, [], ◌∷◌, ◌++◌, map, length, Option, None, Some, refl, sym, ap, subst}
+use Rattle.std.proofs.Common.{◌≡◌, ◌∙◌, ℕ, ℤ, pos, Bool, true, List, [], ◌∷◌, ◌++◌, map, length, Option, None, Some, refl, sym, ap, subst}
 use Rattle.std.proofs.lemmas.List.{map-append}
 use Rattle.std.specs.List.{AllByRecursion}
 use Rattle.build_meaning.specs.Built.{kept_refs, untrimmed, built}
-use Rattle.build_meaning.specs.Laws.{AreSound, IsValid}
+use Rattle.build_meaning.specs.Laws.{AreSound}
 use Rattle.build_meaning.specs.Layers.{Named, layers_of, names_of}
 use Rattle.build_meaning.specs.Objects.{objects_by}
 use Rattle.build_meaning.specs.Trimming.{is_used, new_index_from, renumbered}
@@ -18,7 +18,6 @@ use Rattle.geometry.specs.Points.{Point, IsPosition}
 use Rattle.linework.specs.Linework.{linework}
 use Rattle.owned_values.proofs.Elements.{all_weaker}
 use Rattle.simplified_topology.specs.Assembled.{arcs_of_layers, own_refs}
-use Rattle.simplified_topology.specs.Guarded.{arc_positions}
 use Rattle.simplified_topology.specs.OuterRings.{outer_rings}
 use Rattle.simplified_topology.specs.Protected.{greatest_ring, protected_of, protected_rings}
 use Rattle.simplified_topology.specs.ProtectedLayers.{drafted_refs, greatest_of_layers, ring_refs, layers_rings}
@@ -32,7 +31,6 @@ use Rattle.topojson_types.specs.Topologies.{object_features}
 use Rattle.topojson_types.specs.Validity.{AreDistinct, IsArc, IsTopology}
 use Rattle.topo_model.specs.Drafts.{RefsOf, draft_refs, relined, feature_drafted, objects_drafted}
 use Rattle.topo_model.specs.Renumbering.{renumbered_by}
-use Rattle.topo_model.specs.Retaining.{IsDraftOf}
 use Rattle.topo_model.specs.Uses.{answers}
 use Rattle.topo_model.proofs.GreatestMade.{put, ring_among, ring_made}
 use Rattle.topo_model.proofs.RelinedMarks.{rings_relined}

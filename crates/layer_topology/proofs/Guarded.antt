@@ -2,7 +2,7 @@
 use Rattle.std.proofs.Common.{◌≡◌, ◌∙◌, ℕ, ◌≤◌, Bool, true, false, cond, List, [], ◌∷◌, map, Option, refl, ap, arith, subst, sym}
 use Rattle.std.specs.List.{AllByRecursion}
 use Rattle.build_meaning.specs.Built.{built}
-use Rattle.build_meaning.specs.Layers.{Named, names_of}
+use Rattle.build_meaning.specs.Layers.{Named}
 use Rattle.geojson_types.specs.declared.id.Id.{Id}
 use Rattle.geojson_types.proofs.Nestings.{option_pruned_nests}
 use Rattle.json_value.specs.declared.json.Json.{Json}

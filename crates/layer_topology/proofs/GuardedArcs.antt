@@ -1,5 +1,5 @@
 -- Arcs of which some are reduced at once and the others stay whole.
-use Rattle.std.proofs.Common.{◌≡◌, ℕ, ◌≤◌, ℤ, zero, suc, Bool, true, false, cond, List, [], ◌∷◌, map, length, Option, refl, subst, sym, ap, ◌∙◌, arith}
+use Rattle.std.proofs.Common.{◌≡◌, ℕ, ◌≤◌, ℤ, zero, suc, Bool, true, false, cond, List, [], ◌∷◌, map, length, Option, refl, subst, sym, ap, ◌∙◌}
 use Rattle.std.specs.List.{AllByRecursion}
 use Rattle.std.specs.Prelude.{not}
 use Rattle.build_meaning.specs.Built.{built, untrimmed}

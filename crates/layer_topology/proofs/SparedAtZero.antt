@@ -6,7 +6,6 @@ use Rattle.std.specs.List.{AllByRecursion, filter}
 use Rattle.build_meaning.specs.Expected.{unless}
 use Rattle.build_meaning.specs.Trimming.{trimmed}
 use Rattle.elimination_meaning.specs.Elimination.{Vertex, numbered}
-use Rattle.elimination_meaning.specs.Weights.{is_kept_at}
 use Rattle.geometry.specs.Areas.{twice_ring_area}
 use Rattle.geometry.specs.declared.address.Cause.TheVariants.{Small}
 use Rattle.geometry.specs.declared.shape.Geometry.TheVariants as g
@@ -24,7 +23,7 @@ use Rattle.guarded_meaning.specs.Weights.{passing, weight}
 use Rattle.guarded_meaning.proofs.Weights.{kept_at_zero}
 use Rattle.junctions.specs.Cleaning.{clean, is_short}
 use Rattle.owned_values.proofs.Elements.{all_weaker}
-use Rattle.simplified_topology.specs.Guarded.{all_indexes, arc_positions}
+use Rattle.simplified_topology.specs.Guarded.{arc_positions}
 use Rattle.simplified_topology.specs.OuterRings.{outer_rings, into_part, along, unmarked, rings_marked, marked}
 use Rattle.simplified_topology.specs.Protected.{enclosed, greatest_ring, sparing, shape_marked, feature_spared, object_spared, objects_spared, spared_by}
 use Rattle.simplified_topology.specs.Simplified.{Refs, feature_pruned, object_pruned, objects_pruned, large_refs, retained, retained_arcs, simplified_by}

@@ -1,5 +1,5 @@
 -- What is true of what is left of a topology, and of what is written of layers, where guards are asked for.
-use Rattle.std.specs.Prelude.{◌≡◌, ℕ, ◌≤◌, ℤ, Bool, true, false, List, Option, map}
+use Rattle.std.specs.Prelude.{◌≡◌, ℕ, ◌≤◌, ℤ, Bool, true, List, Option, map}
 use Rattle.std.specs.List.{AllByRecursion}
 use Rattle.build_meaning.specs.Layers.{Named, names_of}
 use Rattle.geojson_types.specs.Nesting.{feature_nesting}

@@ -6,8 +6,8 @@ use guarded_meaning::{kept_by_weight, share_stays};
 use simplified_topology::{
     guarded_crossings_never_rise, guarded_is_assembled, guarded_is_valid, guarded_keeps,
     guarded_none_stays_none, protecting_crossings_never_rise, protecting_is_assembled,
-    protecting_is_valid, protecting_keeps, protecting_none_stays_none, reduced_is_valid, shapes_stay, simplified_keeps, snapped_are_on,
-    spared_nests_no_deeper, unguarded_is_simplified,
+    protecting_is_valid, protecting_keeps, protecting_none_stays_none, reduced_is_valid,
+    shapes_stay, simplified_keeps, snapped_are_on, spared_nests_no_deeper, unguarded_is_simplified,
 };
 
 /// What is left of a valid topology is valid, with the same names, identifiers, properties and transform, and nests no deeper, whatever guards

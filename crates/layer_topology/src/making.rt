@@ -236,9 +236,7 @@ fn topology_of_draft(
     ensures few { IfOk result (λ r. length r.0.arcs < 2 ^ 63) }
 {
     if guards.keep_shapes {
-        sparing_topology(
-            alloc, objects, arcs, guards.no_crossings, level, ring_limit,
-        )
+        sparing_topology(alloc, objects, arcs, guards.no_crossings, level, ring_limit)
     } else {
         assembled_topology(alloc, objects, arcs, level, ring_limit)
     }

@@ -2,7 +2,7 @@ use Rattle.std.proofs.Common.{◌≡◌, ◌++◌, ◌∙◌, [], ap, subst}
 use Rattle.std.specs.Prelude.{if◌then◌else◌}
 use Rattle.byte_ends.specs.Ends.{saturated}
 use Rattle.layer_topology.specs.GuardedWritten.{made_dropped_under, made_removed_under, made_under}
-use Rattle.layer_topology.specs.GuardedLevels.{level_threshold_under, made_threshold}
+use Rattle.layer_topology.specs.GuardedLevels.{level_threshold_under}
 use Rattle.layer_topology.specs.Guarded.{is_at_once}
 use Rattle.layer_topology.specs.Levels.{calls_at}
 use Rattle.simplified_topology.specs.Assembled.{arcs_of_layers}

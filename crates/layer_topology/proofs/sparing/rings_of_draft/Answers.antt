@@ -1,6 +1,5 @@
-use Rattle.std.proofs.Common.{◌∙◌, length, map, ap, sym, subst}
+use Rattle.std.proofs.Common.{◌∙◌, length, ap, sym, subst}
 use Rattle.std.specs.List.{AllByRecursion}
-use Rattle.std.proofs.lemmas.Result.{IfOk-weaker}
 use Rattle.build_meaning.specs.Built.{untrimmed}
 use Rattle.build_meaning.specs.Trimming.{is_used}
 use Rattle.geometry.specs.Points.{IsPosition}

@@ -18,6 +18,7 @@ use json_value::OwnText;
 use layer_topology::{share_stays_at_once, topology_of_layers, written_laws, written_under_law};
 use reports::{Report, report_of};
 use std::alloc::Global;
+use std::mem;
 use topojson_meaning::{reads_back, topology_text_is_read, topology_text_is_utf8};
 use topojson_types::Topology;
 use topojson_writer::write_topology;
@@ -74,7 +75,8 @@ fn build_layers<Q: Reducer, R: Feed, W: Drain, K: Watch>(
     let report = report_of(counts, dropped, topology.arcs(), removed, chosen);
     let sent = send(&topology, sink);
     watch.built(alloc, &topology, report.dropped.as_slice());
-    drop(topology);
+    // (the run ends soon, and to take a large topology apart costs it more than to write some of it)
+    mem::forget(topology);
     match sent {
         Ok(()) => Ok(report),
         Err(fault) => {
@@ -90,7 +92,8 @@ fn build_layers<Q: Reducer, R: Feed, W: Drain, K: Watch>(
 /// all arcs are reduced at once in place of that. Names are looked at first, in order:
 /// up to there nothing is read. Then each layer is read, parsed and modelled before the next. Nothing is written before all layers
 /// are taken, so on each fault but `Write` the sink is as it was. On `Write` it took a prefix of the topology's text, of the length
-/// that is reported. At `Ok` the sink is flushed.
+/// that is reported. At `Ok` the sink is flushed. The topology's
+/// memory is left to the end of the process.
 pub fn build<Q: Reducer, R: Feed, W: Drain>(
     alloc: Global,
     reducer: &mut Q,

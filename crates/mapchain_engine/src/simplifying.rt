@@ -21,6 +21,7 @@ use inputs::{FileFault, Unwatched, Watch};
 use layer_topology::{Guards, Level, share_stays_at_once, simplified_under_law};
 use reports::Report;
 use std::alloc::Global;
+use std::mem;
 use topojson_types::Topology;
 use topojson_writer::write_topology;
 
@@ -65,7 +66,8 @@ fn send<W: Drain>(topology: &Topology, sink: &mut Sink<W>) -> Result<u64, FileFa
 /// feature; arcs that no line uses are left out. The report
 /// says what was counted in reading, what is dropped, of the arcs that are left how many positions stay and were removed, and the
 /// threshold, where it was chosen. The topology is refused as by `stat`. On each fault but `Write` the sink is as it was. On `Write` it took a prefix of the text, of
-/// the length that is reported. At `Ok` the sink is flushed.
+/// the length that is reported. At `Ok` the sink is flushed. The topology's
+/// memory is left to the end of the process.
 pub fn simplify<Q: Reducer, R: Feed, W: Drain>(
     alloc: Global,
     reducer: &mut Q,
@@ -124,7 +126,8 @@ pub fn simplify_watched<Q: Reducer, R: Feed, W: Drain, K: Watch>(
     )?;
     let sent = send(&less, sink);
     watch.simplified(alloc, &less, report.dropped.as_slice());
-    drop(less);
+    // (as in building)
+    mem::forget(less);
     match sent {
         Ok(_) => Ok(report),
         Err(fault) => {

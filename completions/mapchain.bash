@@ -59,7 +59,7 @@ _mapchain() {
         '') _mapchain_words "$word" 'build simplify geo stat help --help --version' ;;
         build)
             case $word in
-                -*) _mapchain_words "$word" '--grid --min-area --keep --min-ring-area --no-crossings --exact -o --output --report --explain -q --quiet --help' ;;
+                -*) _mapchain_words "$word" '--grid --min-area --keep --min-ring-area --no-crossings --keep-shapes --exact -o --output --report --explain -q --quiet --help' ;;
                 *)
                     if [ "$before" = = ]; then
                         _mapchain_files "$word"
@@ -73,7 +73,7 @@ _mapchain() {
             ;;
         simplify)
             case $word in
-                -*) _mapchain_words "$word" '--min-area --keep --min-ring-area --no-crossings -o --output --report --explain -q --quiet --help' ;;
+                -*) _mapchain_words "$word" '--min-area --keep --min-ring-area --no-crossings --keep-shapes -o --output --report --explain -q --quiet --help' ;;
                 *) _mapchain_files "$word" ;;
             esac
             ;;

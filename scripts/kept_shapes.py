@@ -1,15 +1,16 @@
 #!/usr/bin/env python3
-"""Holds `simplify --keep-shapes` to its definition, on random small topologies, by an area and by a share, with and without `--no-crossings`:
+"""Holds `simplify --keep-shapes` to its definition, on random small topologies, by an area and by a share, with and without `--no-crossings`, and
+`build --keep-shapes` to the first:
 
     scripts/kept_shapes.py N [--program path/to/mapchain] [--seed N] [--plain]
 
 N layers are made, of few polygons, lines and collections between few places. Each is built in full by the program. What that writes is simplified by
 the program, and here by the definition itself: of each feature the outer ring that encloses most is protected, of all corners under the threshold
 that may go the least goes, again and again, and each is looked at anew each time; then lines and rings are dropped that are small, unless they are
-protected. For a share they go so without a threshold, and the one that is chosen is found among their weights. It ends with status 1 where a
-topology, a report of what is dropped, or a threshold differs, or where a feature is lost that has a protected ring. The last line says how many were
-tried, and how often the option made a difference. With `--plain` no option is given, and no ring is protected: then the layer is also built by the
-area, and that is to write the same.
+protected. For a share they go so without a threshold, and the one that is chosen is found among their weights. The layer is also built with the same
+options, on the same grid: that is to write the same. It ends with status 1 where a topology, a report of what is dropped, a threshold or these two
+texts differ, or where a feature is lost that has a protected ring. The last line says how many were tried, and how often the option made a
+difference. With `--plain` no option is given, and no ring is protected.
 """
 import argparse
 import json
@@ -335,7 +336,7 @@ def main():
                 if features_of(json.loads(ran.stdout)["objects"][name])[feature]["type"] is None:
                     wrong += 1
                     print(f"layer {number} {grid} {asked}: feature {feature} is lost: {text}")
-            if given.plain and run(program, "build", *grid, *asked, f"a={layer}").stdout != ran.stdout:
+            if run(program, "build", *grid, *asked, f"a={layer}").stdout != ran.stdout:
                 wrong += 1
                 print(f"layer {number} {grid} {asked}: isn't built as it is simplified: {text}")
             if flags:

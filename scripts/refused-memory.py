@@ -264,6 +264,7 @@ RUNS = (
     Run("build --keep 1/2 b=bend.json", 0, BENT_TOPOLOGY, report(1, 3, removed=1) + "chosen 9000000000000000000\n", BUILD, 25),
     Run("build --no-crossings --min-area=5 roofs=roofs.json", 0, HELD_TOPOLOGY, report(3, 7, removed=1), BUILD, 40),
     Run("build --no-crossings --keep=1/2 roofs=roofs.json", 0, ROOF_TOPOLOGY, report(3, 8) + "chosen 2000000000000000000\n", BUILD, 50),
+    Run("build --keep-shapes --min-area=1 land=land.json", 0, FULL_TOPOLOGY, report(3, 11), BUILD, 50),
     Run("build a=line.json b=cut.json", 1, "", "error: layer 1 J2 Malformed\n", BUILD, 5),
     Run("build a=line.json b=line.json a=line.json", 2, "", "error: layer 2 B2 DuplicateName\n", BUILD, 0),
     Run("build --explain a=line.json", 0, LINE_TOPOLOGY, f"{report(1, 2)}  {KEPT_ALL}\n", BUILD, 20),
@@ -292,6 +293,7 @@ RUNS = (
     Run("simplify --keep 1/2 bend.topojson", 0, BENT_TOPOLOGY, report(1, 3, removed=1) + "chosen 9000000000000000000\n", FILE, 20),
     Run("simplify --no-crossings --min-area=5 roofs.topojson", 0, HELD_TOPOLOGY, report(3, 7, removed=1), FILE, 30),
     Run("simplify --no-crossings --keep=1/2 roofs.topojson", 0, ROOF_TOPOLOGY, report(3, 8) + "chosen 2000000000000000000\n", FILE, 40),
+    Run("simplify --keep-shapes --min-area=1 full.topojson", 0, FULL_TOPOLOGY, report(3, 11), FILE, 40),
     Run("geo --object a line.topojson", 0, LINE_LAYER, "", FILE, 6),
     Run("stat less.topojson", 0, SUMMARY, "", FILE, 10),
     Run("stat --explain less.topojson", 0, SUMMARY, "".join(f"  {it}\n" for it in CONTENTS), FILE, 10),
@@ -321,7 +323,7 @@ RUNS = (
     Run(f"geo --object=a --report={REPORT} line.topojson", 0, LINE_LAYER, "", FILE, 6, run_report(0, "null", "null")),
 )
 # How many allocations are refused at least, in all commands together.
-LEAST = 2500
+LEAST = 4000
 # How often at least a reducer that is called twice is refused memory in either call.
 REDUCED_AGAIN = {"refused, and then answered": 3, "answered, and then refused": 1}
 # What is told where memory is refused before an output to a file is begun, and where it is refused to the report of a run.

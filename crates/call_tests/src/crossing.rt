@@ -1,5 +1,5 @@
 // Crossings counted up to limits that no command has. That the answer is the definition's is proved: these show that memory isn't always refused.
-use crossing_count::crossings_up_to;
+use guarded_reduction::crossings_up_to;
 use geometry::Position;
 use owned_values::Items;
 use std::test::Fail;

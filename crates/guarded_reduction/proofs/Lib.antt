@@ -1,13 +1,19 @@
+pub mod Apart
 pub mod Beyond
+pub mod Blocks
 pub mod Boxes
 pub mod Corners
+pub mod Counts
+pub mod Covering
 pub mod Flattened
 pub mod Free
+pub mod Gathered
 pub mod Heap
 pub mod Indexes
 pub mod Joining
 pub mod Keeping
 pub mod KeptIndexes
+pub mod Lines
 pub mod Moves
 pub mod Next
 pub mod NotFree
@@ -20,6 +26,7 @@ pub mod Queued
 pub mod RingMoves
 pub mod Searches
 pub mod Showing
+pub mod Sided
 pub mod Starts
 pub mod Trees
 pub mod Unlinking

@@ -1,10 +1,13 @@
 pub mod Blocking
+pub mod Blocks
 pub mod Entries
 pub mod Extents
 pub mod First
 pub mod Indexes
 pub mod Keeping
 pub mod Laws
+pub mod Levels
+pub mod Lines
 pub mod Linking
 pub mod Moves
 pub mod Numbers

@@ -7,20 +7,28 @@
 //! all a `Blocked`, that is in a corner's triangle or begins a segment between the ends of its base. It sorts once, and goes up one path of a tree
 //! of boxes for each place that goes. `holding` asks it from the side of the corner where fewer places lie. `free_law` and `blocked_law` tie it to
 //! the guard. Rings are asked by how often their arcs move on from a position to another (`src/kept_rings.rt`). Each look is a search of the index
-//! and a step of the heap; how many there are, and how many boxes each goes through, is not promised. `crossing_count` counts by `meets_badly`, and
-//! by the boxes and the curve.
+//! and a step of the heap; how many there are, and how many boxes each goes through, is not promised.
+//! `crossings_up_to` counts pairs of segments that meet badly. These are sorted along the same curve. Blocks of eight neighbours have a box round them,
+//! and so do eight blocks, and so on; and where all segments of a block have one end, as those of a star, the others have a box of their own. For
+//! each segment the later ones are gone through, without the blocks of which such a box shows that none meets it badly. How many are left is not
+//! promised.
 #![tactic(auto)]
 
+mod block;
 mod blocking;
 mod box_tree;
+mod counting;
 mod crowds;
 mod entry;
 mod extent;
 mod flattening;
+mod gathering;
 mod holding;
 mod index;
 mod kept_rings;
 mod laws;
+mod levels;
+mod line;
 mod linked_places;
 mod looking;
 mod meeting;
@@ -34,20 +42,20 @@ mod rounds;
 mod searching;
 mod shown_places;
 mod sides;
+mod skipping;
 mod triangle;
 mod turns;
 mod waiting_lists;
 mod weighing;
 
 pub use blocking::{Blocked, Joined, Links};
-pub use extent::{Extent, around, empty_extent, joined, meets};
+pub use counting::crossings_up_to;
+pub use extent::Extent;
 pub use index::PositionIndex;
 pub use laws::{blocked_law, free_law};
 pub use meeting::{is_end, is_on, meets_badly, same_ends, touches};
-pub use ordering::{Scale, extent_with, scale_over};
 pub use query::{Corner, Query};
 pub use reducing::reduce_guarded;
-pub use sides::is_beyond;
 pub use triangle::{in_triangle, is_clear};
 pub use turns::{is_flat, is_left, is_right};
 pub use weighing::weights_guarded;

@@ -10,7 +10,7 @@ ghost use Rattle.mapchain_engine.specs.Files.{FailsToGive, IsCounted};
 use crate::file_reading::read_file;
 use crate::guarding::arc_positions;
 use byte_ends::{Feed, Memory, Source};
-use crossing_count::crossings_up_to;
+use guarded_reduction::crossings_up_to;
 use inputs::FileFault;
 use reports::{MOST_CROSSINGS, Summary, summary_with};
 use std::alloc::Global;

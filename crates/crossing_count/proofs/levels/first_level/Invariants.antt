@@ -1,5 +1,0 @@
-use Rattle.crossing_count.proofs.Covering.{AreCovered}
-use Rattle.crossing_count.proofs.levels.first_level.Given as goal
-
-abbrev pub invariant-loop-rank : goal.invariant-loop-rank
-invariant-loop-rank l = AreCovered l.lines l.blocks.items l.rank

@@ -1,0 +1,110 @@
+-- Blocks while they are made, and what they show.
+use Rattle.std.proofs.Common.{◌≡◌, ℕ, ◌+◌, ◌-◌, ◌<◌, ◌≤◌, ◌/◌, ◌^◌, false, List, [], ◌∷◌, ◌++◌, length, slice_set, get_or-set_same, get_or-set_other, refl, sym, subst, ◌∙◌, ◌⊎◌, inl, inr, arith}
+use Rattle.std.proofs.lemmas.Bool.{cases_eq}
+use Rattle.std.proofs.lemmas.List.{get_or_append_left, get_or_push}
+use Rattle.std.proofs.lemmas.Nat.{shr-shr}
+use Rattle.guarded_meaning.specs.Segments.{Segment, meets_badly}
+use Rattle.guarded_reduction.specs.declared.block.Block.{Block}
+use Rattle.guarded_reduction.specs.declared.levels.Level.{Level}
+use Rattle.guarded_reduction.specs.declared.line.Line.{Line}
+use Rattle.guarded_reduction.specs.Blocks.{Covers}
+use Rattle.guarded_reduction.specs.Levels.{IsOver, NoneBadWithin, block_at, no_block}
+use Rattle.guarded_reduction.specs.Lines.{as_segment, line_at}
+
+-- the first n segments are in the blocks, by eight
+pub record AreCovered (ls : List Line) (bs : List Block) (n : ℕ) : Type 0 where
+  pub within : (r : ℕ) → r < n → r / 8 < length bs
+  pub covers : (r : ℕ) → r < n → Covers (block_at bs (r / 8)) (as_segment (line_at ls r))
+
+-- what the first n blocks cover, the others do, by eight
+pub record AreGathered (bs cs : List Block) (n : ℕ) : Type 0 where
+  pub within : (i : ℕ) → i < n → i / 8 < length cs
+  pub covers : (i : ℕ) (t : Segment) → i < n → Covers (block_at bs i) t → Covers (block_at cs (i / 8)) t
+
+abbrev pub Kept : List Block → List Block → Type 0
+Kept bs cs = (i : ℕ) (t : Segment) → i < length bs → Covers (block_at bs i) t → Covers (block_at cs i) t
+
+pub covered_next : (ls : List Line) (bs : List Block) (n : ℕ) → AreCovered ls bs n → n / 8 ≤ length bs
+covered_next ls bs n h = on (cases_eq n 0)
+  where
+    on : (n ≡ 0) ⊎ (n ≡ 0 → ⊥) → n / 8 ≤ length bs
+    on (inl e) = omega arith
+    on (inr m) = let k = h.within (n - 1) (omega (arith, m)) in omega (arith, k, m)
+
+pub covered_more : (ls : List Line) (bs cs : List Block) (n : ℕ) → AreCovered ls bs n → length bs ≤ length cs → Kept bs cs → n / 8 < length cs → Covers (block_at cs (n / 8)) (as_segment (line_at ls n)) → AreCovered ls cs (n + 1)
+covered_more ls bs cs n h g k w c = record { within = λ r p. within r p (cases_eq r n); covers = λ r p. covers r p (cases_eq r n) }
+  where
+    within : (r : ℕ) → r < n + 1 → (r ≡ n) ⊎ (r ≡ n → ⊥) → r / 8 < length cs
+    within r p (inl e) = subst (λ i. i / 8 < length cs) (sym e) w
+    within r p (inr m) = let i = h.within r (omega (arith, p, m)) in omega (arith, i, g)
+
+    covers : (r : ℕ) → r < n + 1 → (r ≡ n) ⊎ (r ≡ n → ⊥) → Covers (block_at cs (r / 8)) (as_segment (line_at ls r))
+    covers r p (inl e) = subst (λ i. Covers (block_at cs (i / 8)) (as_segment (line_at ls i))) (sym e) c
+    covers r p (inr m) = k (r / 8) (as_segment (line_at ls r)) (h.within r (omega (arith, p, m))) (h.covers r (omega (arith, p, m)))
+
+pub gathered_next : (bs cs : List Block) (n : ℕ) → AreGathered bs cs n → n / 8 ≤ length cs
+gathered_next bs cs n h = on (cases_eq n 0)
+  where
+    on : (n ≡ 0) ⊎ (n ≡ 0 → ⊥) → n / 8 ≤ length cs
+    on (inl e) = omega arith
+    on (inr m) = let k = h.within (n - 1) (omega (arith, m)) in omega (arith, k, m)
+
+pub gathered_more : (bs cs ds : List Block) (n : ℕ) → AreGathered bs cs n → length cs ≤ length ds → Kept cs ds → n / 8 < length ds → ((t : Segment) → Covers (block_at bs n) t → Covers (block_at ds (n / 8)) t) → AreGathered bs ds (n + 1)
+gathered_more bs cs ds n h g k w c = record { within = λ i p. within i p (cases_eq i n); covers = λ i t p. covers i t p (cases_eq i n) }
+  where
+    within : (i : ℕ) → i < n + 1 → (i ≡ n) ⊎ (i ≡ n → ⊥) → i / 8 < length ds
+    within i p (inl e) = subst (λ j. j / 8 < length ds) (sym e) w
+    within i p (inr m) = let j = h.within i (omega (arith, p, m)) in omega (arith, j, g)
+
+    covers : (i : ℕ) (t : Segment) → i < n + 1 → (i ≡ n) ⊎ (i ≡ n → ⊥) → Covers (block_at bs i) t → Covers (block_at ds (i / 8)) t
+    covers i t p (inl e) q = subst (λ j. Covers (block_at ds (j / 8)) t) (sym e) (c t (subst (λ j. Covers (block_at bs j) t) e q))
+    covers i t p (inr m) q = k (i / 8) t (h.within i (omega (arith, p, m))) (h.covers i t (omega (arith, p, m)) q)
+
+-- the next level is over the segments that this one is over
+pub over_next : (ls : List Line) (level next : Level) → IsOver ls level → AreGathered level.blocks.items next.blocks.items (length level.blocks.items) → next.bits ≡ level.bits + 3 → level.bits < 56 → IsOver ls next
+over_next ls level next o g e small = record {
+  bits = omega (arith, e, small);
+  within = λ r p. subst (λ i. i < length next.blocks.items) (same r) (g.within (r / 2 ^ level.bits) (o.within r p));
+  covers = λ r p. subst (λ i. Covers (block_at next.blocks.items i) (as_segment (line_at ls r))) (same r) (g.covers (r / 2 ^ level.bits) (as_segment (line_at ls r)) (o.within r p) (o.covers r p));
+}
+  where
+    same : (r : ℕ) → r / 2 ^ level.bits / 8 ≡ r / 2 ^ next.bits
+    same r = shr-shr r level.bits 3 ∙ subst (λ b. r / 2 ^ (level.bits + 3) ≡ r / 2 ^ b) (sym e) refl
+
+-- a block that is clear, and whose segments none meets badly
+pub none_in_block : (ls : List Line) (level : Level) (l : Line) (rank end : ℕ) → IsOver ls level → ((r : ℕ) → rank ≤ r → r < end → r / 2 ^ level.bits ≡ rank / 2 ^ level.bits) →
+    ((t : Segment) → Covers (block_at level.blocks.items (rank / 2 ^ level.bits)) t → meets_badly (as_segment l) t ≡ false) → NoneBadWithin ls l rank end
+none_in_block ls level l rank end o same clear = record {
+  none = λ r a b w. clear (as_segment (line_at ls r)) (subst (λ i. Covers (block_at level.blocks.items i) (as_segment (line_at ls r))) (same r a b) (o.covers r w));
+}
+
+pub none_at : (ls : List Line) (l : Line) (rank : ℕ) → NoneBadWithin ls l rank rank
+none_at ls l rank = record { none = λ r a b w. absurd (omega (arith, a, b)) }
+
+-- ---- a block is put in a list
+
+pub set_there : (bs : List Block) (at : ℕ) (b : Block) (t : Segment) → at < length bs → Covers b t → Covers (block_at (slice_set bs at b) at) t
+unfolding block_at
+set_there bs at b t w h = subst (λ (x : Block). Covers x t) (sym (get_or-set_same bs at b no_block w)) h
+
+set_other : (bs : List Block) (at i : ℕ) (b : Block) (t : Segment) → (i ≡ at → ⊥) → Covers (block_at bs i) t → Covers (block_at (slice_set bs at b) i) t
+unfolding block_at
+set_other bs at i b t n h = subst (λ (x : Block). Covers x t) (sym (get_or-set_other bs at i b no_block n)) h
+
+pub set_kept : (bs : List Block) (at : ℕ) (b : Block) → at < length bs → ((t : Segment) → Covers (block_at bs at) t → Covers b t) → Kept bs (slice_set bs at b)
+set_kept bs at b w more i t l h = on (cases_eq i at)
+  where
+    on : (i ≡ at) ⊎ (i ≡ at → ⊥) → Covers (block_at (slice_set bs at b) i) t
+    on (inl e) = subst (λ j. Covers (block_at (slice_set bs at b) j) t) (sym e) (set_there bs at b t w (more t (subst (λ j. Covers (block_at bs j) t) e h)))
+    on (inr n) = set_other bs at i b t n h
+
+pub push_there : (bs : List Block) (at : ℕ) (b : Block) (t : Segment) → at ≡ length bs → Covers b t → Covers (block_at (bs ++ b ∷ []) at) t
+unfolding block_at
+push_there bs at b t e h = subst (λ (x : Block). Covers x t) (sym (get_or_push bs b no_block at (sym e))) h
+
+pub push_kept : (bs : List Block) (b : Block) → Kept bs (bs ++ b ∷ [])
+unfolding block_at
+push_kept bs b i t w h = subst (λ (x : Block). Covers x t) (sym (get_or_append_left bs (b ∷ []) no_block i w)) h
+
+pub gathered_all : (bs cs : List Block) (n : ℕ) → AreGathered bs cs n → length bs ≤ n → AreGathered bs cs (length bs)
+gathered_all bs cs n h k = record { within = λ i p. h.within i (omega (arith, k, p)); covers = λ i t p. h.covers i t (omega (arith, k, p)) }

@@ -1,0 +1,52 @@
+-- The segments of arcs, and those that are left to be counted.
+use Rattle.std.proofs.Common.{◌≡◌, ℕ, ◌+◌, ◌-◌, ◌<◌, ◌≤◌, ◌⊎◌, inl, inr, suc, zero, List, ◌∷◌, length, map, drop, ap, sym, subst, ◌∙◌, add-one, arith}
+use Rattle.std.proofs.lemmas.Bool.{cases_lt}
+use Rattle.std.proofs.Math.Seq.{drop-cons}
+use Rattle.std.proofs.lemmas.List.{drop_all}
+use Rattle.guarded_meaning.specs.Segments.{meets_badly, bad_pairs}
+use Rattle.guarded_reduction.specs.declared.line.Line.{Line}
+use Rattle.guarded_reduction.specs.Levels.{NoneBadWithin}
+use Rattle.guarded_reduction.specs.Lines.{as_segment, bad_after, bad_among, line_at, no_line}
+use Rattle.guarded_reduction.proofs.Counts.{one, bad_more}
+
+-- how many from this rank on meet it badly
+abbrev pub bad_from : List Line → Line → ℕ → ℕ
+bad_from ls l r = bad_among (as_segment l) (map as_segment (drop r ls))
+
+pub ahead : (ls : List Line) (r : ℕ) → r < length ls → drop r ls ≡ line_at ls r ∷ drop (r + 1) ls
+unfolding line_at
+ahead ls r h = drop-cons ls r no_line h ∙ ap (λ n. line_at ls r ∷ drop n ls) (sym (add-one r))
+
+pub one_ahead : (ls : List Line) (l : Line) (r : ℕ) → r < length ls → bad_from ls l r ≡ one (meets_badly (as_segment l) (as_segment (line_at ls r))) + bad_from ls l (r + 1)
+one_ahead ls l r h = ap (λ ks. bad_among (as_segment l) (map as_segment ks)) (ahead ls r h) ∙ bad_more (as_segment l) (as_segment (line_at ls r)) (map as_segment (drop (r + 1) ls))
+
+pub none_ahead : (ls : List Line) (l : Line) (r : ℕ) → length ls ≤ r → bad_from ls l r ≡ 0
+none_ahead ls l r h = ap (λ ks. bad_among (as_segment l) (map as_segment ks)) (drop_all r ls h)
+
+-- none of the next k meets it badly
+skip_many : (ls : List Line) (l : Line) (k r : ℕ) → NoneBadWithin ls l r (r + k) → bad_from ls l r ≡ bad_from ls l (r + k)
+skip_many ls l zero r h = ap (bad_from ls l) (omega arith)
+skip_many ls l (suc k) r h = on (skip_many ls l k (r + 1) rest) (cases_lt r (length ls))
+  where
+    rest : NoneBadWithin ls l (r + 1) (r + 1 + k)
+    rest = record { none = λ q a b w. h.none q (omega (arith, a)) (omega (arith, b)) w }
+
+    on : bad_from ls l (r + 1) ≡ bad_from ls l (r + 1 + k) → (r < length ls) ⊎ (length ls ≤ r) → bad_from ls l r ≡ bad_from ls l (r + suc k)
+    on g (inl w) =
+        let e = one_ahead ls l r w in
+        let f = ap one (h.none r (omega arith) (omega arith) w) in
+        let i : bad_from ls l (r + 1 + k) ≡ bad_from ls l (r + suc k) = ap (bad_from ls l) (omega arith) in
+        omega (arith, e, f, g, i)
+    on g (inr w) = none_ahead ls l r w ∙ sym (none_ahead ls l (r + suc k) (omega (arith, w)))
+
+pub skipped : (ls : List Line) (l : Line) (r e : ℕ) → r ≤ e → NoneBadWithin ls l r e → bad_from ls l r ≡ bad_from ls l e
+skipped ls l r e h n =
+    let f : r + (e - r) ≡ e = omega (arith, h) in
+    skip_many ls l (e - r) r (subst (NoneBadWithin ls l r) (sym f) n) ∙ ap (bad_from ls l) f
+
+-- the pairs from this rank on
+pub pairs_ahead : (ls : List Line) (r : ℕ) → r < length ls → bad_pairs (map as_segment (drop r ls)) ≡ bad_after ls r + bad_pairs (map as_segment (drop (r + 1) ls))
+pairs_ahead ls r h = ap (λ ks. bad_pairs (map as_segment ks)) (ahead ls r h)
+
+pub no_pairs_ahead : (ls : List Line) (r : ℕ) → length ls ≤ r → bad_pairs (map as_segment (drop r ls)) ≡ 0
+no_pairs_ahead ls r h = ap (λ ks. bad_pairs (map as_segment ks)) (drop_all r ls h)

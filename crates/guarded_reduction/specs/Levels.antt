@@ -1,0 +1,29 @@
+-- Blocks of segments, and what they show.
+use Rattle.std.specs.Prelude.{◌≡◌, ℕ, ◌<◌, ◌≤◌, ◌/◌, ◌^◌, false, List, length, slice_index_or}
+use Rattle.guarded_meaning.specs.Segments.{meets_badly}
+use Rattle.guarded_reduction.specs.Trees.{no_extent}
+use Rattle.guarded_reduction.specs.declared.block.Block.{Block}
+use Rattle.guarded_reduction.specs.declared.block.Star.{Star}
+use Rattle.guarded_reduction.specs.declared.levels.Level.{Level}
+use Rattle.guarded_reduction.specs.declared.line.Line.{Line}
+use Rattle.guarded_reduction.specs.Blocks.{Covers}
+use Rattle.guarded_reduction.specs.Lines.{as_segment, line_at, no_point}
+
+abbrev pub no_star : Star
+no_star = record { is_known = false; end = no_point; others = no_extent }
+
+abbrev pub no_block : Block
+no_block = record { extent = no_extent; first = no_star; second = no_star }
+
+unfoldable pub block_at : List Block → ℕ → Block
+block_at bs i = slice_index_or bs i no_block
+
+-- each segment is in the block that its rank is in
+pub record IsOver (ls : List Line) (level : Level) : Type 0 where
+  pub bits : level.bits < 60
+  pub within : (r : ℕ) → r < length ls → r / 2 ^ level.bits < length level.blocks.items
+  pub covers : (r : ℕ) → r < length ls → Covers (block_at level.blocks.items (r / 2 ^ level.bits)) (as_segment (line_at ls r))
+
+-- none of these ranks is that of a segment that meets this one badly
+pub record NoneBadWithin (ls : List Line) (l : Line) (first end : ℕ) : Type 0 where
+  pub none : (r : ℕ) → first ≤ r → r < end → r < length ls → meets_badly (as_segment l) (as_segment (line_at ls r)) ≡ false

@@ -19,6 +19,6 @@ pub use drain::{Drain, ToWrite};
 pub use feed::{Failed, Feed, FromRead};
 pub use memory_drain::MemoryDrain;
 pub use owned_values::Memory;
-pub use progress::{Progress, flush_after, put_comma, put_part};
+pub use progress::{Progress, flush_after, put_part};
 pub use sink::{Broken, Sink, WriteFault};
 pub use source::{MAX_INPUT, ReadFault, Source, read_all};

@@ -1,5 +1,4 @@
 // Texts that are written part by part.
-ghost use Rattle.owned_values.specs.Commas.{comma_unless};
 ghost use Rattle.std.specs.Prelude.{ℕ, List};
 ghost use Rattle.byte_ends.specs.Continues.{Continues};
 ghost use Rattle.byte_ends.specs.Ends.{Drained};
@@ -18,16 +17,6 @@ pub fn put_part<W: Drain>(bytes: &[u8], so_far: Progress, sink: &mut Sink<W>) ->
 {
     match so_far {
         Ok(count) => sink.put(count, bytes),
-        Err(fault) => Err(fault),
-    }
-}
-
-/// Writes the comma in front of a list's element as a part, or nothing in front of the first.
-pub fn put_comma<W: Drain>(is_first: bool, so_far: Progress, sink: &mut Sink<W>) -> Progress
-    ensures { Continues sink.old sink.new so_far (comma_unless is_first) result }
-{
-    match so_far {
-        Ok(count) => sink.put_comma(count, is_first),
         Err(fault) => Err(fault),
     }
 }

@@ -1,7 +1,6 @@
 // A sink for bytes.
 ghost use Rattle.std.specs.Prelude.{◌≡◌, ◌<◌, ◌≤◌, ℕ, OnOk, OnErr, false, length, true};
 ghost use Rattle.std.specs.Io.KnownBytes.{Keeps};
-ghost use Rattle.owned_values.specs.Commas.{comma_unless};
 ghost use Rattle.byte_ends.specs.Ends.{Takes};
 ghost use Rattle.byte_ends.specs.Writes.{Writes};
 
@@ -122,18 +121,6 @@ impl<W: Drain> Sink<W> {
             }
         }
         Ok(count)
-    }
-
-    /// Writes the comma in front of a list's element, as `put` does, or nothing in front of the first.
-    pub fn put_comma(&mut self, count: u64, is_first: bool) -> Result<u64, WriteFault>
-        ensures wrote { Writes self.old self.new count (comma_unless is_first) result }
-        ensures broken { 0 < self.old.failures → self.new ≡ self.old }
-    {
-        if is_first {
-            self.put(count, b"")
-        } else {
-            self.put(count, b",")
-        }
     }
 
     /// Writes all of the bytes, or those up to the device's failure.

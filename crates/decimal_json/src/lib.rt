@@ -18,7 +18,5 @@ pub use json_value::{
     Items, Json, OwnText, copy_members, read_values_are_bounded, read_values_are_well_formed,
     text_spells_value, written_text_is_utf8,
 };
-pub use json_writer::{
-    print_units, put_json, put_members, put_text, put_units, write_json, write_members, write_text,
-};
+pub use json_writer::{print_units, write_json, write_members, write_text};
 pub use written::value_text;

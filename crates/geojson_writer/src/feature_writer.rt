@@ -1,121 +1,74 @@
 // Features as they are written (RFC 7946, sections 3.2 and 3.3).
+ghost use Rattle.std.specs.Prelude.{◌≡◌, ◌++◌};
 ghost use Rattle.std.specs.Option.{option_copied};
-ghost use Rattle.byte_ends.specs.Continues.{Continues};
 ghost use Rattle.byte_ends.specs.Writes.{Writes};
+ghost use Rattle.json_writer.specs.Standing.{Start};
 ghost use Rattle.json_value.specs.Text.{json_text};
-ghost use Rattle.json_writer.specs.Holding.{Holds};
 ghost use Rattle.geojson_writer.specs.FeatureTexts.{collection_head, feature_head, id_text};
 ghost use Rattle.geojson_writer.specs.FeatureValues.{id_value, properties_value, geometry_value, feature_value, collection_value, features_value};
 
-use crate::shape_writer::hold_shape;
-use byte_ends::{Drain, Progress, Sink, WriteFault, put_part};
+use crate::shape_writer::put_shape;
+use byte_ends::{Drain, Sink, WriteFault};
 use geojson_types::{Feature, FeatureSet, Id, Properties};
-use json_writer::{
-    PutValue, ShortText, hold, hold_comma, hold_or_put, hold_properties, hold_text, put_array,
-    put_held,
-};
+use json_writer::{Buffered, Out, PutValue, put_array, put_properties, put_text};
 
-/// Writes or holds an identifier: a text, or a number by its text.
-fn hold_id<W: Drain>(
-    id: &Id,
-    held: &mut ShortText,
-    so_far: Progress,
-    sink: &mut Sink<W>,
-) -> Progress
-    ensures { Holds sink.old sink.new so_far result held.old (json_text (id_value id.now)) held.new }
+/// Puts an identifier: a text, or a number by its text.
+#[tactic(auto, using(json_value::proofs::Texts::texts))]
+fn put_id<O: Out>(id: &Id, out: &mut O)
+    ensures text { O.text out.new ≡ O.text out.old ++ json_text (id_value id.now) }
+    ensures kept { (start : Start) → O.good out.old start → O.good out.new start }
 {
     match id {
-        Id::Text(text) => hold_text(text.as_str(), held, so_far, sink),
-        Id::Number(number) => hold_or_put(number.as_bytes(), held, so_far, sink),
+        Id::Text(text) => put_text(text.as_str(), out),
+        Id::Number(number) => out.put(number.as_bytes()),
     }
 }
 
-/// Writes or holds the member `id` after a comma, if there is an identifier.
-fn hold_id_member<W: Drain>(
-    id: Option<&Id>,
-    held: &mut ShortText,
-    so_far: Progress,
-    sink: &mut Sink<W>,
-) -> Progress
-    ensures { Holds sink.old sink.new so_far result held.old (id_text (option_copied id.entry)) held.new }
+/// Puts the member `id` after a comma, if there is an identifier.
+fn put_id_member<O: Out>(id: Option<&Id>, out: &mut O)
+    ensures text { O.text out.new ≡ O.text out.old ++ id_text (option_copied id.entry) }
+    ensures kept { (start : Start) → O.good out.old start → O.good out.new start }
 {
-    match id {
-        None => so_far,
-        Some(id) => {
-            let so_far = hold(b",\"id\":", held, so_far, sink);
-            hold_id(id, held, so_far, sink)
-        }
+    if let Some(id) = id {
+        out.put(b",\"id\":");
+        put_id(id, out);
     }
 }
 
-/// Writes or holds properties, or null.
-fn hold_properties_option<W: Drain>(
-    properties: Option<&Properties>,
-    held: &mut ShortText,
-    so_far: Progress,
-    sink: &mut Sink<W>,
-) -> Progress
-    ensures { Holds sink.old sink.new so_far result held.old (json_text (properties_value (option_copied properties.entry))) held.new }
+/// Puts properties, or null.
+#[tactic(auto, using(json_value::proofs::Texts::texts))]
+fn put_properties_option<O: Out>(properties: Option<&Properties>, out: &mut O)
+    ensures text { O.text out.new ≡ O.text out.old ++ json_text (properties_value (option_copied properties.entry)) }
+    ensures kept { (start : Start) → O.good out.old start → O.good out.new start }
 {
     match properties {
-        None => hold(b"null", held, so_far, sink),
-        Some(properties) => hold_properties(properties, held, so_far, sink),
+        None => out.put(b"null"),
+        Some(properties) => put_properties(properties, out),
     }
 }
 
-/// Writes or holds the feature's geometry, or null.
-fn hold_geometry<W: Drain>(
-    feature: &Feature,
-    held: &mut ShortText,
-    so_far: Progress,
-    sink: &mut Sink<W>,
-) -> Progress
-    ensures { Holds sink.old sink.new so_far result held.old (json_text (geometry_value feature.now.shape)) held.new }
+/// Puts the feature's geometry, or null.
+#[tactic(auto, using(json_value::proofs::Texts::texts))]
+fn put_geometry<O: Out>(feature: &Feature, out: &mut O)
+    ensures text { O.text out.new ≡ O.text out.old ++ json_text (geometry_value feature.now.shape) }
+    ensures kept { (start : Start) → O.good out.old start → O.good out.new start }
 {
     match feature.shape() {
-        None => hold(b"null", held, so_far, sink),
-        Some(shape) => hold_shape(shape, held, so_far, sink),
+        None => out.put(b"null"),
+        Some(shape) => put_shape(shape, out),
     }
 }
 
-/// Writes or holds a feature with this identifier and these properties, up to its geometry.
-pub fn hold_feature_head<W: Drain>(
-    id: Option<&Id>,
-    properties: Option<&Properties>,
-    held: &mut ShortText,
-    so_far: Progress,
-    sink: &mut Sink<W>,
-) -> Progress
-    ensures { Holds sink.old sink.new so_far result held.old (feature_head (option_copied id.entry) (option_copied properties.entry)) held.new }
+/// Puts a feature with this identifier and these properties, up to its geometry.
+pub fn put_feature_head<O: Out>(id: Option<&Id>, properties: Option<&Properties>, out: &mut O)
+    ensures text { O.text out.new ≡ O.text out.old ++ feature_head (option_copied id.entry) (option_copied properties.entry) }
+    ensures kept { (start : Start) → O.good out.old start → O.good out.new start }
 {
-    let so_far = hold(b"{\"type\":\"Feature\"", held, so_far, sink);
-    let so_far = hold_id_member(id, held, so_far, sink);
-    let so_far = hold(b",\"properties\":", held, so_far, sink);
-    let so_far = hold_properties_option(properties, held, so_far, sink);
-    hold(b",\"geometry\":", held, so_far, sink)
-}
-
-/// Writes or holds a feature.
-fn hold_feature<W: Drain>(
-    feature: &Feature,
-    held: &mut ShortText,
-    so_far: Progress,
-    sink: &mut Sink<W>,
-) -> Progress
-    ensures { Holds sink.old sink.new so_far result held.old (json_text (feature_value feature.now)) held.new }
-{
-    let so_far = hold_feature_head(feature.id(), feature.properties(), held, so_far, sink);
-    let so_far = hold_geometry(feature, held, so_far, sink);
-    hold(b"}", held, so_far, sink)
-}
-
-/// Writes a feature.
-fn put_feature<W: Drain>(feature: &Feature, so_far: Progress, sink: &mut Sink<W>) -> Progress
-    ensures { Continues sink.old sink.new so_far (json_text (feature_value feature.now)) result }
-{
-    let mut held = ShortText::new();
-    let so_far = hold_feature(feature, &mut held, so_far, sink);
-    put_held(&mut held, so_far, sink)
+    out.put(b"{\"type\":\"Feature\"");
+    put_id_member(id, out);
+    out.put(b",\"properties\":");
+    put_properties_option(properties, out);
+    out.put(b",\"geometry\":");
 }
 
 // The way to write features.
@@ -124,53 +77,41 @@ struct Features;
 impl PutValue<Feature> for Features {
     ghost value = { feature_value };
 
-    fn put<W: Drain>(feature: &Feature, so_far: Progress, sink: &mut Sink<W>) -> Progress {
-        put_feature(feature, so_far, sink)
-    }
-
-    fn put_element<W: Drain>(
-        feature: &Feature,
-        is_first: bool,
-        held: &mut ShortText,
-        so_far: Progress,
-        sink: &mut Sink<W>,
-    ) -> Progress {
-        let so_far = hold_comma(is_first, held, so_far, sink);
-        hold_feature(feature, held, so_far, sink)
+    #[tactic(auto, using(crate::proofs::Rules::features))]
+    fn put<O: Out>(feature: &Feature, out: &mut O) {
+        put_feature_head(feature.id(), feature.properties(), out);
+        put_geometry(feature, out);
+        out.put(b"}");
     }
 }
 
-/// Writes a collection of features up to the list of these.
-pub fn put_collection_head<W: Drain>(so_far: Progress, sink: &mut Sink<W>) -> Progress
-    ensures { Continues sink.old sink.new so_far collection_head result }
+/// Puts a collection of features up to the list of these.
+pub fn put_collection_head<O: Out>(out: &mut O)
+    ensures text { O.text out.new ≡ O.text out.old ++ collection_head }
+    ensures kept { (start : Start) → O.good out.old start → O.good out.new start }
 {
-    put_part(
-        b"{\"type\":\"FeatureCollection\",\"features\":",
-        so_far,
-        sink,
-    )
+    out.put(b"{\"type\":\"FeatureCollection\",\"features\":");
 }
 
-/// Writes a collection of these features.
-fn put_collection<W: Drain>(features: &[Feature], so_far: Progress, sink: &mut Sink<W>) -> Progress
-    ensures { Continues sink.old sink.new so_far (json_text (collection_value features.now)) result }
+/// Puts a collection of these features.
+#[tactic(auto, using(crate::proofs::Rules::features))]
+fn put_collection<O: Out>(features: &[Feature], out: &mut O)
+    ensures text { O.text out.new ≡ O.text out.old ++ json_text (collection_value features.now) }
+    ensures kept { (start : Start) → O.good out.old start → O.good out.new start }
 {
-    let so_far = put_collection_head(so_far, sink);
-    let so_far = put_array::<Features, Feature, W>(features, so_far, sink);
-    put_part(b"}", so_far, sink)
+    put_collection_head(out);
+    put_array::<Features, Feature, O>(features, out);
+    out.put(b"}");
 }
 
-/// Writes the features, as `write_features`, as a part of a longer text.
-pub fn put_features<W: Drain>(
-    features: &FeatureSet,
-    so_far: Progress,
-    sink: &mut Sink<W>,
-) -> Progress
-    ensures { Continues sink.old sink.new so_far (json_text (features_value features.now)) result }
+/// Puts the features, as `write_features`, as a part of a longer text.
+pub fn put_features<O: Out>(features: &FeatureSet, out: &mut O)
+    ensures text { O.text out.new ≡ O.text out.old ++ json_text (features_value features.now) }
+    ensures kept { (start : Start) → O.good out.old start → O.good out.new start }
 {
     match features {
-        FeatureSet::One(feature) => put_feature(feature, so_far, sink),
-        FeatureSet::Many(features) => put_collection(features.as_slice(), so_far, sink),
+        FeatureSet::One(feature) => Features::put(feature, out),
+        FeatureSet::Many(features) => put_collection(features.as_slice(), out),
     }
 }
 
@@ -184,5 +125,7 @@ pub fn write_features<W: Drain>(
 ) -> Result<u64, WriteFault>
     ensures { Writes sink.old sink.new 0 (json_text (features_value features.now)) result }
 {
-    put_features(features, Ok(0), sink)
+    let mut out = Buffered::over(sink);
+    put_features(features, &mut out);
+    out.end()
 }

@@ -1,8 +1,7 @@
 -- The texts of arrays and objects as lists with commas.
 use Rattle.std.proofs.Common.{◌≡◌, ℕ, suc, ◌+◌, ◌<◌, Bool, true, false, List, [], ◌∷◌, ◌++◌, length, get_or, drop, map, ap, sym, ◌∙◌, add-one, append_assoc, drop-cons, arith}
-use Rattle.byte_ends.specs.Commas.{comma_unless, with_commas}
+use Rattle.owned_values.specs.Commas.{comma_unless, with_commas}
 use Rattle.std.specs.Prelude.{codes}
-use Rattle.byte_ends.proofs.Parts.{list_left}
 use Rattle.json_value.specs.declared.json.Json.{Json}
 use Rattle.json_value.specs.declared.json.Json.TheVariants as j
 use Rattle.json_value.specs.Text.{json_text, member_text}
@@ -15,6 +14,10 @@ text_by value_of item = json_text (value_of item)
 -- the text of a member whose value an item stands for
 abbrev pub named_by : {A : Type 0} → (A → Json) → List ℕ × A → List ℕ
 named_by value_of m = member_text (m.0, json_text (value_of m.1))
+
+-- What is left to write in front of these elements of a list with commas: `text_of` is the text of an element, `closing` what follows the last.
+abbrev pub list_left : {A : Type 0} → (A → List ℕ) → List ℕ → Bool → List A → List ℕ
+list_left text_of closing is_first items = with_commas is_first (map text_of items) ++ closing
 
 -- in front of an element: its comma, its text, and what is left after it
 module _ {A : Type 0} (text_of : A → List ℕ) (closing : List ℕ) (is_first : Bool) (items : List A) (i : ℕ) where
@@ -30,12 +33,6 @@ module _ {A : Type 0} (text_of : A → List ℕ) (closing : List ℕ) (is_first 
 -- an array of the values of these items
 pub array-text : {A : Type 0} (value_of : A → Json) (items : List A) → json_text (j.Array (map value_of items)) ≡ codes "[" ++ list_left (text_by value_of) (codes "]") true items
 array-text value_of items = grind (arith, text-array, fused)
-
--- the same array as an element of a list
-pub array-element : {A : Type 0} (value_of : A → Json) (is_first : Bool) (items : List A)
-    → comma_unless is_first ++ json_text (j.Array (map value_of items)) ≡ (comma_unless is_first ++ codes "[") ++ list_left (text_by value_of) (codes "]") true items
-array-element value_of is_first items =
-    ap (λ (t : List ℕ). comma_unless is_first ++ t) (array-text value_of items) ∙ sym (append_assoc (comma_unless is_first) (codes "[") (list_left (text_by value_of) (codes "]") true items))
 
 -- an object of these members
 pub object-text : {A : Type 0} (value_of : A → Json) (members : List (List ℕ × A))

@@ -1,4 +1,3 @@
-pub mod Holding
-pub use Rattle.byte_ends.specs.Continues
+pub mod Standing
 pub use Rattle.byte_ends.specs.Writes
 pub use Rattle.json_value.specs.Text

@@ -1,16 +1,12 @@
 // Lists as they are written, whatever their items are.
-ghost use Rattle.std.specs.Prelude.{map, ◌++◌};
-ghost use Rattle.byte_ends.specs.Commas.{comma_unless};
-ghost use Rattle.byte_ends.specs.Continues.{Continues};
-ghost use Rattle.json_writer.specs.Holding.{Holds};
+ghost use Rattle.std.specs.Prelude.{◌≡◌, ◌++◌, map};
+ghost use Rattle.json_writer.specs.Standing.{Start};
 ghost use Rattle.json_value.specs.Text.{json_text, member_text};
 ghost use Rattle.json_value.specs.declared.json.Json.{Json as Value};
 ghost use Rattle.json_value.specs.declared.json.Json.TheVariants as j;
 
-use crate::holding::{hold, hold_opening, put_comma_after_held, put_held};
-use crate::short_text::ShortText;
+use crate::out::{Out, put_comma};
 use crate::value_writer::put_name;
-use byte_ends::{Drain, Progress, Sink, put_comma, put_part};
 use owned_values::{Items, OwnText};
 use std::marker::PhantomData;
 
@@ -19,57 +15,25 @@ pub trait PutValue<T> {
     // The value that an item is written as.
     ghost value: { T → Value };
 
-    /// Writes the item as a part of a longer text.
-    fn put<W: Drain>(item: &T, so_far: Progress, sink: &mut Sink<W>) -> Progress
-        ensures { Continues sink.old sink.new so_far (json_text (value item.now)) result };
-
-    /// Writes or holds the item as an element of a list: with the comma in front, unless it is the first. Items whose texts are
-    /// short are held, so that many of them are written at once.
-    fn put_element<W: Drain>(
-        item: &T,
-        is_first: bool,
-        held: &mut ShortText,
-        so_far: Progress,
-        sink: &mut Sink<W>,
-    ) -> Progress
-        ensures { Holds sink.old sink.new so_far result held.old (comma_unless is_first ++ json_text (value item.now)) held.new }
-    {
-        let so_far = put_comma_after_held(is_first, held, so_far, sink);
-        Self::put(item, so_far, sink)
-    }
+    /// Puts the item's text.
+    fn put<O: Out>(item: &T, out: &mut O)
+        ensures text { O.text out.new ≡ O.text out.old ++ json_text (value item.now) }
+        ensures kept { (start : Start) → O.good out.old start → O.good out.new start };
 }
 
-/// Holds the array of the items, each in this way, as an element of a list: with the comma in front, unless it is the first. So
-/// lists in lists are written at once, too.
-pub fn hold_array<P: PutValue<T>, T, W: Drain>(
-    items: &[T],
-    is_first: bool,
-    held: &mut ShortText,
-    so_far: Progress,
-    sink: &mut Sink<W>,
-) -> Progress
-    ensures { Holds sink.old sink.new so_far result held.old (comma_unless is_first ++ json_text (j.Array (map P.value items.now))) held.new }
+/// Puts the array of the items, each in this way.
+pub fn put_array<P: PutValue<T>, T, O: Out>(items: &[T], out: &mut O)
+    ensures text { O.text out.new ≡ O.text out.old ++ json_text (j.Array (map P.value items.now)) }
+    ensures kept { (start : Start) → O.good out.old start → O.good out.new start }
 {
-    let mut so_far = hold_opening(is_first, held, so_far, sink);
-    let mut is_first_item = true;
+    out.put(b"[");
+    let mut is_first = true;
     'items: for item in items {
-        so_far = P::put_element(item, is_first_item, held, so_far, sink);
-        is_first_item = false;
+        put_comma(is_first, out);
+        is_first = false;
+        P::put(item, out);
     }
-    hold(b"]", held, so_far, sink)
-}
-
-/// Writes the array of the items, each in this way.
-pub fn put_array<P: PutValue<T>, T, W: Drain>(
-    items: &[T],
-    so_far: Progress,
-    sink: &mut Sink<W>,
-) -> Progress
-    ensures { Continues sink.old sink.new so_far (json_text (j.Array (map P.value items.now))) result }
-{
-    let mut held = ShortText::new();
-    let so_far = hold_array::<P, T, W>(items, true, &mut held, so_far, sink);
-    put_held(&mut held, so_far, sink)
+    out.put(b"]");
 }
 
 /// The way to write a list of items, each in this way, as an array.
@@ -80,48 +44,32 @@ pub struct ArrayOf<P> {
 impl<T, P: PutValue<T>> PutValue<Items<T>> for ArrayOf<P> {
     ghost value = { λ items. j.Array (map P.value items) };
 
-    fn put<W: Drain>(items: &Items<T>, so_far: Progress, sink: &mut Sink<W>) -> Progress {
-        put_array::<P, T, W>(items.as_slice(), so_far, sink)
-    }
-
-    fn put_element<W: Drain>(
-        items: &Items<T>,
-        is_first: bool,
-        held: &mut ShortText,
-        so_far: Progress,
-        sink: &mut Sink<W>,
-    ) -> Progress {
-        hold_array::<P, T, W>(items.as_slice(), is_first, held, so_far, sink)
+    fn put<O: Out>(items: &Items<T>, out: &mut O) {
+        put_array::<P, T, O>(items.as_slice(), out);
     }
 }
 
-/// Writes the name of a member, a colon, and its value in this way.
-fn put_named<P: PutValue<T>, T, W: Drain>(
-    name: &OwnText,
-    item: &T,
-    so_far: Progress,
-    sink: &mut Sink<W>,
-) -> Progress
-    ensures { Continues sink.old sink.new so_far (member_text (name.now, json_text (P.value item.now))) result }
+/// Puts the name of a member, a colon, and its value in this way.
+#[tactic(auto, using(std::proofs::Common::append_assoc))]
+fn put_named<P: PutValue<T>, T, O: Out>(name: &OwnText, item: &T, out: &mut O)
+    ensures text { O.text out.new ≡ O.text out.old ++ member_text (name.now, json_text (P.value item.now)) }
+    ensures kept { (start : Start) → O.good out.old start → O.good out.new start }
 {
-    let so_far = put_name(name, so_far, sink);
-    P::put(item, so_far, sink)
+    put_name(name, out);
+    P::put(item, out);
 }
 
-/// Writes the object of the members, with each value in this way.
-pub fn put_object<P: PutValue<T>, T, W: Drain>(
-    members: &[(OwnText, T)],
-    so_far: Progress,
-    sink: &mut Sink<W>,
-) -> Progress
-    ensures { Continues sink.old sink.new so_far (json_text (j.Object (map (λ m. (m.0, P.value m.1)) members.now))) result }
+/// Puts the object of the members, with each value in this way.
+pub fn put_object<P: PutValue<T>, T, O: Out>(members: &[(OwnText, T)], out: &mut O)
+    ensures text { O.text out.new ≡ O.text out.old ++ json_text (j.Object (map (λ m. (m.0, P.value m.1)) members.now)) }
+    ensures kept { (start : Start) → O.good out.old start → O.good out.new start }
 {
-    let mut so_far = put_part(b"{", so_far, sink);
+    out.put(b"{");
     let mut is_first = true;
     'members: for member in members {
-        so_far = put_comma(is_first, so_far, sink);
+        put_comma(is_first, out);
         is_first = false;
-        so_far = put_named::<P, T, W>(&member.0, &member.1, so_far, sink);
+        put_named::<P, T, O>(&member.0, &member.1, out);
     }
-    put_part(b"}", so_far, sink)
+    out.put(b"}");
 }

@@ -91,25 +91,12 @@ pub fn add_units(text: &mut ShortText, units: i64, places: u32)
     text.push(number.as_slice());
 }
 
-/// Writes a number of units of `10^-places` as the least decimal without exponent, and counts its bytes on from `count`.
-pub fn put_units<W: Drain>(
-    units: i64,
-    places: u32,
-    count: u64,
-    sink: &mut Sink<W>,
-) -> Result<u64, WriteFault>
-    requires { places ≤ 18 }
-    ensures { Writes sink.old sink.new count (units_text units places) result }
-{
-    let mut text = BackwardText::new();
-    put_units_in_front(&mut text, units, places);
-    sink.put(count, text.as_slice())
-}
-
 /// Writes a number of units of `10^-places` as the least decimal without exponent, and answers the number of its bytes.
 pub fn print_units<W: Drain>(units: i64, places: u32, sink: &mut Sink<W>) -> Result<u64, WriteFault>
     requires { places ≤ 18 }
     ensures { Writes sink.old sink.new 0 (units_text units places) result }
 {
-    put_units(units, places, 0, sink)
+    let mut text = BackwardText::new();
+    put_units_in_front(&mut text, units, places);
+    sink.put(0, text.as_slice())
 }

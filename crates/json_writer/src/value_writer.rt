@@ -1,111 +1,98 @@
 // Values as they are written.
-ghost use Rattle.byte_ends.specs.Continues.{Continues};
-ghost use Rattle.byte_ends.specs.Writes.{Writes};
+ghost use Rattle.std.specs.Prelude.{◌≡◌, ◌++◌};
+ghost use Rattle.json_writer.specs.Standing.{Start};
 ghost use Rattle.json_value.specs.Text.{bool_text, json_text, member_text, name_text};
 ghost use Rattle.json_value.specs.declared.json.Json.TheVariants as j;
 
+use crate::out::{Out, put_comma};
 use crate::text_writer::put_text;
-use byte_ends::{Drain, Progress, Sink, WriteFault, put_comma, put_part};
-use json_value::Json;
+use json_value::{Json, Properties, PropertiesForm};
 use owned_values::OwnText;
 
-/// Writes the word of a truth value.
-fn put_bool<W: Drain>(is_true: bool, so_far: Progress, sink: &mut Sink<W>) -> Progress
-    ensures { Continues sink.old sink.new so_far (bool_text is_true) result }
+/// The word of a truth value.
+fn bool_word(is_true: bool) -> &'static [u8]
+    ensures { result.now ≡ bool_text is_true }
 {
-    if is_true {
-        put_part(b"true", so_far, sink)
-    } else {
-        put_part(b"false", so_far, sink)
-    }
+    if is_true { b"true" } else { b"false" }
 }
 
-/// Writes the value, as `write_json`, as a part of a longer text.
+/// Puts the value, as `write_json` does.
 #[cycle(values)]
 #[tactic(auto, using(json_value::proofs::Texts::texts))]
-pub fn put_json<W: Drain>(value: &Json, so_far: Progress, sink: &mut Sink<W>) -> Progress
-    ensures { Continues sink.old sink.new so_far (json_text value.now) result }
+pub fn put_json<O: Out>(value: &Json, out: &mut O)
+    ensures text { O.text out.new ≡ O.text out.old ++ json_text value.now }
+    ensures kept { (start : Start) → O.good out.old start → O.good out.new start }
 {
     match value {
-        Json::Null => put_part(b"null", so_far, sink),
-        Json::Bool(is_true) => put_bool(*is_true, so_far, sink),
-        Json::Number(number) => put_part(number.as_bytes(), so_far, sink),
-        Json::Text(text) => put_text(text.as_str(), so_far, sink),
-        Json::Array(elements) => put_elements(elements.as_slice(), so_far, sink),
-        Json::Object(members) => put_members(members.as_slice(), so_far, sink),
+        Json::Null => out.put(b"null"),
+        Json::Bool(is_true) => out.put(bool_word(*is_true)),
+        Json::Number(number) => out.put(number.as_bytes()),
+        Json::Text(text) => put_text(text.as_str(), out),
+        Json::Array(elements) => put_elements(elements.as_slice(), out),
+        Json::Object(members) => put_members(members.as_slice(), out),
     }
 }
 
-/// Writes the array with these elements.
+/// Puts the array with these elements.
 #[cycle(values)]
-fn put_elements<W: Drain>(elements: &[Json], so_far: Progress, sink: &mut Sink<W>) -> Progress
-    ensures { Continues sink.old sink.new so_far (json_text (j.Array elements.now)) result }
+fn put_elements<O: Out>(elements: &[Json], out: &mut O)
+    ensures text { O.text out.new ≡ O.text out.old ++ json_text (j.Array elements.now) }
+    ensures kept { (start : Start) → O.good out.old start → O.good out.new start }
 {
-    let mut so_far = put_part(b"[", so_far, sink);
+    out.put(b"[");
     let mut is_first = true;
     'elements: for element in elements {
-        so_far = put_comma(is_first, so_far, sink);
+        put_comma(is_first, out);
         is_first = false;
-        so_far = put_json(element, so_far, sink);
+        put_json(element, out);
     }
-    put_part(b"]", so_far, sink)
+    out.put(b"]");
 }
 
-/// Writes the object with these members, as `write_members`, as a part of a longer text.
+/// Puts the object with these members, as `write_members` does.
 #[cycle(values)]
-pub fn put_members<W: Drain>(
-    members: &[(OwnText, Json)],
-    so_far: Progress,
-    sink: &mut Sink<W>,
-) -> Progress
-    ensures { Continues sink.old sink.new so_far (json_text (j.Object members.now)) result }
+pub fn put_members<O: Out>(members: &[(OwnText, Json)], out: &mut O)
+    ensures text { O.text out.new ≡ O.text out.old ++ json_text (j.Object members.now) }
+    ensures kept { (start : Start) → O.good out.old start → O.good out.new start }
 {
-    let mut so_far = put_part(b"{", so_far, sink);
+    out.put(b"{");
     let mut is_first = true;
     'members: for member in members {
-        so_far = put_comma(is_first, so_far, sink);
+        put_comma(is_first, out);
         is_first = false;
-        so_far = put_member(&member.0, &member.1, so_far, sink);
+        put_member(&member.0, &member.1, out);
     }
-    put_part(b"}", so_far, sink)
+    out.put(b"}");
 }
 
-/// Writes the member: its name, a colon and its value.
+/// Puts the member: its name, a colon and its value.
 #[cycle(values)]
-fn put_member<W: Drain>(
-    name: &OwnText,
-    value: &Json,
-    so_far: Progress,
-    sink: &mut Sink<W>,
-) -> Progress
-    ensures { Continues sink.old sink.new so_far (member_text (name.now, json_text value.now)) result }
+#[tactic(auto, using(std::proofs::Common::append_assoc))]
+fn put_member<O: Out>(name: &OwnText, value: &Json, out: &mut O)
+    ensures text { O.text out.new ≡ O.text out.old ++ member_text (name.now, json_text value.now) }
+    ensures kept { (start : Start) → O.good out.old start → O.good out.new start }
 {
-    let so_far = put_name(name, so_far, sink);
-    put_json(value, so_far, sink)
+    put_name(name, out);
+    put_json(value, out);
 }
 
-/// Writes the name of a member, and the colon.
-pub fn put_name<W: Drain>(name: &OwnText, so_far: Progress, sink: &mut Sink<W>) -> Progress
-    ensures { Continues sink.old sink.new so_far (name_text name.now) result }
+/// Puts the name of a member, and the colon.
+#[tactic(auto, using(std::proofs::Common::append_assoc))]
+pub fn put_name<O: Out>(name: &OwnText, out: &mut O)
+    ensures text { O.text out.new ≡ O.text out.old ++ name_text name.now }
+    ensures kept { (start : Start) → O.good out.old start → O.good out.new start }
 {
-    let so_far = put_text(name.as_str(), so_far, sink);
-    put_part(b":", so_far, sink)
+    put_text(name.as_str(), out);
+    out.put(b":");
 }
 
-/// Writes the value with no white space, and answers the number of bytes: members in their order and with their
-/// duplicates, numbers by their own texts, texts as `write_text` does. This takes no memory.
-pub fn write_json<W: Drain>(value: &Json, sink: &mut Sink<W>) -> Result<u64, WriteFault>
-    ensures { Writes sink.old sink.new 0 (json_text value.now) result }
+/// Puts the object with the members of the properties: a text as it stands, and members as `put_members` does.
+pub fn put_properties<O: Out>(properties: &Properties, out: &mut O)
+    ensures text { O.text out.new ≡ O.text out.old ++ json_text (j.Object properties.now) }
+    ensures kept { (start : Start) → O.good out.old start → O.good out.new start }
 {
-    put_json(value, Ok(0), sink)
-}
-
-/// Writes the object with these members, as `write_json` does, and answers the number of bytes.
-pub fn write_members<W: Drain>(
-    members: &[(OwnText, Json)],
-    sink: &mut Sink<W>,
-) -> Result<u64, WriteFault>
-    ensures { Writes sink.old sink.new 0 (json_text (j.Object members.now)) result }
-{
-    put_members(members, Ok(0), sink)
+    match properties.form() {
+        PropertiesForm::Values(members) => put_members(members, out),
+        PropertiesForm::Text(text) => out.put(text),
+    }
 }

@@ -1,5 +1,9 @@
-use Rattle.byte_ends.proofs.Parts.{whole}
+use Rattle.std.proofs.Common.{rules, sym}
 use Rattle.geojson_writer.proofs.feature_writer.write_features.Goals as goal
 
 pub returns : goal.returns
-returns g c = whole c.put_features.ensures
+returns g c =
+    let stood = c.put_features.ensures.kept _ c.over-out.ensures.begins in
+    let same = sym stood.same in
+    let wrote = c.end.ensures _ stood in
+    search rules

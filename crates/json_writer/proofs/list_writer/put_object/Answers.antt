@@ -1,13 +1,13 @@
 use Rattle.std.specs.Prelude.{codes}
-use Rattle.byte_ends.proofs.Parts.{begins, list-goes, list-ends}
 use Rattle.json_writer.proofs.Lists.{object-text, named_by}
+use Rattle.json_writer.proofs.Appending.{begins, list-goes, list-ends}
 use Rattle.json_writer.proofs.list_writer.put_object.Goals as goal
 
 pub members-init : goal.members-init
-members-init g c = begins _ _ (object-text g.P.PutValue.value c.args.members.now) c.put_part-so_far.ensures
+members-init g c = begins _ (object-text g.P.PutValue.value c.args.members.now) c.put.ensures.text c.put.ensures.kept
 
 pub members-preserved : goal.members-preserved
-members-preserved g c = list-goes (named_by g.P.PutValue.value) (codes "}") _ _ _ c.members.invariant _ c.members-test.true c.member-item.is c.put_comma-so_far.ensures c.put_named-so_far.ensures
+members-preserved g c = list-goes (named_by g.P.PutValue.value) (codes "}") _ _ _ c.members.invariant _ c.members-test.true c.member-item.is c.put_comma.ensures.text c.put_comma.ensures.kept c.put_named.ensures.text c.put_named.ensures.kept
 
-pub returns : goal.returns
-returns g c = list-ends (named_by g.P.PutValue.value) (codes "}") _ _ _ c.members.invariant c.members-test.false c.put_part.ensures
+pub returns-clause-text : goal.returns-clause-text
+returns-clause-text g c = list-ends (named_by g.P.PutValue.value) (codes "}") _ _ _ c.members.invariant c.members-test.false c.put-2.ensures.text

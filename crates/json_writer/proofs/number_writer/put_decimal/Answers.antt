@@ -1,11 +1,14 @@
+use Rattle.std.proofs.Common.{◌∙◌, List, ℕ, ◌++◌, ap, sym}
 use mir.Syntax.{w64}
 use Rattle.std.proofs.lemmas.Int.{to_z-of_z}
-use Rattle.byte_ends.proofs.Parts.{as_text, on_ok, on_err}
+use Rattle.std.proofs.lemmas.List.{append-nil}
+use Rattle.decimal_text.specs.Scaling.{units_text}
 use Rattle.json_value.proofs.Texts.{text-number}
 use Rattle.json_writer.proofs.number_writer.put_decimal.Goals as goal
 
-pub returns-in-Ok : goal.returns-in-Ok
-returns-in-Ok g c = as_text (text-number _) (on_ok _ _ _ _ _ _ c.in-Ok.is (rw (to_z-of_z w64 c.args.units c.ranges.units) at c.put_units.ensures))
-
-pub returns-in-Err : goal.returns-in-Err
-returns-in-Err g c = on_err _ _ _ _ c.in-Err.is
+pub returns-clause-text : goal.returns-clause-text
+returns-clause-text g c =
+    let digits = units_text c.args.units c.args.places in
+    let number = rw (to_z-of_z w64 c.args.units c.ranges.units) at c.put_units_in_front.ensures.added in
+    let text = number ∙ ap (λ (t : List ℕ). digits ++ t) c.new-text.ensures ∙ append-nil digits ∙ sym (text-number digits) in
+    rw (c.as_slice.ensures ∙ text) at c.put.ensures.text

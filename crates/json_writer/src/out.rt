@@ -1,0 +1,28 @@
+// What takes a text.
+ghost use Rattle.std.specs.Prelude.{◌≡◌, ◌++◌, List, ℕ};
+ghost use Rattle.owned_values.specs.Commas.{comma_unless};
+ghost use Rattle.json_writer.specs.Standing.{Start};
+
+/// What takes a text, part by part.
+pub trait Out {
+    // What was put so far.
+    ghost text: { Self → List ℕ };
+
+    // What was put so far stands as it should since this start.
+    ghost good: { Self → Start → Type 0 };
+
+    /// Puts these bytes behind the others.
+    fn put(&mut self, bytes: &[u8])
+        ensures text { text self.new ≡ text self.old ++ bytes.now }
+        ensures kept { (start : Start) → good self.old start → good self.new start };
+}
+
+/// Puts the comma in front of a list's element, or nothing in front of the first.
+pub fn put_comma<O: Out>(is_first: bool, out: &mut O)
+    ensures text { O.text out.new ≡ O.text out.old ++ comma_unless is_first }
+    ensures kept { (start : Start) → O.good out.old start → O.good out.new start }
+{
+    if !is_first {
+        out.put(b",");
+    }
+}

@@ -100,6 +100,7 @@ fn put_report<W: Drain>(report: &Report, so_far: Progress, sink: &mut Sink<W>) -
     let so_far = put_number_member(b",\"empty\":", report.counts.empty, so_far, sink);
     let so_far = put_part(b",\"dropped\":", so_far, sink);
     let so_far = put_array::<AllDropped, Dropped, W>(dropped, so_far, sink);
+    let so_far = put_number_member(b",\"lost\":", report.lost, so_far, sink);
     let so_far = put_number_member(b",\"arcs\":", report.arcs, so_far, sink);
     let so_far = put_number_member(b",\"kept\":", report.kept, so_far, sink);
     let so_far = put_number_member(b",\"removed\":", report.removed, so_far, sink);

@@ -1,5 +1,5 @@
 -- What a search has shown.
-use Rattle.std.proofs.Common.{◌≡◌, ◌≢◌, ℕ, ◌+◌, ◌-◌, ◌*◌, ◌/◌, ◌<◌, ◌≤◌, Bool, true, false, ◌&&◌, length, slice_index, Option, None, Some, refl, ap, subst, ◌∙◌, ◌⊎◌, inl, inr, arith}
+use Rattle.std.proofs.Common.{◌≡◌, ◌≢◌, ℕ, ◌+◌, ◌-◌, ◌*◌, ◌/◌, ◌<◌, ◌≤◌, Bool, true, false, ◌&&◌, length, slice_index, Option, None, Some, refl, sym, ap, subst, ◌∙◌, ◌⊎◌, inl, inr, arith}
 use Rattle.std.specs.Option.{IfNone}
 use Rattle.std.proofs.lemmas.Bool.{cases_eq}
 use Rattle.geometry.specs.Points.{Point}
@@ -9,8 +9,7 @@ use Rattle.guarded_reduction.specs.Extents.{HoldsPoint}
 use Rattle.guarded_reduction.specs.Tests.{IsOutside, Test, Reaches}
 use Rattle.guarded_reduction.specs.Indexes.{NoneMeets, IsIndex, NoneMeetsUnder, is_left_at, point_at}
 use Rattle.guarded_reduction.specs.Trees.{extent_at, Under}
-use Rattle.guarded_reduction.proofs.Boxes.{holds_in}
-use Rattle.guarded_reduction.proofs.Trees.{under_lies_in, under_leaf, under_cases, under_first}
+use Rattle.guarded_reduction.proofs.Trees.{under_leaf, under_cases, under_first}
 
 not_true : (b : Bool) → (b ≡ true → ⊥) → b ≡ false
 not_true true h = absurd (h refl)
@@ -21,28 +20,37 @@ both_true true true p q = refl
 both_true true false p q = cc
 both_true false b p q = cc
 
+-- a node's box holds the position of a place that is left under it
+held_under : (x : BoxTree) (node z : ℕ) → IsIndex x → 0 < node → node < length x.extents.items → z < length x.positions.items → is_left_at x.present.items z ≡ true →
+    Under node (length x.positions.items + slice_index x.ranks.items z) → HoldsPoint (extent_at x.extents.items node) (point_at x.positions.items z)
+held_under x node z i a b w l u =
+    let q : slice_index x.places.items (slice_index x.ranks.items z) ≡ z = i.order.back z w in
+    subst (λ (y : ℕ). HoldsPoint (extent_at x.extents.items node) (point_at x.positions.items y)) q
+    ((i.fitted.holds node a b).holds (slice_index x.ranks.items z) (i.order.rank z w) (subst (λ (y : ℕ). is_left_at x.present.items y ≡ true) (sym q) l) u)
+
 -- where a node's box does not meet the corner's, nothing under it meets the test
-pub pruned : (x : BoxTree) (node : ℕ) (e : Extent) (test : Test) (m : Bool) → IsIndex x → 0 < node → node < 2 * length x.positions.items → Reaches e test →
+pub pruned : (x : BoxTree) (node : ℕ) (e : Extent) (test : Test) (m : Bool) → IsIndex x → 0 < node → node < length x.extents.items → Reaches e test →
     ((p : Point) → HoldsPoint (extent_at x.extents.items node) p → HoldsPoint e p → m ≡ true) → m ≡ false → NoneMeetsUnder x node test
 pruned x node e test m i a b r h n = record { fails = λ z w l u. not_true _ (λ s. no z w l u s) }
   where
     no : (z : ℕ) → z < length x.positions.items → is_left_at x.present.items z ≡ true → Under node (length x.positions.items + slice_index x.ranks.items z) →
         test z (point_at x.positions.items z) ≡ true → ⊥
     no z w l u s =
-        let k : slice_index x.ranks.items z < length x.positions.items = i.order.rank z w in
-        let t : m ≡ true = h (point_at x.positions.items z) (holds_in _ _ _ (under_lies_in x.extents.items (length x.positions.items) node (length x.positions.items + slice_index x.ranks.items z) i.nested a (omega arith) u) (i.over.holds z w l))
-        (r.holds z (point_at x.positions.items z) s) in
+        let t : m ≡ true = h (point_at x.positions.items z) (held_under x node z i a b w l u) (r.holds z (point_at x.positions.items z) s) in
         cc
 
 -- where a node's box holds nothing that meets the test, nothing under it meets the test
-pub outside : (x : BoxTree) (node : ℕ) (test : Test) → IsIndex x → 0 < node → node < 2 * length x.positions.items → IsOutside (extent_at x.extents.items node) test → NoneMeetsUnder x node test
-outside x node test i a b o = record { fails = λ z w l u. not_true _ (λ s. no z w l u s) }
-  where
-    no : (z : ℕ) → z < length x.positions.items → is_left_at x.present.items z ≡ true → Under node (length x.positions.items + slice_index x.ranks.items z) →
-        test z (point_at x.positions.items z) ≡ true → ⊥
-    no z w l u s =
-        let k : slice_index x.ranks.items z < length x.positions.items = i.order.rank z w in
-        o.fails z (point_at x.positions.items z) (holds_in _ _ _ (under_lies_in x.extents.items (length x.positions.items) node (length x.positions.items + slice_index x.ranks.items z) i.nested a (omega arith) u) (i.over.holds z w l)) s
+pub outside : (x : BoxTree) (node : ℕ) (test : Test) → IsIndex x → 0 < node → node < length x.extents.items → IsOutside (extent_at x.extents.items node) test → NoneMeetsUnder x node test
+outside x node test i a b o = record { fails = λ z w l u. not_true _ (λ s. o.fails z (point_at x.positions.items z) (held_under x node z i a b w l u) s) }
+
+-- what lies outside of a box that holds whatever meets the test doesn't
+pub beyond_reach : (e : Extent) (test : Test) (z : ℕ) (p : Point) (m : Bool) → Reaches e test → (HoldsPoint e p → m ≡ true) → m ≡ false → test z p ≡ false
+beyond_reach e test z p m r h n = not_true _ (λ s. let t : m ≡ true = h (r.holds z p s) in cc)
+
+-- what isn't so is not both
+pub not_both : (m a b : Bool) → m ≡ false → b ≡ false → m ≡ (a && b)
+not_both m true b h n = h ∙ sym n
+not_both m false b h n = h
 
 -- a leaf's place does not meet the test
 pub leaf_clear : (x : BoxTree) (leaf place : ℕ) (test : Test) → IsIndex x → length x.positions.items ≤ leaf → place ≡ slice_index x.places.items (leaf - length x.positions.items) →

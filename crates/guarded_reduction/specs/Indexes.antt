@@ -1,11 +1,11 @@
 -- An index: boxes over the places that are left.
-use Rattle.std.specs.Prelude.{◌≡◌, ℕ, pos, ◌+◌, ◌*◌, ◌<◌, Bool, true, false, List, length, slice_index_or, slice_index}
+use Rattle.std.specs.Prelude.{◌≡◌, ℕ, pos, ◌+◌, ◌<◌, ◌≤◌, Bool, true, false, List, length, slice_index_or, slice_index}
 use Rattle.geometry.specs.Points.{Point}
 use Rattle.guarded_reduction.specs.declared.extent.Extent.{Extent}
 use Rattle.guarded_reduction.specs.declared.box_tree.BoxTree.{BoxTree}
 use Rattle.guarded_reduction.specs.Extents.{HoldsPoint}
 use Rattle.guarded_reduction.specs.Tests.{Test}
-use Rattle.guarded_reduction.specs.Trees.{extent_at, IsNested, Under}
+use Rattle.guarded_reduction.specs.Trees.{extent_at, Under}
 
 abbrev pub origin : Point
 origin = record { x = pos 0; y = pos 0 }
@@ -38,20 +38,25 @@ pub record IsOrder (places ranks : List ℕ) (n : ℕ) : Type 0 where
   pub rank : (z : ℕ) → z < n → slice_index ranks z < n
   pub back : (z : ℕ) → z < n → slice_index places (slice_index ranks z) ≡ z
 
--- the leaf of each place that is left holds its position
-pub record IsOver (ps : List Point) (bs : List Bool) (ranks : List ℕ) (es : List Extent) : Type 0 where
-  pub holds : (z : ℕ) → z < length ps → is_left_at bs z ≡ true → HoldsPoint (extent_at es (length ps + slice_index ranks z)) (point_at ps z)
+-- each leaf has a place
+pub record AreLeaves (ps : List Point) (bs : List Bool) (places : List ℕ) : Type 0 where
+  pub present : length bs ≡ length ps
+  pub as_many_places : length places ≡ length ps
+  pub place : (r : ℕ) → r < length ps → slice_index places r < length ps
 
--- the leaves of ranks up to a number hold the positions of their places
-pub record AreLeaves (es : List Extent) (ps : List Point) (places : List ℕ) (n : ℕ) : Type 0 where
-  pub holds : (r : ℕ) → r < n → HoldsPoint (extent_at es (length ps + r)) (point_at ps (slice_index places r))
+-- the box holds the positions of the places that are left under a node
+pub record HoldsLeft (ps : List Point) (bs : List Bool) (places : List ℕ) (node : ℕ) (e : Extent) : Type 0 where
+  pub holds : (r : ℕ) → r < length ps → is_left_at bs (slice_index places r) ≡ true → Under node (length ps + r) → HoldsPoint e (point_at ps (slice_index places r))
+
+-- from a node on boxes hold what is left under them
+pub record AreFitted (es : List Extent) (ps : List Point) (bs : List Bool) (places : List ℕ) (from : ℕ) : Type 0 where
+  pub holds : (i : ℕ) → from ≤ i → i < length es → HoldsLeft ps bs places i (extent_at es i)
 
 pub record IsIndex (x : BoxTree) : Type 0 where
   pub present : length x.present.items ≡ length x.positions.items
   pub order : IsOrder x.places.items x.ranks.items (length x.positions.items)
-  pub extents : length x.extents.items ≡ 2 * length x.positions.items
-  pub nested : IsNested x.extents.items 1 (length x.positions.items)
-  pub over : IsOver x.positions.items x.present.items x.ranks.items x.extents.items
+  pub few : length x.extents.items ≤ length x.positions.items
+  pub fitted : AreFitted x.extents.items x.positions.items x.present.items x.places.items 1
 
 -- no place that is left and lies under the node meets the test
 pub record NoneMeetsUnder (x : BoxTree) (node : ℕ) (test : Test) : Type 0 where

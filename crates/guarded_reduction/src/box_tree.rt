@@ -6,15 +6,15 @@ ghost use Rattle.guarded_reduction.specs.Indexes.{IsIndex, Meets, NoneMeets};
 use crate::extent::Extent;
 use crate::ordering::{places_in_order, ranks_of};
 use crate::query::Query;
-use crate::refitting::{empty_leaf, tree_over};
+use crate::refitting::{boxes_over, refit_over};
 use crate::searching::{find_beside, find_under};
 use geometry::Position;
 use owned_values::Memory;
 use std::alloc::Global;
 
-/// The positions of places, which of them are left, the places in the order of the leaves, the rank of each among these, and a tree of boxes
-/// over them: the children of the box at i are those at 2 i and 2 i + 1, and the leaves are the second half of the list. The leaf of a place
-/// that is gone holds nothing.
+/// The positions of places, which of them are left, the places in the order of the leaves, the rank of each among these, and a tree over them: the
+/// children of the node at i are those at 2 i and 2 i + 1, and the leaves come last. A box holds what is left under a node, for the nodes of all but
+/// the two lowest levels.
 #[derive(Drop)]
 pub struct BoxTree {
     pub positions: Vec<Position>,
@@ -35,7 +35,7 @@ pub fn tree_of(alloc: Global, positions: Vec<Position>) -> Result<BoxTree, Memor
     let places = places_in_order(alloc, &positions)?;
     let ranks = ranks_of(alloc, &places)?;
     let present = vec![in alloc; true; n]?;
-    let extents = tree_over(alloc, &positions, &places)?;
+    let extents = boxes_over(alloc, &positions, &present, &places)?;
     Ok(BoxTree {
         positions,
         present,
@@ -56,15 +56,13 @@ impl BoxTree {
     {
         let leaf = self.leaf_of(place);
         self.present[place] = false;
-        let leaves = self.count();
-        empty_leaf(&mut self.extents, leaves, leaf);
-    }
-
-    /// How many places there are, with those that were taken away.
-    fn count(&self) -> usize
-        ensures { result ≡ length self.now.positions.items }
-    {
-        self.positions.len()
+        refit_over(
+            &mut self.extents,
+            &self.positions,
+            &self.present,
+            &self.places,
+            leaf,
+        );
     }
 
     /// The leaf of a place.

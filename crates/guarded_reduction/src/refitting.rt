@@ -1,13 +1,60 @@
-// Trees of boxes, made and refitted.
-ghost use Rattle.std.specs.Prelude.{◌≡◌, ◌≢◌, ℕ, ◌+◌, ◌*◌, ◌<◌, ◌≤◌, ◌^◌, length, slice_index, IfOk};
-ghost use Rattle.guarded_reduction.specs.Extents.{LiesIn, HoldsPoint};
-ghost use Rattle.guarded_reduction.specs.Indexes.{AreLeaves, point_at};
-ghost use Rattle.guarded_reduction.specs.Trees.{extent_at, HoldsChildren, IsNested, DiffersAt};
+// Boxes over places that are left, made and refitted.
+ghost use Rattle.std.specs.Prelude.{◌≡◌, ◌-◌, ◌+◌, ◌*◌, ◌<◌, ◌≤◌, length, slice_index, IfOk};
+ghost use Rattle.guarded_reduction.specs.Indexes.{AreFitted, AreLeaves, HoldsLeft, is_left_at, point_at};
+ghost use Rattle.guarded_reduction.specs.Trees.{extent_at, DiffersAt};
 
-use crate::extent::{Extent, around, empty_extent, empty_within, joined};
+use crate::extent::{Extent, around, empty_extent, joined};
+use crate::searching::{is_left, position_of, read_extent};
 use geometry::Position;
 use owned_values::Memory;
 use std::alloc::Global;
+
+/// The box of a leaf, which holds nothing where its place is gone.
+fn leaf_extent(
+    positions: &[Position],
+    present: &[bool],
+    places: &[usize],
+    leaf: usize,
+) -> Extent
+    requires leaves { AreLeaves positions.now present.now places.now }
+    requires leaf { length positions.now ≤ leaf }
+    requires inside { leaf < 2 * length positions.now }
+    ensures { HoldsLeft positions.now present.now places.now leaf result }
+{
+    let place = places[leaf - positions.len()];
+    if is_left(present, place) {
+        around(position_of(positions, place))
+    } else {
+        empty_extent()
+    }
+}
+
+/// A box that holds what is left under a node: its own, where it has one.
+fn extent_under(
+    extents: &[Extent],
+    positions: &[Position],
+    present: &[bool],
+    places: &[usize],
+    node: usize,
+) -> Extent
+    requires leaves { AreLeaves positions.now present.now places.now }
+    requires few { length extents.now ≤ length positions.now }
+    requires fitted { AreFitted extents.now positions.now present.now places.now node }
+    requires inner { 0 < node }
+    requires inside { node < 2 * length positions.now }
+    ensures { HoldsLeft positions.now present.now places.now node result }
+{
+    if node < extents.len() {
+        return read_extent(extents, node);
+    }
+    if node >= positions.len() {
+        return leaf_extent(positions, present, places, node);
+    }
+    joined(
+        extent_under(extents, positions, present, places, 2 * node),
+        extent_under(extents, positions, present, places, 2 * node + 1),
+    )
+}
 
 /// Another box is put in a place.
 fn set_extent(extents: &mut [Extent], at: usize, e: Extent)
@@ -18,30 +65,83 @@ fn set_extent(extents: &mut [Extent], at: usize, e: Extent)
     extents[at] = e;
 }
 
-/// The box in a place.
-#[tactic(auto, unfolding(crate::specs::Trees::extent_at))]
-pub fn read_extent(extents: &[Extent], at: usize) -> Extent
-    requires { at < length extents.now }
-    ensures { result ≡ extent_at extents.now at }
-{
-    extents[at]
-}
-
-/// Refits a node: its box becomes that round its two children. The answer is whether it changed.
-fn refit(extents: &mut [Extent], node: usize) -> bool
+/// Refits a node: its box becomes that round what is left under its two children. The answer is whether it changed.
+fn refit(
+    extents: &mut [Extent],
+    positions: &[Position],
+    present: &[bool],
+    places: &[usize],
+    node: usize,
+) -> bool
+    requires leaves { AreLeaves positions.now present.now places.now }
+    requires few { length extents.old ≤ length positions.now }
+    requires fitted { AreFitted extents.old positions.now present.now places.now (node + 1) }
     requires inner { 0 < node }
-    requires leaves { 2 * node + 1 < length extents.old }
-    ensures holds { HoldsChildren extents.new node }
+    requires inside { node < length extents.old }
+    ensures holds { HoldsLeft positions.now present.now places.now node (extent_at extents.new node) }
     ensures others { DiffersAt node extents.old extents.new }
-    ensures shrinks { HoldsChildren extents.old node → LiesIn (extent_at extents.new node) (extent_at extents.old node) }
 {
     let before = read_extent(extents, node);
     let e = joined(
-        read_extent(extents, 2 * node),
-        read_extent(extents, 2 * node + 1),
+        extent_under(extents, positions, present, places, 2 * node),
+        extent_under(extents, positions, present, places, 2 * node + 1),
     );
     set_extent(extents, node, e);
     e != before
+}
+
+/// Each node that has a box is refitted, the last first.
+fn refit_all(
+    extents: &mut [Extent],
+    positions: &[Position],
+    present: &[bool],
+    places: &[usize],
+)
+    requires leaves { AreLeaves positions.now present.now places.now }
+    requires few { length extents.old ≤ length positions.now }
+    ensures { AreFitted extents.new positions.now present.now places.now 1 }
+{
+    let mut node = extents.len();
+    while node > 1 {
+        node -= 1;
+        let _ = refit(extents, positions, present, places, node);
+    }
+}
+
+/// The boxes over places that are left. The nodes of the two lowest levels have none.
+pub fn boxes_over(
+    alloc: Global,
+    positions: &[Position],
+    present: &[bool],
+    places: &[usize],
+) -> Result<Vec<Extent>, Memory>
+    requires { AreLeaves positions.now present.now places.now }
+    ensures few { IfOk result (λ v. length v.items ≤ length positions.now) }
+    ensures fitted { IfOk result (λ v. AreFitted v.items positions.now present.now places.now 1) }
+{
+    let mut extents = vec![in alloc; empty_extent(); positions.len() / 4]?;
+    refit_all(&mut extents, positions, present, places);
+    Ok(extents)
+}
+
+/// Refits a node, if it has a box. The answer is no where its box stays as it was.
+fn refit_if_boxed(
+    extents: &mut [Extent],
+    positions: &[Position],
+    present: &[bool],
+    places: &[usize],
+    node: usize,
+) -> bool
+    requires leaves { AreLeaves positions.now present.now places.now }
+    requires few { length extents.old ≤ length positions.now }
+    requires fitted { AreFitted extents.old positions.now present.now places.now 1 }
+    requires inner { 0 < node }
+    ensures { AreFitted extents.new positions.now present.now places.now 1 }
+{
+    if node >= extents.len() {
+        return true;
+    }
+    refit(extents, positions, present, places, node)
 }
 
 /// The node over one whose box changed, or zero: there is none over the first, and those over one that stays as it was stay so, too.
@@ -52,79 +152,39 @@ fn node_over(node: usize, is_changed: bool) -> usize
     if is_changed { node / 2 } else { 0 }
 }
 
-/// Each node before the leaves is refitted, the last first.
-fn refit_all(extents: &mut [Extent], leaves: usize)
-    requires { 2 * leaves ≡ length extents.old }
-    ensures nested { IsNested extents.new 1 leaves }
-    ensures others { (i : ℕ) → leaves ≤ i → extent_at extents.new i ≡ extent_at extents.old i }
-{
-    let mut node = leaves;
-    while node > 1 {
-        node -= 1;
-        let _ = refit(extents, node);
-    }
-}
-
-/// The leaves are the boxes round the positions of these places.
-fn fit_leaves(extents: &mut [Extent], positions: &[Position], places: &[usize])
-    requires extents { 2 * length positions.now ≡ length extents.old }
-    requires places { length places.now ≡ length positions.now }
-    requires within { (r : ℕ) → r < length places.now → slice_index places.now r < length positions.now }
-    ensures { AreLeaves extents.new positions.now places.now (length positions.now) }
-{
-    let leaves = positions.len();
-    for rank in 0..leaves {
-        set_extent(extents, leaves + rank, around(positions[places[rank]]));
-    }
-}
-
-/// The boxes of a tree over the positions of these places.
-pub fn tree_over(
-    alloc: Global,
+/// The nodes over a leaf are refitted, as far as they change.
+fn refit_from(
+    extents: &mut [Extent],
     positions: &[Position],
+    present: &[bool],
     places: &[usize],
-) -> Result<Vec<Extent>, Memory>
-    requires few { length positions.now < 2 ^ 60 }
-    requires places { length places.now ≡ length positions.now }
-    requires within { (r : ℕ) → r < length places.now → slice_index places.now r < length positions.now }
-    ensures length { IfOk result (λ v. length v.items ≡ 2 * length positions.now) }
-    ensures nested { IfOk result (λ v. IsNested v.items 1 (length positions.now)) }
-    ensures leaves { IfOk result (λ v. AreLeaves v.items positions.now places.now (length positions.now)) }
+    leaf: usize,
+)
+    requires leaves { AreLeaves positions.now present.now places.now }
+    requires few { length extents.old ≤ length positions.now }
+    requires fitted { AreFitted extents.old positions.now present.now places.now 1 }
+    ensures { AreFitted extents.new positions.now present.now places.now 1 }
 {
-    let leaves = positions.len();
-    let mut extents = vec![in alloc; empty_extent(); 2 * leaves]?;
-    fit_leaves(&mut extents, positions, places);
-    refit_all(&mut extents, leaves);
-    Ok(extents)
-}
-
-/// A leaf is emptied, and the nodes over it are refitted, as far as they change.
-fn clear_leaf(extents: &mut [Extent], leaves: usize, leaf: usize)
-    requires leaves { 2 * leaves ≡ length extents.old }
-    requires leaf { leaves ≤ leaf }
-    requires within { leaf < 2 * leaves }
-    requires nested { IsNested extents.old 1 leaves }
-    ensures nested { IsNested extents.new 1 leaves }
-    ensures others { (i : ℕ) → leaves ≤ i → i ≢ leaf → extent_at extents.new i ≡ extent_at extents.old i }
-{
-    let e = empty_within(read_extent(extents, leaf));
-    set_extent(extents, leaf, e);
     let mut node = leaf / 2;
     while node > 0 {
-        let is_changed = refit(extents, node);
+        let is_changed = refit_if_boxed(extents, positions, present, places, node);
         node = node_over(node, is_changed);
     }
 }
 
 /// The same, in a list that can grow.
-pub fn empty_leaf(extents: &mut Vec<Extent>, leaves: usize, leaf: usize)
-    requires leaves { 2 * leaves ≡ length extents.old.items }
-    requires leaf { leaves ≤ leaf }
-    requires within { leaf < 2 * leaves }
-    requires nested { IsNested extents.old.items 1 leaves }
+pub fn refit_over(
+    extents: &mut Vec<Extent>,
+    positions: &[Position],
+    present: &[bool],
+    places: &[usize],
+    leaf: usize,
+)
+    requires leaves { AreLeaves positions.now present.now places.now }
+    requires few { length extents.old.items ≤ length positions.now }
+    requires fitted { AreFitted extents.old.items positions.now present.now places.now 1 }
     ensures length { length extents.new.items ≡ length extents.old.items }
-    ensures nested { IsNested extents.new.items 1 leaves }
-    ensures others { (i : ℕ) → leaves ≤ i → i ≢ leaf → extent_at extents.new.items i ≡ extent_at extents.old.items i }
+    ensures fitted { AreFitted extents.new.items positions.now present.now places.now 1 }
 {
-    clear_leaf(extents, leaves, leaf);
+    refit_from(extents, positions, present, places, leaf);
 }

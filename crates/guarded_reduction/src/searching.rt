@@ -3,16 +3,16 @@ ghost use Rattle.std.specs.Prelude.{◌≡◌, ℕ, ◌+◌, ◌-◌, ◌*◌, �
 ghost use Rattle.std.specs.Option.{IfNone, IfSome};
 ghost use Rattle.guarded_reduction.specs.Indexes.{IsIndex, Meets, NoneMeets, NoneMeetsUnder, is_left_at, point_at};
 ghost use Rattle.guarded_reduction.specs.Tests.{Reaches};
+ghost use Rattle.guarded_reduction.specs.Trees.{extent_at};
 
 use crate::box_tree::BoxTree;
-use crate::extent::{Extent, meets};
+use crate::extent::{Extent, around, meets};
 use crate::query::Query;
-use crate::refitting::read_extent;
 use geometry::Position;
 
 /// Whether the place is left.
 #[tactic(auto, unfolding(crate::specs::Indexes::is_left_at))]
-fn is_left(present: &[bool], place: usize) -> bool
+pub fn is_left(present: &[bool], place: usize) -> bool
     requires { place < length present.now }
     ensures { result ≡ is_left_at present.now place }
 {
@@ -27,13 +27,24 @@ pub fn position_of(positions: &[Position], place: usize) -> Position
     positions[place]
 }
 
+/// The box of a node.
+#[tactic(auto, unfolding(crate::specs::Trees::extent_at))]
+pub fn read_extent(extents: &[Extent], at: usize) -> Extent
+    requires { at < length extents.now }
+    ensures { result ≡ extent_at extents.now at }
+{
+    extents[at]
+}
+
 /// The place is left and meets the test.
-fn is_met_at<Q: Query>(index: &BoxTree, place: usize, query: &Q) -> bool
+fn is_met_at<Q: Query>(index: &BoxTree, place: usize, within: &Extent, query: &Q) -> bool
     requires index { IsIndex index.now }
     requires within { place < length index.now.positions.items }
+    requires reach { Reaches within.now (Q.test query.now) }
     ensures { result ≡ (is_left_at index.now.present.items place && Q.test query.now place (point_at index.now.positions.items place)) }
 {
-    is_left(&index.present, place) && query.is_met_by(place, position_of(&index.positions, place))
+    let at = position_of(&index.positions, place);
+    meets(around(at), *within) && (is_left(&index.present, place) && query.is_met_by(place, at))
 }
 
 /// The place of a leaf.
@@ -48,15 +59,16 @@ fn place_at(index: &BoxTree, leaf: usize) -> usize
 }
 
 /// The place of a leaf, where it is left and meets the test.
-fn found_at<Q: Query>(index: &BoxTree, leaf: usize, query: &Q) -> Option<usize>
+fn found_at<Q: Query>(index: &BoxTree, leaf: usize, within: &Extent, query: &Q) -> Option<usize>
     requires index { IsIndex index.now }
     requires leaf { length index.now.positions.items ≤ leaf }
-    requires within { leaf < 2 * length index.now.positions.items }
+    requires inside { leaf < 2 * length index.now.positions.items }
+    requires reach { Reaches within.now (Q.test query.now) }
     ensures some { IfSome result (λ z. Meets index.now.positions.items index.now.present.items (Q.test query.now) z) }
     ensures none { IfNone result (NoneMeetsUnder index.now leaf (Q.test query.now)) }
 {
     let place = place_at(index, leaf);
-    if is_met_at(index, place, query) {
+    if is_met_at(index, place, within, query) {
         Some(place)
     } else {
         None
@@ -71,6 +83,9 @@ fn may_hold<Q: Query>(index: &BoxTree, node: usize, within: &Extent, query: &Q) 
     requires reach { Reaches within.now (Q.test query.now) }
     ensures { result ≡ false → NoneMeetsUnder index.now node (Q.test query.now) }
 {
+    if node >= index.extents.len() {
+        return true;
+    }
     let e = read_extent(&index.extents, node);
     meets(e, *within) && query.may_meet(&e)
 }
@@ -93,7 +108,7 @@ pub fn find_under<Q: Query>(
         return None;
     }
     if node >= index.positions.len() {
-        return found_at(index, node, query);
+        return found_at(index, node, within, query);
     }
     match find_under(index, 2 * node, within, query) {
         Some(place) => Some(place),

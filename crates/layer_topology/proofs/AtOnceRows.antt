@@ -1,5 +1,5 @@
 -- Shares of arcs that are reduced at once: that they stay, and worked rows in whole units.
-use Rattle.std.proofs.Common.{◌≡◌, ℕ, ◌^◌, ◌-◌, leb, ℤ, pos, negsuc, Bool, true, false, cond, List, [], ◌∷◌, Some, refl, subst, sym}
+use Rattle.std.proofs.Common.{◌≡◌, ℕ, ◌^◌, ◌-◌, leb, ℤ, pos, negsuc, Bool, true, false, cond, List, [], ◌∷◌, Some, refl}
 use Rattle.std.specs.Prelude.{◌&&◌, ◌||◌}
 use Rattle.std.proofs.lemmas.Bool.{and_parts, leb-true}
 use Rattle.geometry.specs.Areas.{cross, twice_area}

@@ -8,7 +8,9 @@ pub mod DraftRings
 pub mod Guarded
 pub mod GuardedArcs
 pub mod GuardedMade
+pub mod Indexes
 pub mod Kept
+pub mod KeptNext
 pub mod Laid
 pub mod Made
 pub mod Snapping

@@ -4,11 +4,12 @@ ghost use Rattle.std.specs.List.{AllByRecursion};
 ghost use Rattle.geometry.specs.Joins.{AreInRange, Meet, arc_at};
 ghost use Rattle.guarded_meaning.specs.Elimination.{reduce_arcs};
 ghost use Rattle.guarded_meaning.specs.Guards.{guarded_by, is_long};
-ghost use Rattle.guarded_meaning.specs.Shares.{greatest, known, share};
+ghost use Rattle.guarded_meaning.specs.Shares.{chosen as share_of, greatest, known, share};
 ghost use Rattle.layer_topology.specs.Guarded.{is_simplifying_level};
 ghost use Rattle.layer_topology.specs.GuardedLevels.{guarded_chosen, guarded_threshold, or_weight};
 
 use crate::level::Level;
+use crate::staying::kept_by_weights;
 use effective_area::{Weight, share_threshold};
 use geojson_types::Position;
 use guarded_reduction::{reduce_guarded, weights_guarded};
@@ -61,29 +62,28 @@ fn share_of_weights(alloc: Global, weights: &[Option<u128>], p: u64, q: u64) -> 
     share_threshold(alloc, slice::from_ref(&areas), p, q)
 }
 
-/// The threshold of arcs that are reduced at once, and whether it was chosen. For a share their corners go without a threshold first.
-fn threshold_at_once(
+/// Of each arc the numbers of the positions that stay where all are reduced at once and p of q of those between the ends stay, and the threshold that
+/// was chosen for it. Their corners go once, without a threshold: the weights say what stays at any.
+fn kept_by_share(
     alloc: Global,
     arcs: &[Items<Position>],
     no_crossings: bool,
     rings: &[Items<ArcRef>],
-    level: Level,
-) -> Result<(u128, Option<u128>), Memory>
-    requires level { is_simplifying_level level ≡ true }
+    p: u64,
+    q: u64,
+) -> Result<(Vec<Vec<usize>>, u128), Memory>
+    requires whole { 0 < q }
+    requires part { p ≤ q }
     requires in_range { AllByRecursion (AreInRange (length arcs.now)) rings.now }
     requires meet { AllByRecursion (λ refs. Meet (map (arc_at arcs.now) refs)) rings.now }
     requires long { AllByRecursion (λ refs. is_long arcs.now refs ≡ true) rings.now }
-    ensures threshold { IfOk result (λ r. r.0 ≡ guarded_threshold no_crossings rings.now level arcs.now) }
-    ensures chosen { IfOk result (λ r. r.1 ≡ guarded_chosen no_crossings rings.now level arcs.now) }
+    ensures kept { IfOk result (λ r. map (λ k. k.items) r.0.items ≡ reduce_arcs (guarded_by no_crossings rings.now) r.1 arcs.now) }
+    ensures chosen { IfOk result (λ r. r.1 ≡ share_of p q (guarded_by no_crossings rings.now) arcs.now) }
 {
-    match level {
-        Level::Fixed(threshold) => Ok((threshold, None)),
-        Level::Share { p, q } => {
-            let weights = weights_guarded(alloc, arcs, no_crossings, rings)?;
-            let threshold = share_of_weights(alloc, &weights, p, q)?;
-            Ok((threshold, Some(threshold)))
-        }
-    }
+    let weights = weights_guarded(alloc, arcs, no_crossings, rings)?;
+    let threshold = share_of_weights(alloc, &weights, p, q)?;
+    let kept = kept_by_weights(alloc, arcs, &weights, threshold)?;
+    Ok((kept, threshold))
 }
 
 /// Of each arc the numbers of the positions that stay where all are reduced at once at a level, no crossing may be made, where that is asked for, and
@@ -104,7 +104,14 @@ pub fn kept_at_once(
         ≡ reduce_arcs (guarded_by no_crossings rings.now) (guarded_threshold no_crossings rings.now level arcs.now) arcs.now) }
     ensures chosen { IfOk result (λ r. r.1 ≡ guarded_chosen no_crossings rings.now level arcs.now) }
 {
-    let (threshold, chosen) = threshold_at_once(alloc, arcs, no_crossings, rings, level)?;
-    let kept = reduce_guarded(alloc, arcs, no_crossings, rings, threshold)?;
-    Ok((kept, chosen))
+    match level {
+        Level::Fixed(threshold) => {
+            let kept = reduce_guarded(alloc, arcs, no_crossings, rings, threshold)?;
+            Ok((kept, None))
+        }
+        Level::Share { p, q } => {
+            let (kept, threshold) = kept_by_share(alloc, arcs, no_crossings, rings, p, q)?;
+            Ok((kept, Some(threshold)))
+        }
+    }
 }

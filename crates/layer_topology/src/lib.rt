@@ -19,6 +19,7 @@ mod objects;
 mod renumbering;
 mod sparing;
 mod splitting;
+mod staying;
 mod topology;
 mod transforms;
 

@@ -8,7 +8,8 @@
 First the deepest nesting that is taken, of each kind, and one more, with a stack of 1 MiB. Then streams: pipes that close early,
 a full disk, closed streams, folders, files that can't be read, named pipes, files with no end. Then large files, at a tenth of
 their size and whole: the seconds of both, the growth, which is the time a byte at the whole size over that at the tenth, and the
-greatest peak of memory. Of these times nothing is claimed. At last files of 10^4, 10^5 and 10^6 positions that were chosen so that
+greatest peak of memory. Of these times nothing is claimed. Then collections in collections, one and as deep as they may nest: the processor
+time of a byte may not triple. At last files of 10^4, 10^5 and 10^6 positions that were chosen so that
 they, or the segments between them, have one hash where the hash is one that is known before the run: the processor time of a byte
 may not double from the first to the last.
 
@@ -414,6 +415,58 @@ def try_sizes():
         print(f"| {name} | {size} | {many / 1e6:.1f} | {command} | {little:.3f} | {much:.3f} | {growth:.2f} | {peak:.0f} |", flush=True)
 
 
+# ---- collections in collections
+#
+# What is in them may cost little more the deeper it stands, wherever their types stand, with members after those that they are made of, and
+# where the first of what is in them is faulty, so that the rest is only looked through.
+
+
+def nested(depth, inside, before='"type":"GeometryCollection",', after=""):
+    return f'{{{before}"geometries":[' * depth + inside + f"]{after}}}" * depth
+
+
+def arc_lines(n, first=""):
+    return first + ",".join('{"type":"LineString","arcs":[0]}' for _ in range(n))
+
+
+def nested_topology(collection):
+    return topology(f'"a":{collection}', segment(0))
+
+
+TYPE_LAST = ("", ',"type":"GeometryCollection"')
+MEMBER_LAST = ('"type":"GeometryCollection",', ',"x":0')
+NO_ARC = '{"type":"LineString","arcs":[1]},'
+# A name, how deep the collections nest at most, what makes the file, the words, and the status.
+NESTED = (
+    ("lines of a topology", 120, lambda d, n: nested_topology(nested(d, arc_lines(n))), STAT, 0),
+    ("the same, decoded", 120, lambda d, n: nested_topology(nested(d, arc_lines(n))), GEO, 0),
+    ("the same, simplified", 120, lambda d, n: nested_topology(nested(d, arc_lines(n))), SIMPLIFY, 0),
+    ("lines of a topology, types last", 120, lambda d, n: nested_topology(nested(d, arc_lines(n), *TYPE_LAST)), STAT, 0),
+    ("lines of a topology, a member last", 120, lambda d, n: nested_topology(nested(d, arc_lines(n), *MEMBER_LAST)), STAT, 0),
+    ("lines of a topology, a faulty one first", 120, lambda d, n: nested_topology(nested(d, arc_lines(n, NO_ARC))), STAT, 1),
+)
+# By how much the time of a byte may grow from one collection to the deepest ones, and how many lines or points are in them.
+GREATEST_DEPTH_GROWTH, FEW_NESTED, MANY_NESTED = 3, 10**4, 10**5
+
+
+def time_a_byte(name, make, words, status):
+    """The least seconds of the processor that a command takes for a byte of a file of three runs."""
+    write_apart("file", make, FEW_NESTED if ASKED.short else MANY_NESTED)
+    runs = [run_once(words) for _ in range(LEAST_RUNS)]
+    for run in runs:
+        judge(f"{words}, {name}", status, run[0])
+    return min(run[2] for run in runs) / os.path.getsize("file")
+
+
+def try_nested():
+    for name, most, make, words, status in NESTED:
+        flat = time_a_byte(f"1 {name}", lambda n: make(1, n), words, status)
+        deep = time_a_byte(f"{most} {name}", lambda n: make(most, n), words, status)
+        growth = deep / flat
+        print(f"{name} in {most} collections, {words}: {deep * 1e9:.1f} ns of the processor a byte, growth {growth:.2f}")
+        judge(f"{name}: whether the growth is below {GREATEST_DEPTH_GROWTH}", True, growth < GREATEST_DEPTH_GROWTH)
+
+
 # ---- positions that were chosen by their hashes
 #
 # Two hashes are known. That of release 1.2.7 and before is the two halves of a product, joined, of the two numbers of a position, or the two
@@ -561,6 +614,7 @@ PARTS = (
     (try_outputs, 31, 31),
     (try_inputs, 14, 14),
     (try_sizes, 312, 104),
+    (try_nested, 54, 54),
     (try_chosen, 41, 34),
 )
 

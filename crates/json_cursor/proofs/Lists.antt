@@ -1,11 +1,13 @@
 -- The elements of an array, one turn after another.
-use Rattle.std.proofs.Common.{◌≡◌, ◌≢◌, ℕ, zero, suc, ◌+◌, ◌-◌, ◌<◌, ◌≤◌, ◌++◌, append_assoc, Bool, true, false, eqb, if◌then◌else◌, List, [], ◌∷◌, Option, Some, None, Err, refl, sym, ap, ◌∙◌, arith}
+use Rattle.std.proofs.Common.{◌≡◌, ◌≢◌, ℕ, zero, suc, ◌+◌, ◌-◌, ◌<◌, ◌≤◌, ◌++◌, append_assoc, Bool, true, false, eqb, if◌then◌else◌, List, [], ◌∷◌, Option, Some, None, Result, Ok, Err, refl, sym, ap, ◌∙◌, arith}
+use Rattle.std.specs.Borrow.{Bor}
 use Rattle.json_value.specs.declared.json.Json.{Json}
 use Rattle.json_value.specs.Reading.{Parse, ◌>>=◌, skip, list_after, list_at}
 use Rattle.json_value.specs.Readers.{Counting}
 use Rattle.json_reading.specs.declared.fault.Fault.{Fault}
 use Rattle.json_reading.specs.declared.fault.Fault.TheVariants as fault
 use Rattle.json_reading.specs.Gives.{Fails}
+use Rattle.json_reading.specs.Passes.{Passes}
 use Rattle.json_reading.proofs.Steps.{not_equal, pair_is}
 use Rattle.json_cursor.specs.declared.stop.Stop.{Stop}
 use Rattle.json_cursor.specs.declared.stop.Stop.TheVariants as stop
@@ -84,6 +86,13 @@ module _ {A : Type 0} (item : Parse A) (n : ℕ) (bs : List ℕ) (some : 0 < n) 
 
     pub breaks : list_after 93 (list_at 93 item (n - 1)) x (skip after) ≡ None → list_at 93 item n bs ≡ None
     breaks h = goes_by ∙ h
+
+-- what passes the others passes them all
+pub others_pass : {A : Type 0} (item : Parse A) (n : ℕ) (bs : List ℕ) → 0 < n → (x : A) (after : List ℕ) → item (skip bs) ≡ Some (x, after) → (rest : List ℕ) → skip after ≡ 44 ∷ rest
+    → (answer : Result (Bor (List ℕ)) Fault) → Passes answer (list_at 93 item (n - 1) rest) → Passes answer (list_at 93 item n bs)
+others_pass item n bs some x after found rest comma (Ok end) h = (x ∷ h.0, goes_on item n bs some x after found rest comma ∙ ap (made (λ xs. x ∷ xs)) h.1)
+others_pass item n bs some x after found rest comma (Err (fault.Malformed why left)) h = goes_on item n bs some x after found rest comma ∙ ap (made (λ xs. x ∷ xs)) h
+others_pass item n bs some x after found rest comma (Err fault.Memory) h = tt
 
 -- a list that was found has a first thing
 pub some_listed : {A : Type 0} (item : Parse A) (n : ℕ) (bs : List ℕ) (xs : List A) (rest : List ℕ) → list_at 93 item n bs ≡ Some (xs, rest) → (y : A) × ((ys : List A) × (xs ≡ y ∷ ys))

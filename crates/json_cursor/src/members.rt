@@ -9,7 +9,7 @@ use std::alloc::Global;
 
 /// The fault of bytes that go on as no object does.
 #[inline(always)]
-pub(crate) fn broken(left: &[u8]) -> Fault
+pub fn broken(left: &[u8]) -> Fault
     ensures { IsMalformed result }
 {
     Fault::Malformed {

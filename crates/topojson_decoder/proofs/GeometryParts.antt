@@ -97,14 +97,9 @@ module _ (t : Option Transform) (arcs : List (List Point)) where
     unfolding shapes.part
     grouped ss d h = one_part Collection ms c v one ∙ rw h refl
 
-    ungrouped : (e : TopoFault) → shapes.shapes t arcs v c ≡ Err e → shapes.typed_shape t arcs (Some Collection) ms c ≡ Err e
+    pub ungrouped : (e : TopoFault) → shapes.shapes t arcs v c ≡ Err e → shapes.typed_shape t arcs (Some Collection) ms c ≡ Err e
     unfolding shapes.part
     ungrouped e h = one_part Collection ms c v one ∙ rw h refl
-
-    pub judged_group : (new : Counts) (why : Stop TopoFault) → Judges (shapes.shapes t arcs v) c new (Err why) → Judges (shapes.typed_shape t arcs (Some Collection) ms) c new (Err why)
-    judged_group new (stop.Fault e) h = ungrouped e h
-    judged_group new stop.NoValue h = absurd h
-    judged_group new stop.Memory h = tt
 
   -- ---- the geometry, where its type is named once
 
@@ -132,19 +127,12 @@ module _ (t : Option Transform) (arcs : List (List Point)) where
   pub no_array : (v : Json) (old : Counts) → array_of v ≡ None → shapes.shapes t arcs v old ≡ Err WrongKind
   no_array v old h = ap (λ (r : Reader (List TopoShape)). r old) (unrolling.shapes_other t arcs v h)
 
-  array_shapes : (vs : List Json) (old : Counts) → shapes.shapes t arcs (j.Array vs) old ≡ kept (shapes.shape t arcs) vs old
+  pub array_shapes : (vs : List Json) (old : Counts) → shapes.shapes t arcs (j.Array vs) old ≡ kept (shapes.shape t arcs) vs old
   array_shapes vs old = ap (λ (r : Reader (List TopoShape)). r old) (unrolling.shapes_array t arcs (j.Array vs) vs (array_of-array vs))
 
   pub no_elements : (prefix : Option (Json × List ℕ)) (rest : List ℕ) (old : Counts) → prefix ≡ Some (j.Array [], rest) → Reads (shapes.shapes t arcs) prefix [] rest old old
   unfolding gather
   no_elements prefix rest old is = record { value = j.Array []; prefix_is = is; means = array_shapes [] old }
-
-  module _ (prefix : Option (Json × List ℕ)) (found : Option (List Json × List ℕ)) (old : Counts) (is : prefix ≡ made j.Array found) where
-    pub elements_stop : (why : Stop TopoFault) → Stops (kept (shapes.shape t arcs)) found old why → Stops (shapes.shapes t arcs) prefix old why
-    elements_stop why h = made_stops j.Array (shapes.shapes t arcs) (kept (shapes.shape t arcs)) prefix found is old old (λ vs rest e. array_shapes vs old) why h
-
-    pub elements_read : (ss : List TopoShape) (rest : List ℕ) (new : Counts) → Reads (kept (shapes.shape t arcs)) found ss rest old new → Reads (shapes.shapes t arcs) prefix ss rest old new
-    elements_read ss rest new r = made_reads j.Array (shapes.shapes t arcs) (kept (shapes.shape t arcs)) prefix found is old old (λ vs end e. array_shapes vs old) ss rest new r
 
   -- ---- one geometry more
 

@@ -4,6 +4,7 @@ pub mod Ends
 pub mod FeatureLists
 pub mod FeatureParts
 pub mod GeometryParts
+pub mod HeldGeometries
 pub mod IndexParts
 pub mod KeptParts
 pub mod LeapBlocks
@@ -23,6 +24,7 @@ pub mod Repeating
 pub mod Running
 pub mod MemberOccurrences
 pub mod ShapeParts
+pub mod SimpleMembers
 pub mod LineOrRingParts
 pub mod TextParts
 pub mod Then

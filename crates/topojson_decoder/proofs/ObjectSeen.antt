@@ -32,12 +32,12 @@ use Rattle.topojson_decoder.specs.declared.occurrence.Occurrence.{Occurrence}
 use Rattle.topojson_decoder.specs.declared.occurrence.Occurrence.TheVariants.{Never}
 use Rattle.topojson_decoder.specs.Features.{IsFeature}
 use Rattle.topojson_decoder.specs.Kept.{kept_object, making, of_object}
-use Rattle.topojson_decoder.specs.Members.{GoesOnWith, BeginsAt, IsOccurrence, Judges, see}
-use Rattle.topojson_decoder.specs.ObjectParts.{AreFeatures, IsObject, typed_object}
-use Rattle.topojson_decoder.proofs.FeatureParts.{sees_part}
+use Rattle.topojson_decoder.specs.Members.{GoesOnWith, IsOccurrence, Judges, see}
+use Rattle.topojson_decoder.specs.Geometries.{IsType}
+use Rattle.topojson_decoder.specs.ObjectParts.{AreFeatures, IsObject, simple, typed_object}
 use Rattle.topojson_decoder.proofs.KeptParts.{made_alike, made_fault}
-use Rattle.topojson_decoder.proofs.PartsSeen.{sees_geometries}
-use Rattle.topojson_decoder.proofs.MemberOccurrences.{no_other, passes, sees}
+use Rattle.topojson_decoder.proofs.MemberOccurrences.{passes, sees}
+use Rattle.topojson_decoder.proofs.SimpleMembers.{named_simple, simple_more, simple_same}
 
 -- ---- what was seen
 
@@ -48,15 +48,10 @@ no_parts start d feature h = record { feature = h; features = refl }
 
 module _ (start : Start) (d : ℕ) (name : List ℕ) where
   -- the member `geometries`
-  pub sees_features : (ms : Members) (occurrence : ObjectParts) (v : Json) → IsObject start d ms occurrence → (x : Features) (s : Occurrence Features) → s ≡ see occurrence.features x → (prefix : Bor (List ℕ)) (member_index : Occurrence (Bor (List ℕ))) → member_index ≡ see occurrence.feature.parts.geometries prefix
-      → bytes_eq name (codes "geometries") ≡ true → AreFeatures start d v x → BeginsAt d v prefix
-      → IsObject start d (ms ++ (name, v) ∷ []) (record {
-        feature = record { parts = record { kind = occurrence.feature.parts.kind; coordinates = occurrence.feature.parts.coordinates; arcs = occurrence.feature.parts.arcs; geometries = member_index; read = occurrence.feature.parts.read }; id = occurrence.feature.id; properties = occurrence.feature.properties };
-        features = s;
-      })
-  sees_features ms occurrence v h x s is prefix member_index are same k begins = record {
-    feature = sees_part start d name ms occurrence.feature v h.feature _ (no_other name (codes "geometries") (codes "id") same refl) (no_other name (codes "geometries") (codes "properties") same refl)
-        (sees_geometries start d ms occurrence.feature.parts name v h.feature.parts prefix member_index are same begins);
+  pub sees_features : (ms : Members) (occurrence : ObjectParts) (v : Json) → IsObject start d ms occurrence → (x : Features) (s : Occurrence Features) → s ≡ see occurrence.features x
+      → bytes_eq name (codes "geometries") ≡ true → AreFeatures start d v x → IsObject start d (ms ++ (name, v) ∷ []) (record { feature = occurrence.feature; features = s })
+  sees_features ms occurrence v h x s is same k = record {
+    feature = subst (λ us. IsFeature start d us occurrence.feature) (sym (simple_same ms name v same)) h.feature;
     features = subst (IsOccurrence (AreFeatures start d) (named (codes "geometries") (ms ++ (name, v) ∷ []))) (sym is) (sees (AreFeatures start d) (codes "geometries") ms name v occurrence.features h.features x same k);
   }
 
@@ -66,9 +61,13 @@ module _ (start : Start) (d : ℕ) (name : List ℕ) where
   feature_goes_on occurrence after bytes other (Ok rest) g = record {
     value = g.value;
     prefix = g.prefix;
-    holds = λ ms h. record { feature = g.holds ms h.feature; features = passes (AreFeatures start d) (codes "geometries") ms name g.value occurrence.features h.features other };
+    holds = λ ms h. record { feature = subst (λ us. IsFeature start d us after) (sym (simple_more ms name g.value other)) (g.holds (simple ms) h.feature); features = passes (AreFeatures start d) (codes "geometries") ms name g.value occurrence.features h.features other };
   }
   feature_goes_on occurrence after bytes other (Err fault) g = g
+
+-- the type was seen of all members
+pub type_seen : (start : Start) (d : ℕ) (ms : Members) (occurrence : ObjectParts) → IsObject start d ms occurrence → IsOccurrence IsType (named (codes "type") ms) occurrence.feature.parts.kind
+type_seen start d ms occurrence h = subst (λ vs. IsOccurrence IsType vs occurrence.feature.parts.kind) (named_simple (codes "type") refl ms) h.feature.parts.kind
 
 module _ (t : Option Transform) (arcs : List (List Point)) where
   module _ (ms : Members) (c : Counts) where

@@ -1,5 +1,5 @@
 -- The members of a geometry, seen one after another.
-use Rattle.std.proofs.Common.{◌≡◌, ℕ, true, false, List, [], ◌∷◌, ◌++◌, Option, Some, None, Ok, Result, refl, ap, sym, subst, ◌∙◌}
+use Rattle.std.proofs.Common.{◌≡◌, ℕ, true, false, List, [], ◌∷◌, ◌++◌, Option, Some, None, Ok, Err, Result, refl, ap, sym, subst, ◌∙◌}
 use Rattle.std.specs.Prelude.{bytes_eq, codes}
 use Rattle.std.specs.Option.{IfSome}
 use Rattle.std.specs.Borrow.{Bor}
@@ -12,11 +12,15 @@ use Rattle.geojson_types.specs.declared.counts.Counts.{Counts}
 use Rattle.topojson_decoder.specs.declared.occurrence.Occurrence.{Occurrence}
 use Rattle.topojson_decoder.specs.declared.occurrence.Occurrence.TheVariants.{Never}
 use Rattle.topojson_decoder.specs.declared.geometry_parts.GeometryParts.{GeometryParts}
+use Rattle.topojson_decoder.specs.declared.geometry_parts.Group.{Group}
 use Rattle.topojson_decoder.specs.declared.geometry_parts.PartType.{PartType}
 use Rattle.topojson_decoder.specs.declared.geometry_parts.Read.{Read}
 use Rattle.topojson_decoder.specs.declared.geometry_parts.Start.{Start}
-use Rattle.topojson_decoder.specs.Geometries.{IsNext, IsParts, IsRead, IsReadBy, IsReadOf, IsTaken, IsType, of_part}
-use Rattle.topojson_decoder.specs.Members.{BeginsAt, IsOccurrence, IsOnly, see}
+use Rattle.topojson_decoder.specs.Geometries.{IsGroup, IsNext, IsParts, IsRead, IsReadBy, IsReadOf, IsTaken, IsType, of_part}
+use Rattle.json_reading.specs.declared.fault.Fault.{Fault}
+use Rattle.json_reading.specs.Passes.{Passes}
+use Rattle.json_cursor.specs.Arrays.{prefix_value}
+use Rattle.topojson_decoder.specs.Members.{BeginsAt, GoesOnWith, IsOccurrence, IsOnly, see}
 use Rattle.topojson_decoder.proofs.MemberOccurrences.{no_other, only_sees, only_stays, passes, sees}
 
 -- nothing was seen of no members
@@ -41,8 +45,8 @@ module _ (start : Start) (d : ℕ) (ms : Members) (parts : GeometryParts) (name 
   passes_arcs : bytes_eq name (codes "arcs") ≡ false → IsOccurrence (BeginsAt d) (named (codes "arcs") more) parts.arcs
   passes_arcs other = passes (BeginsAt d) (codes "arcs") ms name v parts.arcs h.arcs other
 
-  passes_geometries : bytes_eq name (codes "geometries") ≡ false → IsOccurrence (BeginsAt d) (named (codes "geometries") more) parts.geometries
-  passes_geometries other = passes (BeginsAt d) (codes "geometries") ms name v parts.geometries h.geometries other
+  passes_geometries : bytes_eq name (codes "geometries") ≡ false → IsOccurrence (IsGroup start) (named (codes "geometries") more) parts.geometries
+  passes_geometries other = passes (IsGroup start) (codes "geometries") ms name v parts.geometries h.geometries other
 
   -- what was read stays where nothing is read
   stays_by : (by : Option PartType) → IsReadOf start ms parts.read by → IsReadOf start more parts.read by
@@ -90,13 +94,13 @@ module _ (start : Start) (d : ℕ) (ms : Members) (parts : GeometryParts) (name 
     read = reads (codes "arcs") same kind of_word after next;
   }
 
-  pub sees_geometries : (x : Bor (List ℕ)) (s : Occurrence (Bor (List ℕ))) → s ≡ see parts.geometries x → bytes_eq name (codes "geometries") ≡ true → BeginsAt d v x
+  pub sees_geometries : (x : Group) (s : Occurrence Group) → s ≡ see parts.geometries x → bytes_eq name (codes "geometries") ≡ true → IsGroup start v x
       → IsParts start d more (record { kind = parts.kind; coordinates = parts.coordinates; arcs = parts.arcs; geometries = s; read = parts.read })
   sees_geometries x s is same k = record {
     kind = passes_type (no_other name (codes "geometries") (codes "type") same refl);
     coordinates = passes_coordinates (no_other name (codes "geometries") (codes "coordinates") same refl);
     arcs = passes_arcs (no_other name (codes "geometries") (codes "arcs") same refl);
-    geometries = subst (IsOccurrence (BeginsAt d) (named (codes "geometries") more)) (sym is) (sees (BeginsAt d) (codes "geometries") ms name v parts.geometries h.geometries x same k);
+    geometries = subst (IsOccurrence (IsGroup start) (named (codes "geometries") more)) (sym is) (sees (IsGroup start) (codes "geometries") ms name v parts.geometries h.geometries x same k);
     read = stays;
   }
 
@@ -107,3 +111,9 @@ module _ (start : Start) (d : ℕ) (ms : Members) (parts : GeometryParts) (name 
   pub sees_word : (word : List ℕ) → bytes_eq name word ≡ true → bytes_eq word (codes "type") ≡ false → bytes_eq word (codes "coordinates") ≡ false → bytes_eq word (codes "arcs") ≡ false → bytes_eq word (codes "geometries") ≡ false → IsParts start d more parts
   sees_word word same a b c e =
       sees_other (no_other name word (codes "type") same a) (no_other name word (codes "coordinates") same b) (no_other name word (codes "arcs") same c) (no_other name word (codes "geometries") same e)
+
+-- a member of another name is passed over
+pub other_goes_on : (start : Start) (d : ℕ) (parts : GeometryParts) (name bytes : List ℕ) → bytes_eq name (codes "type") ≡ false → bytes_eq name (codes "coordinates") ≡ false → bytes_eq name (codes "arcs") ≡ false → bytes_eq name (codes "geometries") ≡ false
+    → (answer : Result (Bor (List ℕ)) Fault) → Passes answer (prefix_value d bytes) → GoesOnWith (IsParts start d) d name parts parts bytes answer
+other_goes_on start d parts name bytes a b c e (Ok rest) h = record { value = h.0; prefix = h.1; holds = λ ms k. sees_other start d ms parts name h.0 k a b c e }
+other_goes_on start d parts name bytes a b c e (Err fault) h = h

@@ -21,6 +21,7 @@ use Rattle.topojson_decoder.specs.Members.{BeginsAt, IsHeld, IsOccurrence, IsOnl
 use Rattle.topojson_decoder.specs.declared.geometry_parts.PartType.{PartType}
 use Rattle.topojson_decoder.specs.declared.geometry_parts.PartType.TheVariants.{Places, Arcs}
 use Rattle.topojson_decoder.specs.declared.geometry_parts.GeometryParts.{GeometryParts}
+use Rattle.topojson_decoder.specs.declared.geometry_parts.Group.{Group}
 use Rattle.topojson_decoder.specs.declared.geometry_parts.Read.{Read}
 use Rattle.topojson_decoder.specs.declared.geometry_parts.Start.{Start}
 
@@ -75,10 +76,14 @@ IsReadOf start ms read (Some kind) = IsOnly (λ v. IsReadBy start kind v read) (
 abbrev pub IsRead : Start → Members → Read → Type 0
 IsRead start ms read = IsReadOf start ms read read.by
 
+-- this is what the value of `geometries` is read as
+abbrev pub IsGroup : Start → Json → Group → Type 0
+IsGroup start v group = IsHeld (shapes.shapes (option_copied start.transform) start.arcs.now) start.counts group.counts v group.shapes
+
 -- what was seen of these members
 pub record IsParts (start : Start) (d : ℕ) (ms : Members) (parts : GeometryParts) : Type 0 where
   pub kind : IsOccurrence IsType (named (codes "type") ms) parts.kind
   pub coordinates : IsOccurrence (BeginsAt d) (named (codes "coordinates") ms) parts.coordinates
   pub arcs : IsOccurrence (BeginsAt d) (named (codes "arcs") ms) parts.arcs
-  pub geometries : IsOccurrence (BeginsAt d) (named (codes "geometries") ms) parts.geometries
+  pub geometries : IsOccurrence (IsGroup start) (named (codes "geometries") ms) parts.geometries
   pub read : IsRead start ms parts.read

@@ -1,5 +1,5 @@
 -- What was seen of the members of one object of a topology (TopoJSON 1.0, sections 2.1.5 and 2.2).
-use Rattle.std.specs.Prelude.{ℕ, List, Option, Some, None, codes, if◌then◌else◌}
+use Rattle.std.specs.Prelude.{ℕ, List, Option, Some, None, bytes_eq, codes, filter, not, if◌then◌else◌}
 use Rattle.std.specs.Option.{option_copied}
 use Rattle.json_value.specs.declared.json.Json.{Json}
 use Rattle.json_value.specs.Members.{Members, named}
@@ -35,9 +35,13 @@ pub record AreFeatures (start : Start) (d : ℕ) (v : Json) (x : Features) : Typ
   pub prefix : BeginsAt d v x.prefix
   pub read : AreRead start v x.read
 
+-- all but the members `geometries`
+abbrev pub simple : Members → Members
+simple ms = filter (λ m. not (bytes_eq m.0 (codes "geometries"))) ms
+
 -- what was seen of these members
 pub record IsObject (start : Start) (d : ℕ) (ms : Members) (occurrence : ObjectParts) : Type 0 where
-  pub feature : IsFeature start d ms occurrence.feature
+  pub feature : IsFeature start d (simple ms) occurrence.feature
   pub features : IsOccurrence (AreFeatures start d) (named (codes "geometries") ms) occurrence.features
 
 -- the object with these members, whose `type` is looked at first

@@ -11,7 +11,7 @@ ghost use Rattle.topojson_decoder.specs.Features.{IsFeature, IsFound, IsMemberAt
 ghost use Rattle.topojson_decoder.specs.Members.{FindsValue, GoesOnWith, IsOccurrence, Judges};
 ghost use Rattle.topojson_decoder.specs.declared.geometry_parts.Start.{Start as Begun};
 
-use crate::geometries::typed_of;
+use crate::geometries::{member_value, typed_of};
 use crate::geometry_parts::{GeometryParts, Start};
 use crate::index::is_name;
 use crate::keeping::Keeping;
@@ -221,7 +221,7 @@ impl<'a> FeatureParts<'a> {
         if is_name(name, "properties") {
             return self.properties_value(alloc, depth_left, bytes, start);
         }
-        self.parts.value(alloc, depth_left, name, bytes, start)
+        member_value(alloc, depth_left, &mut self.parts, name, bytes, start)
     }
 
     /// Goes on with the value at the front of this member, and gives what follows it.

@@ -1,60 +1,53 @@
 // Geometries inside collections (TopoJSON 1.0, section 2.2.7).
-ghost use Rattle.std.specs.Prelude.{◌≡◌, [], ℕ, ◌++◌, OnOk, Some, codes, length, option_to_list};
+ghost use Rattle.std.specs.Prelude.{◌≡◌, ◌++◌, [], ℕ, OnOk, Some, codes, length, option_to_list};
 ghost use Rattle.std.specs.Option.{option_copied};
 ghost use Rattle.json_value.specs.Members.{Members as Listed, named};
 ghost use Rattle.json_cursor.specs.Answers.{Answers};
 ghost use Rattle.json_cursor.specs.Arrays.{prefix_elements, prefix_value};
+ghost use Rattle.json_cursor.specs.Held.{IsHeld as AreHeld};
+ghost use Rattle.json_cursor.specs.Members.{GoesOn, GoesThrough, TakesAll, prefix_members};
 ghost use Rattle.topojson_meaning.specs.Reader.{kept};
 ghost use Rattle.topojson_meaning.specs.Shapes.{shape, shapes};
 ghost use Rattle.topojson_meaning.specs.declared.geometry_type.GeometryType.TheVariants as types;
-ghost use Rattle.topojson_decoder.specs.Geometries.{IsParts, geometry, typed_shape};
-ghost use Rattle.topojson_decoder.specs.Members.{BeginsAt, IsOccurrence, Judges};
+ghost use Rattle.topojson_decoder.specs.Geometries.{IsGroup, IsParts, geometry, typed_shape};
+ghost use Rattle.topojson_decoder.specs.Members.{Finds, FindsValue, GoesOnWith, IsHeld, IsOccurrence, Judges};
+ghost use Rattle.topojson_decoder.specs.declared.geometry_parts.Start.{Start as Begun};
 
-use crate::geometry_parts::{GeometryParts, PartType, Start, kind_of, part_of};
+use crate::geometry_parts::{GeometryParts, Group, PartType, Start, kind_of, part_of};
+use crate::index::is_name;
 use crate::keeping::Keeping;
 use crate::occurrence::Occurrence;
 use geojson_types::Counts;
-use json_cursor::{Mark, Stop, after_byte, mark_at, object_into};
-use json_reading::skip;
+use json_cursor::{Mark, Stop, after_byte, after_others, broken, mark_at, name_at};
+use json_reading::{Fault, after_value, skip};
 use json_value::Items;
 use std::alloc::{AllocFailed, Global};
+use std::mem;
 use topojson_meaning::{GeometryType, TopoFault};
 use topojson_types::{Cell, TopoShape, Transform};
 
-/// What the member `geometries` of a collection is.
-#[cycle(geometries)]
+/// What the member `geometries` of a collection is. What was read of it is moved out of there.
 fn group_of(
-    alloc: Global,
-    depth_left: u32,
-    geometries: &Occurrence<&[u8]>,
-    start: Start<'_>,
+    geometries: &mut Occurrence<Group>,
     counts: &mut Counts,
 ) -> Result<Option<TopoShape>, Stop<TopoFault>>
-    ensures { (ms : Listed) → IsOccurrence (BeginsAt depth_left) (named (codes "geometries") ms) geometries.now
-        → Judges (typed_shape start.entry (Some types.Collection) ms) start.entry.counts counts.new result }
+    ensures { (start : Begun) (ms : Listed) → IsOccurrence (IsGroup start) (named (codes "geometries") ms) geometries.old
+        → Judges (typed_shape start (Some types.Collection) ms) start.counts counts.new result }
 {
     match geometries {
         Occurrence::Never => Err(Stop::Fault(TopoFault::Missing)),
         Occurrence::Again => Err(Stop::Fault(TopoFault::Duplicate)),
-        Occurrence::Once(prefix) => {
-            *counts = start.counts;
-            match geometries_at(
-                alloc,
-                depth_left,
-                start.transform,
-                start.arcs,
-                *prefix,
-                counts,
-            ) {
-                Err(stop) => Err(stop),
-                Ok((shapes, _)) => Ok(Some(TopoShape::Group(shapes))),
+        Occurrence::Once(group) => {
+            *counts = group.counts;
+            match mem::replace(&mut group.shapes, Err(TopoFault::Missing)) {
+                Err(fault) => Err(Stop::Fault(fault)),
+                Ok(shapes) => Ok(Some(TopoShape::Group(shapes))),
             }
         }
     }
 }
 
 /// The shape of a geometry of this type whose members were seen so. What was read of them is moved out of there. A null type has none.
-#[cycle(geometries)]
 #[inline(always)]
 pub(crate) fn typed_of(
     alloc: Global,
@@ -94,15 +87,12 @@ pub(crate) fn typed_of(
                     counts,
                 )
             }
-            GeometryType::Collection => {
-                group_of(alloc, depth_left, &parts.geometries, start, counts)
-            }
+            GeometryType::Collection => group_of(&mut parts.geometries, counts),
         },
     }
 }
 
 /// The geometry whose members were seen so. What was read of them is moved out of there.
-#[cycle(geometries)]
 fn shape_of(
     alloc: Global,
     depth_left: u32,
@@ -118,10 +108,96 @@ fn shape_of(
     }
 }
 
-/// The geometry at the front, which is none where nothing is left of it, and what follows it; or why reading stops. What is seen of its
-/// members goes into `parts`, which hold none yet, and what is read of them is moved out of there.
+/// Goes on with the value at the front of a member of this name, and gives what follows it.
 #[cycle(geometries)]
-#[inline(always)]
+pub(crate) fn member_value<'a>(
+    alloc: Global,
+    depth_left: u32,
+    parts: &mut GeometryParts<'a>,
+    name: &str,
+    bytes: &'a [u8],
+    start: Start<'a>,
+) -> Result<&'a [u8], Fault>
+    ensures { GoesOnWith (IsParts start.entry depth_left) depth_left name.now parts.old parts.new bytes.now result }
+{
+    if is_name(name, "geometries") {
+        let mut counts = start.counts;
+        let (shapes, rest) = geometries_at(alloc, depth_left, start, bytes, &mut counts)?;
+        parts.geometries.see(Group { shapes, counts });
+        return Ok(rest);
+    }
+    parts.value(alloc, depth_left, name, bytes, start)
+}
+
+/// Goes on with the member of a geometry at the front, and gives what follows it.
+#[cycle(geometries)]
+fn member_at<'a>(
+    alloc: Global,
+    depth_left: u32,
+    parts: &mut GeometryParts<'a>,
+    bytes: &'a [u8],
+    start: Start<'a>,
+) -> Result<&'a [u8], Fault>
+    ensures { GoesOn (IsParts start.entry depth_left) depth_left parts.old parts.new bytes.now result }
+{
+    let (name, value) = name_at(alloc, bytes)?;
+    member_value(alloc, depth_left, parts, name.as_str(), value, start)
+}
+
+/// Goes on with the members of a geometry after its brace, one or more, and gives what follows them. (The loop of `json_cursor` goes over
+/// members that don't lead back to it.)
+#[cycle(geometries)]
+fn members_after<'a>(
+    alloc: Global,
+    depth_left: u32,
+    parts: &mut GeometryParts<'a>,
+    inside: &'a [u8],
+    start: Start<'a>,
+) -> Result<&'a [u8], Fault>
+    ensures { TakesAll (IsParts start.entry depth_left) (prefix_members depth_left (length inside.now) inside.now) parts.old parts.new result }
+{
+    let mut rest = inside;
+    'members: for _ in 0..inside.len() {
+        let following = member_at(alloc, depth_left, parts, skip(rest), start)?;
+        let mark = skip(following);
+        if let Some(end) = after_byte(b'}', mark) {
+            return Ok(end);
+        }
+        let Some(more) = after_byte(b',', mark) else {
+            return Err(broken(mark));
+        };
+        rest = more;
+    }
+    Err(broken(rest))
+}
+
+/// Goes on with the members of the object at the front, and gives what follows it; none of what is no object, of which nothing is read.
+#[cycle(geometries)]
+fn members_at<'a>(
+    alloc: Global,
+    depth_left: u32,
+    parts: &mut GeometryParts<'a>,
+    bytes: &'a [u8],
+    start: Start<'a>,
+) -> Result<Option<&'a [u8]>, Fault>
+    ensures { GoesThrough (IsParts start.entry) depth_left bytes.now parts.old parts.new result }
+{
+    let Some(inside) = after_byte(b'{', bytes) else {
+        return Ok(None);
+    };
+    if depth_left == 0 {
+        return Err(broken(inside));
+    }
+    if let Some(end) = after_byte(b'}', skip(inside)) {
+        return Ok(Some(end));
+    }
+    let rest = members_after(alloc, depth_left - 1, parts, inside, start)?;
+    Ok(Some(rest))
+}
+
+/// The geometry at the front, which is none where nothing is left of it, or its first fault, and what follows it. What is seen of its members
+/// goes into `parts`, which hold none yet, and what is read of them is moved out of there.
+#[cycle(geometries)]
 fn geometry_into<'a>(
     alloc: Global,
     depth_left: u32,
@@ -129,41 +205,43 @@ fn geometry_into<'a>(
     bytes: &'a [u8],
     start: Start<'a>,
     counts: &mut Counts,
-) -> Result<(Option<TopoShape>, &'a [u8]), Stop<TopoFault>>
-    ensures { ((d : ℕ) → IsParts start.entry d [] parts.old) → counts.old ≡ start.entry.counts
-        → Answers (λ x. x) (shape (option_copied start.entry.transform) start.entry.arcs.now) (prefix_value depth_left bytes.now) start.entry.counts counts.new result }
+) -> Result<(Result<Option<TopoShape>, TopoFault>, &'a [u8]), Fault>
+    ensures { ((d : ℕ) → IsParts start.entry d [] parts.old)
+        → FindsValue (IsHeld (shape (option_copied start.entry.transform) start.entry.arcs.now) start.entry.counts counts.new) depth_left bytes.now result }
 {
-    let Some(rest) = object_into::<GeometryParts<'a>>(alloc, depth_left, parts, bytes, start)?
-    else {
-        return Err(Stop::Fault(TopoFault::WrongKind));
+    let Some(rest) = members_at(alloc, depth_left, parts, bytes, start)? else {
+        let rest = after_value(alloc, depth_left, bytes)?;
+        return Ok((Err(TopoFault::WrongKind), rest));
     };
     match shape_of(alloc, depth_left - 1, parts, start, counts) {
-        Err(stop) => Err(stop),
-        Ok(shape) => Ok((shape, rest)),
+        Ok(shape) => Ok((Ok(shape), rest)),
+        Err(Stop::Fault(fault)) => Ok((Err(fault), rest)),
+        Err(Stop::NoValue) => Err(broken(rest)),
+        Err(Stop::Memory) => Err(Fault::Memory),
     }
 }
 
-/// The geometry at the front, which is none where nothing is left of it, and what follows it; or why reading stops. Its members may stand
-/// in any order.
+/// The geometry at the front, which is none where nothing is left of it, or its first fault, and what follows it. Its members may stand in any
+/// order.
 #[cycle(geometries)]
-pub fn geometry_at<'a>(
+fn held_geometry_at<'a>(
     alloc: Global,
     depth_left: u32,
-    transform: Option<&'a Transform>,
-    arcs: &'a [Items<Cell>],
+    by: Start<'a>,
     bytes: &'a [u8],
     counts: &mut Counts,
-) -> Result<(Option<TopoShape>, &'a [u8]), Stop<TopoFault>>
-    ensures { Answers (λ x. x) (shape (option_copied transform.entry) arcs.now) (prefix_value depth_left bytes.now) counts.old counts.new result }
+) -> Result<(Result<Option<TopoShape>, TopoFault>, &'a [u8]), Fault>
+    ensures { FindsValue (IsHeld (shape (option_copied by.entry.transform) by.entry.arcs.now) counts.old counts.new) depth_left bytes.now result }
 {
-    let start = Start {
-        transform,
-        arcs,
-        counts: *counts,
-        keeping: Keeping::Whole,
-    };
     let mut parts = GeometryParts::none();
-    geometry_into(alloc, depth_left, &mut parts, bytes, start, counts)
+    geometry_into(
+        alloc,
+        depth_left,
+        &mut parts,
+        bytes,
+        by.after(*counts),
+        counts,
+    )
 }
 
 /// Puts one after the others, if there is one.
@@ -182,61 +260,87 @@ fn push_some(
     }
 }
 
-/// The geometries after the bracket of an array, one or more, without those of which nothing is left, and what follows it.
+/// The geometries after the bracket of an array, one or more, without those of which nothing is left, or their first fault, and what follows
+/// them. Those after a faulty one are passed over.
 #[cycle(geometries)]
 fn geometries_after<'a>(
     alloc: Global,
     depth_left: u32,
-    transform: Option<&'a Transform>,
-    arcs: &'a [Items<Cell>],
+    by: Start<'a>,
     inside: &'a [u8],
     counts: &mut Counts,
-) -> Result<(Vec<TopoShape>, &'a [u8]), Stop<TopoFault>>
-    ensures { Answers (λ v. v.items) (kept (shape (option_copied transform.entry) arcs.now)) (prefix_elements depth_left (length inside.now) inside.now) counts.old counts.new result }
+) -> Result<(Result<Items<TopoShape>, TopoFault>, &'a [u8]), Fault>
+    ensures { Finds (AreHeld (kept (shape (option_copied by.entry.transform) by.entry.arcs.now)) counts.old counts.new) (prefix_elements depth_left (length inside.now) inside.now) result }
 {
     let mut read = Vec::new(alloc);
     let mut rest = inside;
-    'geometries: for _ in 0..inside.len() {
-        match geometry_at(alloc, depth_left, transform, arcs, skip(rest), counts) {
-            Err(stop) => return Err(stop),
-            Ok((one, following)) => {
+    'geometries: for turn in 0..inside.len() {
+        let (one, following) = held_geometry_at(alloc, depth_left, by, skip(rest), counts)?;
+        match one {
+            Err(fault) => {
+                let end = after_others(alloc, depth_left, inside.len() - turn, following)?;
+                return Ok((Err(fault), end));
+            }
+            Ok(one) => {
                 push_some(&mut read, one)?;
                 let (mark, more) = mark_at(following);
                 match mark {
-                    Mark::Neither => return Err(Stop::NoValue),
-                    Mark::Close => return Ok((read, more)),
+                    Mark::Neither => return Err(broken(more)),
+                    Mark::Close => return Ok((Ok(Items::of(read)), more)),
                     Mark::Comma => {}
                 }
                 rest = more;
             }
         }
     }
-    Err(Stop::NoValue)
+    Err(broken(rest))
 }
 
-/// The geometries of the array at the front, without those of which nothing is left, and what follows it; or why reading stops.
+/// The geometries of the array at the front, without those of which nothing is left, or their first fault, and what follows it.
 #[cycle(geometries)]
 fn geometries_at<'a>(
+    alloc: Global,
+    depth_left: u32,
+    by: Start<'a>,
+    bytes: &'a [u8],
+    counts: &mut Counts,
+) -> Result<(Result<Items<TopoShape>, TopoFault>, &'a [u8]), Fault>
+    ensures { FindsValue (IsHeld (shapes (option_copied by.entry.transform) by.entry.arcs.now) counts.old counts.new) depth_left bytes.now result }
+{
+    let Some(inside) = after_byte(b'[', bytes) else {
+        let rest = after_value(alloc, depth_left, bytes)?;
+        return Ok((Err(TopoFault::WrongKind), rest));
+    };
+    if depth_left == 0 {
+        return Err(broken(inside));
+    }
+    if let Some(rest) = after_byte(b']', skip(inside)) {
+        return Ok((Ok(Items::of(Vec::new(alloc))), rest));
+    }
+    geometries_after(alloc, depth_left - 1, by, inside, counts)
+}
+
+/// The geometry at the front, which is none where nothing is left of it, and what follows it; or why reading stops. Its members may stand
+/// in any order.
+pub fn geometry_at<'a>(
     alloc: Global,
     depth_left: u32,
     transform: Option<&'a Transform>,
     arcs: &'a [Items<Cell>],
     bytes: &'a [u8],
     counts: &mut Counts,
-) -> Result<(Items<TopoShape>, &'a [u8]), Stop<TopoFault>>
-    ensures { Answers (λ x. x) (shapes (option_copied transform.entry) arcs.now) (prefix_value depth_left bytes.now) counts.old counts.new result }
+) -> Result<(Option<TopoShape>, &'a [u8]), Stop<TopoFault>>
+    ensures { Answers (λ x. x) (shape (option_copied transform.entry) arcs.now) (prefix_value depth_left bytes.now) counts.old counts.new result }
 {
-    let Some(inside) = after_byte(b'[', bytes) else {
-        return Err(Stop::Fault(TopoFault::WrongKind));
+    let start = Start {
+        transform,
+        arcs,
+        counts: *counts,
+        keeping: Keeping::Whole,
     };
-    if depth_left == 0 {
-        return Err(Stop::NoValue);
-    }
-    if let Some(rest) = after_byte(b']', skip(inside)) {
-        return Ok((Items::of(Vec::new(alloc)), rest));
-    }
-    match geometries_after(alloc, depth_left - 1, transform, arcs, inside, counts) {
-        Err(stop) => Err(stop),
-        Ok((read, rest)) => Ok((Items::of(read), rest)),
+    let (held, rest) = held_geometry_at(alloc, depth_left, start, bytes, counts)?;
+    match held {
+        Ok(shape) => Ok((shape, rest)),
+        Err(fault) => Err(Stop::Fault(fault)),
     }
 }

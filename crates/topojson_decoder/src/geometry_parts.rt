@@ -1,5 +1,5 @@
 // What is seen of the members of a geometry (TopoJSON 1.0, section 2.2).
-ghost use Rattle.std.specs.Prelude.{◌≡◌, [], ℕ, IfSome, List, Some, codes, true};
+ghost use Rattle.std.specs.Prelude.{◌≡◌, [], ℕ, IfSome, List, Some, bytes_eq, codes, false, true};
 ghost use Rattle.json_value.specs.declared.json.Json.{Json as Value};
 ghost use Rattle.json_value.specs.Members.{Members as Listed, named};
 ghost use Rattle.json_cursor.specs.Answers.{Answers};
@@ -17,7 +17,7 @@ use crate::occurrence::Occurrence;
 use crate::shapes::{arcs_shape_at, places_shape_at};
 use crate::types::geometry_type;
 use geojson_types::Counts;
-use json_cursor::{Kind, Members, Stop, kind_at, name_at, string_at};
+use json_cursor::{Kind, Stop, kind_at, string_at};
 use json_reading::{Fault, after_value};
 use json_value::Items;
 use std::alloc::Global;
@@ -51,14 +51,37 @@ pub struct Read {
     pub counts: Counts,
 }
 
-/// What was seen of the members of a geometry: where their values begin, and what was read of them.
+/// What the value of `geometries` is read as, or its fault, and what was counted then. It is read whatever the type is: where the type comes
+/// after it, geometries in geometries would else be passed over once more at each of their levels.
+#[derive(Drop)]
+pub struct Group {
+    pub shapes: Result<Items<TopoShape>, TopoFault>,
+    pub counts: Counts,
+}
+
+/// What was seen of the members of a geometry: where the values of `coordinates` and `arcs` begin, and what was read.
 #[derive(Drop)]
 pub struct GeometryParts<'a> {
     pub kind: Occurrence<Result<Option<GeometryType>, TopoFault>>,
     pub coordinates: Occurrence<&'a [u8]>,
     pub arcs: Occurrence<&'a [u8]>,
-    pub geometries: Occurrence<&'a [u8]>,
+    pub geometries: Occurrence<Group>,
     pub read: Read,
+}
+
+impl<'a> Start<'a> {
+    /// The same where this was counted.
+    #[inline(always)]
+    pub(crate) fn after(self, counts: Counts) -> Start<'a>
+        ensures { result ≡ record { transform = self.entry.transform; arcs = self.entry.arcs; counts = counts; keeping = self.entry.keeping } }
+    {
+        Start {
+            transform: self.transform,
+            arcs: self.arcs,
+            counts,
+            keeping: self.keeping,
+        }
+    }
 }
 
 /// The type that a value of this kind names, which is no text.
@@ -289,8 +312,7 @@ impl<'a> GeometryParts<'a> {
         Ok(rest)
     }
 
-    /// Goes on with the value at the front of a member of this name, and gives what follows it.
-    #[inline(always)]
+    /// Goes on with the value at the front of a member of this name, which isn't `geometries`, and gives what follows it.
     pub(crate) fn value(
         &mut self,
         alloc: Global,
@@ -299,6 +321,7 @@ impl<'a> GeometryParts<'a> {
         bytes: &'a [u8],
         start: Start<'a>,
     ) -> Result<&'a [u8], Fault>
+        requires { bytes_eq name.now (codes "geometries") ≡ false }
         ensures { GoesOnWith (IsParts start.entry depth_left) depth_left name.now self.old self.new bytes.now result }
     {
         if is_name(name, "type") {
@@ -310,28 +333,7 @@ impl<'a> GeometryParts<'a> {
         if is_name(name, "arcs") {
             return self.arcs_value(alloc, depth_left, bytes, start);
         }
-        let rest = after_value(alloc, depth_left, bytes)?;
-        if is_name(name, "geometries") {
-            self.geometries.see(bytes);
-        }
-        Ok(rest)
-    }
-}
-
-impl<'a> Members<'a> for GeometryParts<'a> {
-    type With = Start<'a>;
-
-    ghost holds = { IsParts };
-
-    fn member(
-        &mut self,
-        alloc: Global,
-        depth_left: u32,
-        bytes: &'a [u8],
-        with: Start<'a>,
-    ) -> Result<&'a [u8], Fault> {
-        let (name, value) = name_at(alloc, bytes)?;
-        self.value(alloc, depth_left, name.as_str(), value, with)
+        after_value(alloc, depth_left, bytes)
     }
 }
 

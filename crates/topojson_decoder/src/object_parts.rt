@@ -41,7 +41,7 @@ pub struct Features<'a> {
     pub read: Option<ReadFeatures>,
 }
 
-/// What was seen of the members of an object: those of a feature, and the features of a collection.
+/// What was seen of the members of an object: those of a feature but for `geometries`, and the features of a collection.
 #[derive(Drop)]
 pub struct ObjectParts<'a> {
     pub feature: FeatureParts<'a>,
@@ -147,7 +147,6 @@ impl<'a> ObjectParts<'a> {
             let known = self.is_known();
             let (found, rest) = features_member(alloc, depth_left, start, known, bytes)?;
             self.features.see(found);
-            self.feature.parts.geometries.see(bytes);
             return Ok(rest);
         }
         self.feature.value(alloc, depth_left, name, bytes, start)

@@ -13,4 +13,4 @@ returns-then-is_name-2 c = by_word (IsFeature c.args.start c.args.depth_left) c.
 
 pub returns : goal.returns
 returns c =
-    part_goes_on c.args.start c.args.depth_left c.args.name.now c.args.self.now _ c.args.bytes.now (sym c.if-is_name.ensures) (sym c.if-is_name-2.ensures) c.value.result c.value.ensures
+    part_goes_on c.args.start c.args.depth_left c.args.name.now c.args.self.now _ c.args.bytes.now (sym c.if-is_name.ensures) (sym c.if-is_name-2.ensures) c.member_value.result c.member_value.ensures

@@ -8,7 +8,7 @@ returns-then-is_name c =
     record {
       value = found.0;
       prefix = found.1;
-      holds = λ ms h. occurrence.sees_features c.args.start c.args.depth_left c.args.name.now ms c.args.self.now found.0 h c.in_ok-found.found _ c.see.ensures c.args.bytes _ c.see-then-is_name.ensures (sym c.if-is_name.ensures) found.2 (_, found.1);
+      holds = λ ms h. occurrence.sees_features c.args.start c.args.depth_left c.args.name.now ms c.args.self.now found.0 h c.in_ok-found.found _ c.see.ensures (sym c.if-is_name.ensures) found.2;
     }
 
 pub returns : goal.returns

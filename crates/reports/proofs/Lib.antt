@@ -1,5 +1,5 @@
 mod Examples
 pub mod Lines
 pub mod Lists
-mod Objects
+pub mod Objects
 pub mod Reported

@@ -55,3 +55,5 @@ run-text status fault report explanation =
     let members : List (List ℕ × List ℕ) = (codes "\"status\":", json_text status) ∷ (codes ",\"fault\":", json_text fault)
     ∷ (codes ",\"report\":", json_text report) ∷ (codes ",\"explanation\":", json_text explanation) ∷ [] in
     ap (λ z. z ++ codes "\n") (text-object _) ∙ ap (λ z. codes "{" ++ z) (append_assoc (in_row members []) (codes "}") (codes "\n") ∙ closed members (codes "}\n"))
+
+pub ruleset objects = (dropped-text, fault-text, report-text, run-text, append_assoc)

@@ -7,7 +7,7 @@ The second word is how many layers and how many topologies there are, the third 
 standard error have to be the same, each line after that has to begin with two blanks, and the report has to hold the status and these lines,
 with those of lost features that standard error leaves out.
 The features of which an explanation says that nothing of their geometry is left have to be those of which a line or a ring was dropped and
-which are written without any. Through a pipe, which can't be read once more, status and standard output have to be the same, and all lines, where
+which are written without any, and the report has their number. Through a pipe, which can't be read once more, status and standard output have to be the same, and all lines, where
 a topology is built or simplified; else each line of the explanation has to be one of those of before, but for the place of what is malformed, of
 which the byte is known. At its end it prints how many runs there were, and how many faults had no line but that of their file.
 """
@@ -90,8 +90,10 @@ def difference(program, words, folder):
     run_report = json.loads((folder / "run.json").read_text())
     if run_report["status"] != status or [f"  {line}" for line in brief(run_report["explanation"])] != lines:
         return f"the report differs: {run_report}", 0
-    if run_report["report"] and emptied(output, run_report["report"]) != set(told_emptied(output, run_report["explanation"])):
-        return f"other features are left without a geometry: {run_report}", 0
+    if run_report["report"]:
+        lost = emptied(output, run_report["report"])
+        if lost != set(told_emptied(output, run_report["explanation"])) or len(lost) != run_report["report"]["lost"]:
+            return f"other features are left without a geometry: {run_report}", 0
     return piped_difference(program, words, folder, status, output, error, lines), len(lines)
 
 

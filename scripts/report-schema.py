@@ -32,6 +32,8 @@ REPORT = "run.json"
 # How many of the commands have a report at least.
 LEAST_SHARE = 0.9
 REFUSED_BY_USAGE = b"\nFor more information, try '--help'."
+# How a line ends that tells of a feature that is lost.
+LOSS_ENDING = ": nothing of its geometry is left"
 # What standard error has where a layer's word isn't NAME=PATH.
 NO_LAYER = b" has no =\n"
 
@@ -130,6 +132,8 @@ class Reports:
             return "not laid out as the format says"
         if value["status"] != status:
             return f"status {value['status']}, and that of the process is {status}"
+        if value["report"] and value["report"]["lost"] != sum(line.endswith(LOSS_ENDING) for line in value["explanation"]):
+            return f"{value['report']['lost']} features are lost, and not as many are named"
         lines = "" if value["status"] == 0 and options & {"-q", "--quiet"} else told(value)
         if "--explain" in options:
             lines += "".join(f"  {line}\n" for line in brief(value["explanation"]))

@@ -115,11 +115,11 @@ pub record SaysTopology (o : Options) (layers : Named) (text : List ℕ) : Type 
   pub written : text ≡ json_text (topology_value contents)
   pub once : AreOnceIn (all_arcs (linework (layers_of (snapped_for o layers)))) (line_segments (linework (layers_of (snapped_for o layers))))
 
--- the counts of all layers, the lines and rings that are dropped, the arcs, their positions, those that were removed from them, and the
--- threshold, where it was chosen
+-- the counts of all layers, the lines and rings that are dropped, the features that are lost, the arcs, their positions, those that were
+-- removed from them, and the threshold, where it was chosen
 abbrev pub report_of : Options → Named → List Counts → Report
 report_of o layers counts =
-    report_with (added counts) (lines_dropped_under o.guards o.grid (threshold_for o layers) o.ring_limit layers) (written_for o layers).arcs
+    report_with (added counts) (lines_dropped_under o.guards o.grid (threshold_for o layers) o.ring_limit layers) (written_for o layers).objects (written_for o layers).arcs
     (saturated (positions_removed_under o.guards o.grid (threshold_for o layers) o.ring_limit layers)) (chosen_for o layers)
 
 -- all sources spell layers, and the text is their topology

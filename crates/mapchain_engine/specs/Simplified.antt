@@ -35,11 +35,12 @@ topology_chosen guards level y = chosen_under guards level y
 abbrev pub simplified_contents_text : Guards → Level → ℕ → Contents → List ℕ
 simplified_contents_text guards level limit y = json_text (topology_value (simplified_under guards (topology_threshold guards level y) limit y))
 
--- what was counted in reading the topology, the lines and rings that are dropped, the arcs that are left, their positions, those that were
--- removed from these arcs, and the threshold, where it was chosen
+-- what was counted in reading the topology, the lines and rings that are dropped, the features that are lost, the arcs that are left, their
+-- positions, those that were removed from these arcs, and the threshold, where it was chosen
 abbrev pub report_of : Guards → Level → ℕ → Contents → Counts → Report
 report_of guards level limit y counts =
-    report_with counts (dropped_under guards (topology_threshold guards level y) limit y) (simplified_under guards (topology_threshold guards level y) limit y).arcs
+    report_with counts (dropped_under guards (topology_threshold guards level y) limit y)
+    (simplified_under guards (topology_threshold guards level y) limit y).objects (simplified_under guards (topology_threshold guards level y) limit y).arcs
     (saturated (removed_count_under guards (topology_threshold guards level y) limit y)) (topology_chosen guards level y)
 
 -- ---- reading and writing

@@ -72,7 +72,14 @@ fn build_layers<Q: Reducer, R: Feed, W: Drain, K: Watch>(
         options.level,
         options.ring_limit,
     )?;
-    let report = report_of(counts, dropped, topology.arcs(), removed, chosen);
+    let report = report_of(
+        counts,
+        dropped,
+        topology.objects(),
+        topology.arcs(),
+        removed,
+        chosen,
+    );
     let sent = send(&topology, sink);
     watch.built(alloc, &topology, report.dropped.as_slice());
     // (the run ends soon, and to take a large topology apart costs it more than to write some of it)

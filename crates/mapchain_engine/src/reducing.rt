@@ -221,6 +221,13 @@ pub fn simplify_topology<Q: Reducer>(
     let (less, dropped, removed, chosen) = topology_under(
         alloc, reducer, topology, guards, level, ring_limit,
     )?;
-    let report = report_of(counts, dropped, less.arcs(), removed, chosen);
+    let report = report_of(
+        counts,
+        dropped,
+        less.objects(),
+        less.arcs(),
+        removed,
+        chosen,
+    );
     Ok((less, report))
 }

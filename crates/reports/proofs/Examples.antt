@@ -42,12 +42,12 @@ abbrev dropped : Dropped
 dropped = record { address = record { layer = 0; feature = 1; path = 1 ∷ 0 ∷ [] }; cause = Small }
 
 abbrev built : Report
-built = record { counts = record { rounded = 0; extra = 0; empty = 0 }; dropped = dropped ∷ []; arcs = 4; kept = 21; removed = 7; chosen = None }
+built = record { counts = record { rounded = 0; extra = 0; empty = 0 }; dropped = dropped ∷ []; lost = 1; arcs = 4; kept = 21; removed = 7; chosen = None }
 
 abbrev done : RunReport
 done = record { status = 0; fault = None; report = Some (following built); explanation = following (codes "  kept 21 of 28 positions of the arcs, 75.0 %\n") }
 
-what_is_done : run_text done ≡ codes "{\"status\":0,\"fault\":null,\"report\":{\"rounded\":0,\"extra\":0,\"empty\":0,\"dropped\":[{\"layer\":0,\"feature\":1,\"path\":[1,0],\"cause\":\"small\"}],\"arcs\":4,\"kept\":21,\"removed\":7,\"chosen\":null},\"explanation\":[\"kept 21 of 28 positions of the arcs, 75.0 %\"]}\n"
+what_is_done : run_text done ≡ codes "{\"status\":0,\"fault\":null,\"report\":{\"rounded\":0,\"extra\":0,\"empty\":0,\"dropped\":[{\"layer\":0,\"feature\":1,\"path\":[1,0],\"cause\":\"small\"}],\"lost\":1,\"arcs\":4,\"kept\":21,\"removed\":7,\"chosen\":null},\"explanation\":[\"kept 21 of 28 positions of the arcs, 75.0 %\"]}\n"
 what_is_done = unfold escaped_byte digits in simp texts refl
 
 abbrev open_ring : BuildFault

@@ -1,5 +1,7 @@
 mod Examples
+pub mod Hollow
 pub mod Lines
 pub mod Lists
-pub mod Objects
+pub mod Lost
+mod Objects
 pub mod Reported

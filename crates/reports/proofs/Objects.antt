@@ -33,16 +33,16 @@ fault-text code name layer feature at sent = text-object _ ∙ ap (λ z. codes "
     (closed ((codes "\"code\":", json_text code) ∷ (codes ",\"name\":", json_text name) ∷ (codes ",\"layer\":", json_text layer)
     ∷ (codes ",\"feature\":", json_text feature) ∷ (codes ",\"at\":", json_text at) ∷ (codes ",\"sent\":", json_text sent) ∷ []) (codes "}"))
 
-pub report-text : (rounded extra empty dropped arcs kept removed chosen : Json)
+pub report-text : (rounded extra empty dropped lost arcs kept removed chosen : Json)
     → json_text (j.Object ((codes "rounded", rounded) ∷ (codes "extra", extra) ∷ (codes "empty", empty) ∷ (codes "dropped", dropped)
-    ∷ (codes "arcs", arcs) ∷ (codes "kept", kept) ∷ (codes "removed", removed) ∷ (codes "chosen", chosen) ∷ []))
+    ∷ (codes "lost", lost) ∷ (codes "arcs", arcs) ∷ (codes "kept", kept) ∷ (codes "removed", removed) ∷ (codes "chosen", chosen) ∷ []))
     ≡ in_row ((codes "{\"rounded\":", json_text rounded) ∷ (codes ",\"extra\":", json_text extra) ∷ (codes ",\"empty\":", json_text empty)
-    ∷ (codes ",\"dropped\":", json_text dropped) ∷ (codes ",\"arcs\":", json_text arcs) ∷ (codes ",\"kept\":", json_text kept)
+    ∷ (codes ",\"dropped\":", json_text dropped) ∷ (codes ",\"lost\":", json_text lost) ∷ (codes ",\"arcs\":", json_text arcs) ∷ (codes ",\"kept\":", json_text kept)
     ∷ (codes ",\"removed\":", json_text removed) ∷ (codes ",\"chosen\":", json_text chosen) ∷ []) (codes "}")
 unfolding escaped_byte
-report-text rounded extra empty dropped arcs kept removed chosen = text-object _ ∙ ap (λ z. codes "{" ++ z)
+report-text rounded extra empty dropped lost arcs kept removed chosen = text-object _ ∙ ap (λ z. codes "{" ++ z)
     (closed ((codes "\"rounded\":", json_text rounded) ∷ (codes ",\"extra\":", json_text extra) ∷ (codes ",\"empty\":", json_text empty)
-    ∷ (codes ",\"dropped\":", json_text dropped) ∷ (codes ",\"arcs\":", json_text arcs) ∷ (codes ",\"kept\":", json_text kept)
+    ∷ (codes ",\"dropped\":", json_text dropped) ∷ (codes ",\"lost\":", json_text lost) ∷ (codes ",\"arcs\":", json_text arcs) ∷ (codes ",\"kept\":", json_text kept)
     ∷ (codes ",\"removed\":", json_text removed) ∷ (codes ",\"chosen\":", json_text chosen) ∷ []) (codes "}"))
 
 -- the object of a run, with a line feed after it

@@ -1,6 +1,7 @@
 pub mod FaultLines
 pub mod Faults
 pub mod Lines
+pub mod Losses
 pub mod Reports
 pub mod RunReports
 pub mod Statuses

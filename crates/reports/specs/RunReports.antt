@@ -48,6 +48,7 @@ report_value r = j.Object (
     ∷ (codes "extra", number r.counts.extra)
     ∷ (codes "empty", number r.counts.empty)
     ∷ (codes "dropped", j.Array (map dropped_value r.dropped))
+    ∷ (codes "lost", number r.lost)
     ∷ (codes "arcs", number r.arcs)
     ∷ (codes "kept", number r.kept)
     ∷ (codes "removed", number r.removed)

@@ -9,6 +9,7 @@ use Rattle.topojson_types.specs.Topologies.{Contents, object_features}
 use Rattle.topojson_types.specs.declared.object.TopoObject.{TopoObject}
 use Rattle.reports.specs.declared.report.Report.{Report}
 use Rattle.reports.specs.declared.summary.Summary.{Summary}
+use Rattle.reports.specs.Losses.{lost}
 use Rattle.reports.specs.Reports.{line_text}
 
 -- ---- what is counted
@@ -17,11 +18,18 @@ use Rattle.reports.specs.Reports.{line_text}
 abbrev pub positions_in : List (List Point) → ℕ
 positions_in arcs = saturated (sum (map length arcs))
 
--- these counts, what is dropped, the arcs with their positions, how many were removed from them, and the threshold that was chosen, if
--- one was
-abbrev pub report_with : Counts → List Dropped → List (List Point) → ℕ → Option ℕ → Report
-report_with counts dropped arcs removed chosen =
-    record { counts = counts; dropped = dropped; arcs = length arcs; kept = positions_in arcs; removed = removed; chosen = chosen }
+-- these counts, what is dropped, how many of the features of these objects are lost, the arcs with their positions, how many were removed from
+-- them, and the threshold that was chosen, if one was
+abbrev pub report_with : Counts → List Dropped → List (List ℕ × TopoObject) → List (List Point) → ℕ → Option ℕ → Report
+report_with counts dropped objects arcs removed chosen = record {
+  counts = counts;
+  dropped = dropped;
+  lost = lost objects dropped;
+  arcs = length arcs;
+  kept = positions_in arcs;
+  removed = removed;
+  chosen = chosen;
+}
 
 -- the topology has a transform (TopoJSON 1.0, section 2.1.2)
 abbrev pub has_grid : Contents → Bool

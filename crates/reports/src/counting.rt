@@ -1,9 +1,9 @@
 // What is counted in a topology.
-ghost use Rattle.std.specs.Prelude.{◌≡◌, IfOk, length, map};
-ghost use Rattle.topojson_types.specs.Topologies.{object_features};
+ghost use Rattle.std.specs.Prelude.{◌≡◌, IfOk, map};
 ghost use Rattle.reports.specs.Summaries.{counted};
 ghost use Rattle.reports.specs.Summaries as spec;
 
+use crate::losing::{count_lost, features_in};
 use crate::report::Report;
 use crate::summary::Summary;
 use byte_ends::Memory;
@@ -23,34 +23,27 @@ fn positions_in(arcs: &[Items<Cell>]) -> u64
     kept
 }
 
-/// The report of a topology that has these arcs, with these counts, of which these lines and rings are dropped, and out of whose arcs so
-/// many positions were taken, at this threshold where one was chosen.
+/// The report of a topology that has these objects and these arcs, with these counts, of which these lines and rings are dropped, and out of
+/// whose arcs so many positions were taken, at this threshold where one was chosen.
 pub fn report_of(
     counts: Counts,
     dropped: Vec<Dropped>,
+    objects: &[(OwnText, TopoObject)],
     arcs: &[Items<Cell>],
     removed: u64,
     chosen: Option<u128>,
 ) -> Report
-    ensures { result ≡ spec.report_with counts dropped.items arcs.now removed chosen }
+    ensures { result ≡ spec.report_with counts dropped.items objects.now arcs.now removed chosen }
 {
+    let lost = count_lost(objects, dropped.as_slice());
     Report {
         counts,
         dropped: Items::of(dropped),
+        lost,
         arcs: arcs.len() as u64,
         kept: positions_in(arcs),
         removed,
         chosen,
-    }
-}
-
-/// How many features an object is.
-fn features_in(object: &TopoObject) -> u64
-    ensures { result ≡ length (object_features object.now) }
-{
-    match object {
-        TopoObject::One(_) => 1,
-        TopoObject::Many(features) => features.len() as u64,
     }
 }
 
@@ -64,7 +57,7 @@ fn counted_objects(
     let mut all = Vec::new(alloc);
     'objects: for object in objects {
         let name = object.0.copy(alloc)?;
-        all.push((name, features_in(&object.1)))?;
+        all.push((name, features_in(&object.1).len() as u64))?;
     }
     Ok(all)
 }

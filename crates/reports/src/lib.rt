@@ -11,6 +11,7 @@ mod explanation_writer;
 mod fault_line;
 mod fault_members;
 mod fault_writer;
+mod losing;
 mod number_writer;
 mod printing;
 mod report;
@@ -24,6 +25,7 @@ mod summary_writer;
 mod value_writer;
 
 pub use counting::{report_of, summary_with};
+pub use losing::{features_in, has_nothing};
 pub use printing::{print_fault, print_file_fault, print_text};
 pub use report::Report;
 pub use report_writer::report_text;

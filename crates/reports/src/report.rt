@@ -9,6 +9,8 @@ pub struct Report {
     pub counts: Counts,
     /// The lines and rings that aren't written, in reading order.
     pub dropped: Items<Dropped>,
+    /// Features of which lines or rings aren't written, and nothing is left.
+    pub lost: u64,
     /// Arcs that are written.
     pub arcs: u64,
     /// Positions in these arcs.

@@ -61,6 +61,7 @@ fn put_report<O: Out>(report: &Report, out: &mut O)
     put_number_member(b",\"empty\":", report.counts.empty, out);
     out.put(b",\"dropped\":");
     put_array::<AllDropped, Dropped, O>(report.dropped.as_slice(), out);
+    put_number_member(b",\"lost\":", report.lost, out);
     put_number_member(b",\"arcs\":", report.arcs, out);
     put_number_member(b",\"kept\":", report.kept, out);
     put_number_member(b",\"removed\":", report.removed, out);

@@ -53,13 +53,16 @@ returns-in-Ok-clause-built g c =
     (built.distinct o.exact c.args.sources.now c.read_layers.new.sources ls r.0 r.1 c.requires.names) (built.names_texts o.exact c.args.sources.now c.read_layers.new.sources ls r.0 r.1 c.requires.texts) few c.args.sink.now c.send-sent.new.sink c.report_of-report.result
     (rw (c.in-Ok.is, e) at c.send-sent.ensures)
     (c.report_of-report.ensures
-    ∙ ap (λ arcs. report_with c.in_ok-layers.counts c.in_ok-topology.dropped.items arcs c.in_ok-topology.removed c.in_ok-topology.chosen) (c.arcs.ensures.arcs ∙ ap (λ z. z.arcs) e)
-    ∙ ap (λ ds. report_with c.in_ok-layers.counts ds (written_for o ls).arcs c.in_ok-topology.removed c.in_ok-topology.chosen) c.in_ok-topology.ensures.dropped
-    ∙ ap (λ n. report_with c.in_ok-layers.counts (lines_dropped_under o.guards o.grid (threshold_for o ls) o.ring_limit ls) (written_for o ls).arcs n c.in_ok-topology.chosen)
+    ∙ ap (λ os. report_with c.in_ok-layers.counts c.in_ok-topology.dropped.items os c.arcs.result.now c.in_ok-topology.removed c.in_ok-topology.chosen)
+    (c.objects.ensures.objects ∙ ap (λ z. z.objects) e)
+    ∙ ap (λ arcs. report_with c.in_ok-layers.counts c.in_ok-topology.dropped.items (written_for o ls).objects arcs c.in_ok-topology.removed c.in_ok-topology.chosen)
+    (c.arcs.ensures.arcs ∙ ap (λ z. z.arcs) e)
+    ∙ ap (λ ds. report_with c.in_ok-layers.counts ds (written_for o ls).objects (written_for o ls).arcs c.in_ok-topology.removed c.in_ok-topology.chosen) c.in_ok-topology.ensures.dropped
+    ∙ ap (λ n. report_with c.in_ok-layers.counts (lines_dropped_under o.guards o.grid (threshold_for o ls) o.ring_limit ls) (written_for o ls).objects (written_for o ls).arcs n c.in_ok-topology.chosen)
     c.in_ok-topology.ensures.removed_count
-    ∙ ap (λ t. report_with c.in_ok-layers.counts (lines_dropped_under o.guards o.grid (threshold_for o ls) o.ring_limit ls) (written_for o ls).arcs
+    ∙ ap (λ t. report_with c.in_ok-layers.counts (lines_dropped_under o.guards o.grid (threshold_for o ls) o.ring_limit ls) (written_for o ls).objects (written_for o ls).arcs
     (saturated (positions_removed_under o.guards o.grid (threshold_for o ls) o.ring_limit ls)) t) c.in_ok-topology.ensures.chosen
-    ∙ ap (λ n. report_with n (lines_dropped_under o.guards o.grid (threshold_for o ls) o.ring_limit ls) (written_for o ls).arcs
+    ∙ ap (λ n. report_with n (lines_dropped_under o.guards o.grid (threshold_for o ls) o.ring_limit ls) (written_for o ls).objects (written_for o ls).arcs
     (saturated (positions_removed_under o.guards o.grid (threshold_for o ls) o.ring_limit ls)) (chosen_for o ls)) r.2)
 
 pub returns-in-Ok-clause-reduced : goal.returns-in-Ok-clause-reduced

@@ -10,7 +10,6 @@ use crate::value_writer::{put_null, put_optional_member, put_optional_text, put_
 use json_writer::Out;
 
 /// Puts a fault.
-#[tactic(auto, using(crate::proofs::Objects::objects))]
 fn put_fault<O: Out>(fault: &RunFault<'_>, out: &mut O)
     ensures text { O.text out.new ≡ O.text out.old ++ json_text (spec.fault_value fault.now) }
     ensures kept { (start : Start) → O.good out.old start → O.good out.new start }

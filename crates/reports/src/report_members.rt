@@ -13,7 +13,6 @@ use itoa::Buffer;
 use json_writer::{Out, PutValue, put_array};
 
 /// Puts a line or a ring that isn't written.
-#[tactic(auto, using(crate::proofs::Objects::objects))]
 fn put_dropped<O: Out>(dropped: &Dropped, out: &mut O)
     ensures text { O.text out.new ≡ O.text out.old ++ json_text (spec.dropped_value dropped.now) }
     ensures kept { (start : Start) → O.good out.old start → O.good out.new start }
@@ -51,7 +50,6 @@ fn put_chosen<O: Out>(chosen: Option<u128>, out: &mut O)
 }
 
 /// Puts a report.
-#[tactic(auto, using(crate::proofs::Objects::objects))]
 fn put_report<O: Out>(report: &Report, out: &mut O)
     ensures text { O.text out.new ≡ O.text out.old ++ json_text (spec.report_value report.now) }
     ensures kept { (start : Start) → O.good out.old start → O.good out.new start }

@@ -13,7 +13,6 @@ use byte_ends::{Drain, Sink, WriteFault};
 use json_writer::{Buffered, Out};
 
 /// Puts the report of a run, as `write_run_report` does.
-#[tactic(auto, using(crate::proofs::Objects::objects))]
 fn put_run<O: Out>(run: &RunReport<'_>, out: &mut O)
     ensures text { O.text out.new ≡ O.text out.old ++ spec.run_text run.now }
     ensures kept { (start : Start) → O.good out.old start → O.good out.new start }

@@ -1,0 +1,20 @@
+use Rattle.std.proofs.Common.{refl}
+use Rattle.json_value.specs.declared.json.Json.TheVariants as j
+use Rattle.reports.specs.Faults.{code, name, layer, feature, at, sent}
+use Rattle.reports.specs.Values.{number_or_null, text_or_null}
+use Rattle.reports.proofs.Objects.{fault-text, starts, next, last}
+use Rattle.reports.proofs.fault_writer.put_fault.Goals as goal
+
+pub returns-clause-text : goal.returns-clause-text
+returns-clause-text g c =
+    let s0 = starts (g.O.Out.text c.args.out.now) (fault-text (text_or_null (code c.args.fault.now)) (j.Text (name c.args.fault.now)) (number_or_null (layer c.args.fault.now))
+    (number_or_null (feature c.args.fault.now)) (number_or_null (at c.args.fault.now)) (number_or_null (sent c.args.fault.now))) in
+    let s1 = next _ _ s0 c.put.ensures.text refl in
+    let s2 = next _ _ s1 (rw c.code.ensures at c.put_optional_text.ensures.text) refl in
+    let s3 = next _ _ s2 c.put-2.ensures.text refl in
+    let s4 = next _ _ s3 (rw c.name.ensures at c.put_string.ensures.text) refl in
+    let s5 = next _ _ s4 (rw c.layer.ensures at c.put_optional_member.ensures.text) refl in
+    let s6 = next _ _ s5 (rw c.feature.ensures at c.put_optional_member-2.ensures.text) refl in
+    let s7 = next _ _ s6 (rw c.at.ensures at c.put_optional_member-3.ensures.text) refl in
+    let s8 = next _ _ s7 (rw c.sent.ensures at c.put_optional_member-4.ensures.text) refl in
+    last s8 c.put-3.ensures.text

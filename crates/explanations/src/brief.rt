@@ -1,12 +1,13 @@
 // An explanation in brief.
-ghost use Rattle.std.specs.Prelude.{◌≡◌};
-ghost use Rattle.byte_ends.specs.Continues.{Continues};
+ghost use Rattle.std.specs.Prelude.{◌≡◌, ◌++◌};
 ghost use Rattle.byte_ends.specs.Writes.{Writes};
+ghost use Rattle.json_writer.specs.Standing.{Start};
 ghost use Rattle.explanations.specs.Brief as spec;
 ghost use Rattle.reports.specs.Lines.{one_line};
 
-use byte_ends::{Drain, Progress, Sink, WriteFault, put_part};
+use byte_ends::{Drain, Sink, WriteFault};
 use itoa::Buffer;
+use json_writer::{Buffered, Out};
 
 /// How a line ends that tells of a feature that is lost.
 pub(crate) const LOSS_ENDING: &str = ": nothing of its geometry is left";
@@ -21,39 +22,43 @@ fn is_loss(line: &str) -> bool
     line.as_bytes().ends_with(LOSS_ENDING.as_bytes())
 }
 
-/// Writes after so many lines of features that are lost how many don't stand.
-fn put_more<W: Drain>(count: u64, so_far: Progress, sink: &mut Sink<W>) -> Progress
-    ensures { Continues sink.old sink.new so_far (spec.more_text count) result }
+/// Puts after so many lines of features that are lost how many don't stand.
+fn put_more<O: Out>(count: u64, out: &mut O)
+    ensures text { O.text out.new ≡ O.text out.old ++ spec.more_text count }
+    ensures kept { (start : Start) → O.good out.old start → O.good out.new start }
 {
     if count <= MOST {
-        return put_part(b"", so_far, sink);
+        return;
     }
     let mut buffer = Buffer::new();
-    let so_far = put_part(b"  and ", so_far, sink);
-    let so_far = put_part(buffer.format(count - MOST).as_bytes(), so_far, sink);
-    put_part(b" more\n", so_far, sink)
+    out.put(b"  and ");
+    out.put(buffer.format(count - MOST).as_bytes());
+    out.put(b" more\n");
 }
 
-/// Writes a line.
-fn put_line<W: Drain>(line: &str, so_far: Progress, sink: &mut Sink<W>) -> Progress
-    ensures { Continues sink.old sink.new so_far (spec.line_text line.now) result }
+/// Puts a line.
+#[tactic(auto, using(std::proofs::Common::append_assoc))]
+fn put_line<O: Out>(line: &str, out: &mut O)
+    ensures text { O.text out.new ≡ O.text out.old ++ spec.line_text line.now }
+    ensures kept { (start : Start) → O.good out.old start → O.good out.new start }
 {
-    let so_far = put_part(line.as_bytes(), so_far, sink);
-    put_part(b"\n", so_far, sink)
+    out.put(line.as_bytes());
+    out.put(b"\n");
 }
 
-/// Writes a line after so many of features that are lost.
-fn put_after<W: Drain>(count: u64, line: &str, so_far: Progress, sink: &mut Sink<W>) -> Progress
-    ensures { Continues sink.old sink.new so_far (spec.text_after count line.now) result }
+/// Puts a line after so many of features that are lost.
+#[tactic(auto, using(std::proofs::Common::append_assoc))]
+fn put_after<O: Out>(count: u64, line: &str, out: &mut O)
+    ensures text { O.text out.new ≡ O.text out.old ++ spec.text_after count line.now }
+    ensures kept { (start : Start) → O.good out.old start → O.good out.new start }
 {
     if !is_loss(line) {
-        let so_far = put_more(count, so_far, sink);
-        return put_line(line, so_far, sink);
+        put_more(count, out);
+        return put_line(line, out);
     }
     if count < MOST {
-        return put_line(line, so_far, sink);
+        put_line(line, out);
     }
-    put_part(b"", so_far, sink)
 }
 
 /// How many lines of features that are lost stand beside each other, with one line more.
@@ -67,15 +72,31 @@ fn count_after(count: u64, line: &str) -> u64
     }
 }
 
-/// Writes what stands after the last line feed, if there is anything, after so many lines of features that are lost.
-fn put_rest<W: Drain>(count: u64, rest: &str, so_far: Progress, sink: &mut Sink<W>) -> Progress
-    ensures { Continues sink.old sink.new so_far (spec.brief_after count (one_line rest.now)) result }
+/// Puts what stands after the last line feed, if there is anything, after so many lines of features that are lost.
+fn put_rest<O: Out>(count: u64, rest: &str, out: &mut O)
+    ensures text { O.text out.new ≡ O.text out.old ++ spec.brief_after count (one_line rest.now) }
+    ensures kept { (start : Start) → O.good out.old start → O.good out.new start }
 {
     if rest.is_empty() {
-        return put_more(count, so_far, sink);
+        return put_more(count, out);
     }
-    let so_far = put_after(count, rest, so_far, sink);
-    put_more(count_after(count, rest), so_far, sink)
+    put_after(count, rest, out);
+    put_more(count_after(count, rest), out);
+}
+
+/// Puts an explanation in brief, as `put_brief` writes it.
+fn put_lines<O: Out>(text: &str, out: &mut O)
+    ensures text { O.text out.new ≡ O.text out.old ++ spec.brief text.now }
+    ensures kept { (start : Start) → O.good out.old start → O.good out.new start }
+{
+    let mut count: u64 = 0;
+    let mut rest = text;
+    'lines: while let Some((line, following)) = rest.split_once('\n') {
+        put_after(count, line, out);
+        count = count_after(count, line);
+        rest = following;
+    }
+    put_rest(count, rest, out);
 }
 
 /// Writes an explanation in brief: of lines beside each other that tell of features that are lost ten, and how many more there are. This takes
@@ -83,13 +104,7 @@ fn put_rest<W: Drain>(count: u64, rest: &str, so_far: Progress, sink: &mut Sink<
 pub fn put_brief<W: Drain>(text: &str, sink: &mut Sink<W>) -> Result<u64, WriteFault>
     ensures { Writes sink.old sink.new 0 (spec.brief text.now) result }
 {
-    let mut so_far = put_part(b"", Ok(0), sink);
-    let mut count: u64 = 0;
-    let mut rest = text;
-    'lines: while let Some((line, following)) = rest.split_once('\n') {
-        so_far = put_after(count, line, so_far, sink);
-        count = count_after(count, line);
-        rest = following;
-    }
-    put_rest(count, rest, so_far, sink)
+    let mut out = Buffered::over(sink);
+    put_lines(text, &mut out);
+    out.end()
 }

@@ -3,7 +3,7 @@ use Rattle.std.proofs.Common.{◌≡◌, ◌≢◌, ℕ, suc, ◌+◌, ◌<◌, 
 use Rattle.std.proofs.lemmas.Bool.{eqb-true, ne_eqb, true≢false}
 use Rattle.std.proofs.lemmas.List.{append-nil}
 use Rattle.std.specs.Prelude.{codes}
-use Rattle.byte_ends.proofs.Parts.{list_left}
+use Rattle.json_writer.proofs.Lists.{list_left}
 use Rattle.owned_values.specs.Commas.{comma_unless, with_commas}
 use Rattle.std.proofs.lemmas.Str.Pattern.{IsSplitOnceResult, split_parts, strip_prefix_char}
 use Rattle.std.specs.Str.Pattern.{FindsCharPrefix}

@@ -1,151 +1,187 @@
 // The line that reports a fault.
-ghost use Rattle.std.specs.Prelude.{◌++◌, Ok, codes, decimal};
-ghost use Rattle.byte_ends.specs.Continues.{Continues};
+ghost use Rattle.std.specs.Prelude.{◌≡◌, ◌++◌, codes, decimal};
 ghost use Rattle.byte_ends.specs.Writes.{Writes};
+ghost use Rattle.json_writer.specs.Standing.{Start};
 ghost use Rattle.reports.specs.FaultLines as spec;
 
 use crate::number_writer::put_number;
-use byte_ends::{Drain, Progress, ReadFault, Sink, put_part};
+use byte_ends::{Drain, ReadFault, Sink, WriteFault};
 use geojson_meaning::GeoFault;
 use inputs::{BuildFault, FileFault};
 use json_reading::JsonFault;
+use json_writer::{Buffered, Out};
 use topojson_meaning::TopoFault;
 
-/// Writes the words for a file that couldn't be read to its end.
-fn put_read<W: Drain>(fault: ReadFault, so_far: Progress, sink: &mut Sink<W>) -> Progress
-    ensures { Continues sink.old sink.new so_far (spec.read_text fault) result }
+/// The words for a file that couldn't be read to its end.
+fn read_words(fault: ReadFault) -> &'static [u8]
+    ensures { result.now ≡ spec.read_text fault }
 {
     match fault {
-        ReadFault::Read => put_part(b"F1 Read", so_far, sink),
-        ReadFault::TooLong => put_part(b"F2 TooLong", so_far, sink),
-        ReadFault::Memory => put_part(b"F3 Memory", so_far, sink),
+        ReadFault::Read => b"F1 Read",
+        ReadFault::TooLong => b"F2 TooLong",
+        ReadFault::Memory => b"F3 Memory",
     }
 }
 
-/// Writes the words for a file that is no JSON text.
-fn put_json<W: Drain>(fault: &JsonFault, so_far: Progress, sink: &mut Sink<W>) -> Progress
-    ensures { Continues sink.old sink.new so_far (spec.json_text fault.now) result }
+/// Puts the words for a file that is no JSON text.
+#[tactic(auto, using(std::proofs::Common::append_assoc))]
+fn put_json<O: Out>(fault: &JsonFault, out: &mut O)
+    ensures text { O.text out.new ≡ O.text out.old ++ spec.json_text fault.now }
+    ensures kept { (start : Start) → O.good out.old start → O.good out.new start }
 {
     match fault {
         JsonFault::NotUtf8 { at } => {
-            let so_far = put_part(b"J1 NotUtf8 at ", so_far, sink);
-            put_number(*at as u64, so_far, sink)
+            out.put(b"J1 NotUtf8 at ");
+            put_number(*at as u64, out);
         }
-        JsonFault::Malformed { .. } => put_part(b"J2 Malformed", so_far, sink),
-        JsonFault::Memory => put_part(b"J3 Memory", so_far, sink),
+        JsonFault::Malformed { .. } => out.put(b"J2 Malformed"),
+        JsonFault::Memory => out.put(b"J3 Memory"),
     }
 }
 
-/// Writes the number of the feature that a fault is in, if any.
-fn put_feature<W: Drain>(feature: Option<usize>, so_far: Progress, sink: &mut Sink<W>) -> Progress
-    ensures { Continues sink.old sink.new so_far (spec.feature_text feature) result }
+/// Puts the number of the feature that a fault is in, if any.
+#[tactic(auto, using(std::proofs::Common::append_assoc))]
+fn put_feature<O: Out>(feature: Option<usize>, out: &mut O)
+    ensures text { O.text out.new ≡ O.text out.old ++ spec.feature_text feature }
+    ensures kept { (start : Start) → O.good out.old start → O.good out.new start }
 {
-    match feature {
-        None => put_part(b"", so_far, sink),
-        Some(feature) => {
-            let so_far = put_part(b" feature ", so_far, sink);
-            put_number(feature as u64, so_far, sink)
-        }
+    if let Some(feature) = feature {
+        out.put(b" feature ");
+        put_number(feature as u64, out);
     }
 }
 
-/// Writes the words for a layer that is no GeoJSON that is taken.
-fn put_geo<W: Drain>(fault: &GeoFault, so_far: Progress, sink: &mut Sink<W>) -> Progress
-    ensures { Continues sink.old sink.new so_far (spec.geo_text fault.now) result }
+/// Puts the words for a layer that is no GeoJSON that is taken.
+#[tactic(auto, using(std::proofs::Common::append_assoc))]
+fn put_geo<O: Out>(fault: &GeoFault, out: &mut O)
+    ensures text { O.text out.new ≡ O.text out.old ++ spec.geo_text fault.now }
+    ensures kept { (start : Start) → O.good out.old start → O.good out.new start }
 {
-    let so_far = put_part(fault.kind.code().as_bytes(), so_far, sink);
-    let so_far = put_part(b" ", so_far, sink);
-    let so_far = put_part(fault.kind.name().as_bytes(), so_far, sink);
-    put_feature(fault.feature, so_far, sink)
+    out.put(fault.kind.code().as_bytes());
+    out.put(b" ");
+    out.put(fault.kind.name().as_bytes());
+    put_feature(fault.feature, out);
 }
 
-/// Writes the words for a file that is no topology that is taken.
-fn put_topo<W: Drain>(fault: &TopoFault, so_far: Progress, sink: &mut Sink<W>) -> Progress
-    ensures { Continues sink.old sink.new so_far (spec.topo_text fault.now) result }
+/// Puts the words for a file that is no topology that is taken.
+#[tactic(auto, using(std::proofs::Common::append_assoc))]
+fn put_topo<O: Out>(fault: &TopoFault, out: &mut O)
+    ensures text { O.text out.new ≡ O.text out.old ++ spec.topo_text fault.now }
+    ensures kept { (start : Start) → O.good out.old start → O.good out.new start }
 {
-    let so_far = put_part(fault.code().as_bytes(), so_far, sink);
-    let so_far = put_part(b" ", so_far, sink);
-    put_part(fault.name().as_bytes(), so_far, sink)
+    out.put(fault.code().as_bytes());
+    out.put(b" ");
+    out.put(fault.name().as_bytes());
 }
 
-/// Writes the prefix of the line of a layer that is refused.
-fn put_layer<W: Drain>(layer: usize, sink: &mut Sink<W>) -> Progress
-    ensures { Continues sink.old sink.new (Ok 0) (spec.layer_prefix layer) result }
+/// Puts the prefix of the line of a layer that is refused.
+#[tactic(auto, using(std::proofs::Common::append_assoc))]
+fn put_layer<O: Out>(layer: usize, out: &mut O)
+    ensures text { O.text out.new ≡ O.text out.old ++ spec.layer_prefix layer }
+    ensures kept { (start : Start) → O.good out.old start → O.good out.new start }
 {
-    let so_far = put_part(b"error: layer ", Ok(0), sink);
-    let so_far = put_number(layer as u64, so_far, sink);
-    put_part(b" ", so_far, sink)
+    out.put(b"error: layer ");
+    put_number(layer as u64, out);
+    out.put(b" ");
 }
 
-/// Writes the line of a layer whose name is refused in these words.
-fn put_named<W: Drain>(layer: usize, words: &[u8], sink: &mut Sink<W>) -> Progress
-    ensures { Writes sink.old sink.new 0 (spec.layer_text layer words.now) result }
+/// Puts the line of a layer whose name is refused in these words.
+#[tactic(auto, using(std::proofs::Common::append_assoc))]
+fn put_named<O: Out>(layer: usize, words: &[u8], out: &mut O)
+    ensures text { O.text out.new ≡ O.text out.old ++ spec.layer_text layer words.now }
+    ensures kept { (start : Start) → O.good out.old start → O.good out.new start }
 {
-    let so_far = put_layer(layer, sink);
-    let so_far = put_part(words, so_far, sink);
-    put_part(b"\n", so_far, sink)
+    put_layer(layer, out);
+    out.put(words);
+    out.put(b"\n");
 }
 
-/// Writes the line of a sink that failed, which begins so.
-fn put_sent<W: Drain>(words: &[u8], sent: u64, sink: &mut Sink<W>) -> Progress
-    ensures { Writes sink.old sink.new 0 ((words.now ++ decimal sent) ++ codes "\n") result }
+/// Puts the line of a sink that failed, which begins so.
+#[tactic(auto, using(std::proofs::Common::append_assoc))]
+fn put_sent<O: Out>(words: &[u8], sent: u64, out: &mut O)
+    ensures text { O.text out.new ≡ O.text out.old ++ ((words.now ++ decimal sent) ++ codes "\n") }
+    ensures kept { (start : Start) → O.good out.old start → O.good out.new start }
 {
-    let so_far = put_part(words, Ok(0), sink);
-    let so_far = put_number(sent, so_far, sink);
-    put_part(b"\n", so_far, sink)
+    out.put(words);
+    put_number(sent, out);
+    out.put(b"\n");
+}
+
+/// Puts a fault, as `write_fault` does.
+#[tactic(auto, using(std::proofs::Common::append_assoc))]
+fn put_fault<O: Out>(fault: &BuildFault, out: &mut O)
+    ensures text { O.text out.new ≡ O.text out.old ++ spec.fault_text fault.now }
+    ensures kept { (start : Start) → O.good out.old start → O.good out.new start }
+{
+    match fault {
+        BuildFault::EmptyName { layer } => put_named(*layer, b"B1 EmptyName", out),
+        BuildFault::DuplicateName { layer } => put_named(*layer, b"B2 DuplicateName", out),
+        BuildFault::Read { layer, fault } => put_named(*layer, read_words(*fault), out),
+        BuildFault::Json { layer, fault } => {
+            put_layer(*layer, out);
+            put_json(fault, out);
+            out.put(b"\n");
+        }
+        BuildFault::Geo { layer, fault } => {
+            put_layer(*layer, out);
+            put_geo(fault, out);
+            out.put(b"\n");
+        }
+        BuildFault::Write { sent } => put_sent(b"error: B6 Write sent ", *sent, out),
+        BuildFault::Memory => out.put(b"error: B7 Memory\n"),
+    }
+}
+
+/// Puts a fault of a topology's file, as `write_file_fault` does.
+#[tactic(auto, using(std::proofs::Common::append_assoc))]
+fn put_file_fault<O: Out>(fault: &FileFault, out: &mut O)
+    ensures text { O.text out.new ≡ O.text out.old ++ spec.file_fault_text fault.now }
+    ensures kept { (start : Start) → O.good out.old start → O.good out.new start }
+{
+    match fault {
+        FileFault::Read(fault) => {
+            out.put(b"error: ");
+            out.put(read_words(*fault));
+            out.put(b"\n");
+        }
+        FileFault::Json(fault) => {
+            out.put(b"error: ");
+            put_json(fault, out);
+            out.put(b"\n");
+        }
+        FileFault::Topo(fault) => {
+            out.put(b"error: ");
+            put_topo(fault, out);
+            out.put(b"\n");
+        }
+        FileFault::NoObject => out.put(b"error: E4 NoObject\n"),
+        FileFault::Write { sent } => put_sent(b"error: E5 Write sent ", *sent, out),
+        FileFault::Memory => out.put(b"error: E6 Memory\n"),
+    }
 }
 
 /// Writes a fault as the program reports it, in a line of its own: the layer's number, the fault's code and name, and the number
 /// of the feature, the byte or the bytes sent, where the fault has it.
-pub(crate) fn put_fault<W: Drain>(fault: &BuildFault, sink: &mut Sink<W>) -> Progress
+pub(crate) fn write_fault<W: Drain>(
+    fault: &BuildFault,
+    sink: &mut Sink<W>,
+) -> Result<u64, WriteFault>
     ensures { Writes sink.old sink.new 0 (spec.fault_text fault.now) result }
 {
-    match fault {
-        BuildFault::EmptyName { layer } => put_named(*layer, b"B1 EmptyName", sink),
-        BuildFault::DuplicateName { layer } => put_named(*layer, b"B2 DuplicateName", sink),
-        BuildFault::Read { layer, fault } => {
-            let so_far = put_layer(*layer, sink);
-            let so_far = put_read(*fault, so_far, sink);
-            put_part(b"\n", so_far, sink)
-        }
-        BuildFault::Json { layer, fault } => {
-            let so_far = put_layer(*layer, sink);
-            let so_far = put_json(fault, so_far, sink);
-            put_part(b"\n", so_far, sink)
-        }
-        BuildFault::Geo { layer, fault } => {
-            let so_far = put_layer(*layer, sink);
-            let so_far = put_geo(fault, so_far, sink);
-            put_part(b"\n", so_far, sink)
-        }
-        BuildFault::Write { sent } => put_sent(b"error: B6 Write sent ", *sent, sink),
-        BuildFault::Memory => sink.put(0, b"error: B7 Memory\n"),
-    }
+    let mut out = Buffered::over(sink);
+    put_fault(fault, &mut out);
+    out.end()
 }
 
 /// Writes a fault of a topology's file as the program reports it, in a line of its own: the fault's code and name, and the number of
 /// the byte or of the bytes sent, where the fault has it.
-pub(crate) fn put_file_fault<W: Drain>(fault: &FileFault, sink: &mut Sink<W>) -> Progress
+pub(crate) fn write_file_fault<W: Drain>(
+    fault: &FileFault,
+    sink: &mut Sink<W>,
+) -> Result<u64, WriteFault>
     ensures { Writes sink.old sink.new 0 (spec.file_fault_text fault.now) result }
 {
-    match fault {
-        FileFault::Read(fault) => {
-            let so_far = put_part(b"error: ", Ok(0), sink);
-            let so_far = put_read(*fault, so_far, sink);
-            put_part(b"\n", so_far, sink)
-        }
-        FileFault::Json(fault) => {
-            let so_far = put_part(b"error: ", Ok(0), sink);
-            let so_far = put_json(fault, so_far, sink);
-            put_part(b"\n", so_far, sink)
-        }
-        FileFault::Topo(fault) => {
-            let so_far = put_part(b"error: ", Ok(0), sink);
-            let so_far = put_topo(fault, so_far, sink);
-            put_part(b"\n", so_far, sink)
-        }
-        FileFault::NoObject => sink.put(0, b"error: E4 NoObject\n"),
-        FileFault::Write { sent } => put_sent(b"error: E5 Write sent ", *sent, sink),
-        FileFault::Memory => sink.put(0, b"error: E6 Memory\n"),
-    }
+    let mut out = Buffered::over(sink);
+    put_file_fault(fault, &mut out);
+    out.end()
 }

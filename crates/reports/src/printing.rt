@@ -4,7 +4,7 @@ ghost use Rattle.reports.specs.FaultLines.{fault_text, file_fault_text};
 ghost use Rattle.reports.specs.Statuses.{file_status_of, status_of};
 ghost use Rattle.reports.specs.Printing.{Prints};
 
-use crate::fault_line::{put_fault, put_file_fault};
+use crate::fault_line::{write_fault, write_file_fault};
 use crate::statuses::{file_status, status};
 use byte_ends::{Drain, Sink, flush_after};
 use inputs::{BuildFault, FileFault};
@@ -22,7 +22,7 @@ pub fn print_fault<W: Drain>(fault: &BuildFault, err: &mut Sink<W>) -> u8
     ensures status { result ≡ status_of fault.now }
     ensures reported { Prints err.old err.new (fault_text fault.now) }
 {
-    let written = put_fault(fault, err);
+    let written = write_fault(fault, err);
     let _ = flush_after(written, err);
     status(fault)
 }
@@ -32,7 +32,7 @@ pub fn print_file_fault<W: Drain>(fault: &FileFault, err: &mut Sink<W>) -> u8
     ensures status { result ≡ file_status_of fault.now }
     ensures reported { Prints err.old err.new (file_fault_text fault.now) }
 {
-    let written = put_file_fault(fault, err);
+    let written = write_file_fault(fault, err);
     let _ = flush_after(written, err);
     file_status(fault)
 }

@@ -1,60 +1,29 @@
 // What was counted, as a JSON object.
-ghost use Rattle.std.specs.Prelude.{◌≡◌, ◌++◌, codes};
-ghost use Rattle.byte_ends.specs.Continues.{Continues};
+ghost use Rattle.std.specs.Prelude.{◌≡◌, ◌++◌};
 ghost use Rattle.json_value.specs.Text.{json_text};
-ghost use Rattle.json_writer.specs.Holding.{Holds};
-ghost use Rattle.reports.specs.Reports.{cause_text};
+ghost use Rattle.json_writer.specs.Standing.{Start};
 ghost use Rattle.reports.specs.RunReports as spec;
 ghost use Rattle.reports.specs.Values.{number_or_null};
 
 use crate::report::Report;
-use crate::value_writer::{Numbers, hold_number_member, put_null, put_number_member};
-use byte_ends::{Drain, Progress, Sink, put_part};
-use geojson_types::{Cause, Dropped};
+use crate::report_writer::cause_word;
+use crate::value_writer::{Numbers, put_null, put_number_member, put_string};
+use geojson_types::Dropped;
 use itoa::Buffer;
-use json_writer::{
-    PutValue, ShortText, hold, hold_array, hold_comma, hold_text, put_array, put_held,
-};
+use json_writer::{Out, PutValue, put_array};
 
-/// The word for why a line or a ring isn't written.
-fn cause_word(cause: Cause) -> &'static str
-    ensures { result.now ≡ cause_text cause }
+/// Puts a line or a ring that isn't written.
+fn put_dropped<O: Out>(dropped: &Dropped, out: &mut O)
+    ensures text { O.text out.new ≡ O.text out.old ++ json_text (spec.dropped_value dropped.now) }
+    ensures kept { (start : Start) → O.good out.old start → O.good out.new start }
 {
-    match cause {
-        Cause::Collapsed => "collapsed",
-        Cause::Small => "small",
-        Cause::Outer => "outer",
-    }
-}
-
-/// Writes or holds a line or a ring that isn't written.
-fn hold_dropped<W: Drain>(
-    dropped: &Dropped,
-    held: &mut ShortText,
-    so_far: Progress,
-    sink: &mut Sink<W>,
-) -> Progress
-    ensures { Holds sink.old sink.new so_far result held.old (json_text (spec.dropped_value dropped.now)) held.new }
-{
-    let layer = dropped.address.layer as u64;
-    let feature = dropped.address.feature as u64;
-    let path = dropped.address.path.as_slice();
-    let so_far = hold_number_member(b"{\"layer\":", layer, held, so_far, sink);
-    let so_far = hold_number_member(b",\"feature\":", feature, held, so_far, sink);
-    let so_far = hold(b",\"path\":", held, so_far, sink);
-    let so_far = hold_array::<Numbers, usize, W>(path, true, held, so_far, sink);
-    let so_far = hold(b",\"cause\":", held, so_far, sink);
-    let so_far = hold_text(cause_word(dropped.cause), held, so_far, sink);
-    hold(b"}", held, so_far, sink)
-}
-
-/// Writes a line or a ring that isn't written.
-fn put_dropped<W: Drain>(dropped: &Dropped, so_far: Progress, sink: &mut Sink<W>) -> Progress
-    ensures { Continues sink.old sink.new so_far (json_text (spec.dropped_value dropped.now)) result }
-{
-    let mut held = ShortText::new();
-    let so_far = hold_dropped(dropped, &mut held, so_far, sink);
-    put_held(&mut held, so_far, sink)
+    put_number_member(b"{\"layer\":", dropped.address.layer as u64, out);
+    put_number_member(b",\"feature\":", dropped.address.feature as u64, out);
+    out.put(b",\"path\":");
+    put_array::<Numbers, usize, O>(dropped.address.path.as_slice(), out);
+    out.put(b",\"cause\":");
+    put_string(cause_word(dropped.cause), out);
+    out.put(b"}");
 }
 
 // The way to write lines and rings that aren't written.
@@ -63,62 +32,49 @@ struct AllDropped;
 impl PutValue<Dropped> for AllDropped {
     ghost value = { spec.dropped_value };
 
-    fn put<W: Drain>(dropped: &Dropped, so_far: Progress, sink: &mut Sink<W>) -> Progress {
-        put_dropped(dropped, so_far, sink)
-    }
-
-    fn put_element<W: Drain>(
-        dropped: &Dropped,
-        is_first: bool,
-        held: &mut ShortText,
-        so_far: Progress,
-        sink: &mut Sink<W>,
-    ) -> Progress {
-        let so_far = hold_comma(is_first, held, so_far, sink);
-        hold_dropped(dropped, held, so_far, sink)
+    fn put<O: Out>(dropped: &Dropped, out: &mut O) {
+        put_dropped(dropped, out);
     }
 }
 
-/// Writes the threshold that was chosen, or null.
-fn put_chosen<W: Drain>(chosen: Option<u128>, so_far: Progress, sink: &mut Sink<W>) -> Progress
-    ensures { Continues sink.old sink.new so_far (json_text (number_or_null chosen)) result }
+/// Puts the threshold that was chosen, or null.
+fn put_chosen<O: Out>(chosen: Option<u128>, out: &mut O)
+    ensures text { O.text out.new ≡ O.text out.old ++ json_text (number_or_null chosen) }
+    ensures kept { (start : Start) → O.good out.old start → O.good out.new start }
 {
     let Some(threshold) = chosen else {
-        return put_null(so_far, sink);
+        return put_null(out);
     };
     let mut buffer = Buffer::new();
-    put_part(buffer.format(threshold).as_bytes(), so_far, sink)
+    out.put(buffer.format(threshold).as_bytes());
 }
 
-/// Writes a report.
-fn put_report<W: Drain>(report: &Report, so_far: Progress, sink: &mut Sink<W>) -> Progress
-    ensures { Continues sink.old sink.new so_far (json_text (spec.report_value report.now)) result }
+/// Puts a report.
+fn put_report<O: Out>(report: &Report, out: &mut O)
+    ensures text { O.text out.new ≡ O.text out.old ++ json_text (spec.report_value report.now) }
+    ensures kept { (start : Start) → O.good out.old start → O.good out.new start }
 {
-    let dropped = report.dropped.as_slice();
-    let so_far = put_number_member(b"{\"rounded\":", report.counts.rounded, so_far, sink);
-    let so_far = put_number_member(b",\"extra\":", report.counts.extra, so_far, sink);
-    let so_far = put_number_member(b",\"empty\":", report.counts.empty, so_far, sink);
-    let so_far = put_part(b",\"dropped\":", so_far, sink);
-    let so_far = put_array::<AllDropped, Dropped, W>(dropped, so_far, sink);
-    let so_far = put_number_member(b",\"lost\":", report.lost, so_far, sink);
-    let so_far = put_number_member(b",\"arcs\":", report.arcs, so_far, sink);
-    let so_far = put_number_member(b",\"kept\":", report.kept, so_far, sink);
-    let so_far = put_number_member(b",\"removed\":", report.removed, so_far, sink);
-    let so_far = put_part(b",\"chosen\":", so_far, sink);
-    let so_far = put_chosen(report.chosen, so_far, sink);
-    put_part(b"}", so_far, sink)
+    put_number_member(b"{\"rounded\":", report.counts.rounded, out);
+    put_number_member(b",\"extra\":", report.counts.extra, out);
+    put_number_member(b",\"empty\":", report.counts.empty, out);
+    out.put(b",\"dropped\":");
+    put_array::<AllDropped, Dropped, O>(report.dropped.as_slice(), out);
+    put_number_member(b",\"lost\":", report.lost, out);
+    put_number_member(b",\"arcs\":", report.arcs, out);
+    put_number_member(b",\"kept\":", report.kept, out);
+    put_number_member(b",\"removed\":", report.removed, out);
+    out.put(b",\"chosen\":");
+    put_chosen(report.chosen, out);
+    out.put(b"}");
 }
 
-/// Writes a report, or null.
-pub(crate) fn put_optional_report<W: Drain>(
-    report: Option<&Report>,
-    so_far: Progress,
-    sink: &mut Sink<W>,
-) -> Progress
-    ensures { Continues sink.old sink.new so_far (json_text (spec.report_or_null report.entry)) result }
+/// Puts a report, or null.
+pub(crate) fn put_optional_report<O: Out>(report: Option<&Report>, out: &mut O)
+    ensures text { O.text out.new ≡ O.text out.old ++ json_text (spec.report_or_null report.entry) }
+    ensures kept { (start : Start) → O.good out.old start → O.good out.new start }
 {
     match report {
-        None => put_null(so_far, sink),
-        Some(report) => put_report(report, so_far, sink),
+        None => put_null(out),
+        Some(report) => put_report(report, out),
     }
 }

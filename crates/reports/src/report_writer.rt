@@ -1,155 +1,147 @@
 // The text of a report.
-ghost use Rattle.std.specs.Prelude.{◌++◌, codes, decimal};
-ghost use Rattle.byte_ends.specs.Continues.{Continues};
+ghost use Rattle.std.specs.Prelude.{◌≡◌, ◌++◌, codes, decimal};
 ghost use Rattle.byte_ends.specs.Writes.{Writes};
-ghost use Rattle.json_writer.specs.Holding.{Holds};
+ghost use Rattle.json_writer.specs.Standing.{Start};
 ghost use Rattle.reports.specs.Reports as spec;
 
-use crate::number_writer::{hold_number, put_number};
+use crate::number_writer::put_number;
 use crate::report::Report;
-use byte_ends::{Drain, Progress, Sink, WriteFault, put_part};
+use byte_ends::{Drain, Sink, WriteFault};
 use geojson_types::{Cause, Dropped};
 use itoa::Buffer;
-use json_writer::{ShortText, hold, put_held};
+use json_writer::{Buffered, Out};
 
-/// Writes a line of a word and a number.
-pub(crate) fn put_line<W: Drain>(
-    word: &str,
-    number: u64,
-    so_far: Progress,
-    sink: &mut Sink<W>,
-) -> Progress
-    ensures { Continues sink.old sink.new so_far (spec.line_text word.now number) result }
+/// Puts a line of a word and a number.
+#[tactic(auto, using(std::proofs::Common::append_assoc))]
+pub(crate) fn put_line<O: Out>(word: &str, number: u64, out: &mut O)
+    ensures text { O.text out.new ≡ O.text out.old ++ spec.line_text word.now number }
+    ensures kept { (start : Start) → O.good out.old start → O.good out.new start }
 {
-    let so_far = put_part(word.as_bytes(), so_far, sink);
-    let so_far = put_part(b" ", so_far, sink);
-    let so_far = put_number(number, so_far, sink);
-    put_part(b"\n", so_far, sink)
+    out.put(word.as_bytes());
+    out.put(b" ");
+    put_number(number, out);
+    out.put(b"\n");
 }
 
-/// Holds the word for why a line or a ring isn't written.
-fn hold_cause<W: Drain>(
-    cause: Cause,
-    held: &mut ShortText,
-    so_far: Progress,
-    sink: &mut Sink<W>,
-) -> Progress
-    ensures { Holds sink.old sink.new so_far result held.old (spec.cause_text cause) held.new }
+/// The word for why a line or a ring isn't written.
+pub(crate) fn cause_word(cause: Cause) -> &'static str
+    ensures { result.now ≡ spec.cause_text cause }
 {
     match cause {
-        Cause::Collapsed => hold(b"collapsed", held, so_far, sink),
-        Cause::Small => hold(b"small", held, so_far, sink),
-        Cause::Outer => hold(b"outer", held, so_far, sink),
+        Cause::Collapsed => "collapsed",
+        Cause::Small => "small",
+        Cause::Outer => "outer",
     }
 }
 
-/// Holds a number of a path after a point.
-fn hold_next<W: Drain>(
-    number: usize,
-    held: &mut ShortText,
-    so_far: Progress,
-    sink: &mut Sink<W>,
-) -> Progress
-    ensures { Holds sink.old sink.new so_far result held.old (codes "." ++ decimal number) held.new }
+/// Puts a number of a path after a point.
+#[tactic(auto, using(std::proofs::Common::append_assoc))]
+fn put_next<O: Out>(number: usize, out: &mut O)
+    ensures text { O.text out.new ≡ O.text out.old ++ (codes "." ++ decimal number) }
+    ensures kept { (start : Start) → O.good out.old start → O.good out.new start }
 {
-    let so_far = hold(b".", held, so_far, sink);
-    hold_number(number as u64, held, so_far, sink)
+    out.put(b".");
+    put_number(number as u64, out);
 }
 
-/// Writes or holds the numbers of a path with points between, or a hyphen for the empty path.
-fn hold_path<W: Drain>(
-    path: &[usize],
-    held: &mut ShortText,
-    so_far: Progress,
-    sink: &mut Sink<W>,
-) -> Progress
-    ensures { Holds sink.old sink.new so_far result held.old (spec.path_text path.now) held.new }
+/// Puts the numbers of a path with points between, or a hyphen for the empty path.
+fn put_path<O: Out>(path: &[usize], out: &mut O)
+    ensures text { O.text out.new ≡ O.text out.old ++ spec.path_text path.now }
+    ensures kept { (start : Start) → O.good out.old start → O.good out.new start }
 {
     let Some((first, rest)) = path.split_first() else {
-        return hold(b"-", held, so_far, sink);
+        return out.put(b"-");
     };
-    let mut so_far = hold_number(*first as u64, held, so_far, sink);
+    put_number(*first as u64, out);
     'numbers: for number in rest {
-        so_far = hold_next(*number, held, so_far, sink);
+        put_next(*number, out);
     }
-    so_far
 }
 
-/// Writes or holds where a line or ring stood, up to its path.
-fn hold_place<W: Drain>(
-    dropped: &Dropped,
-    held: &mut ShortText,
-    so_far: Progress,
-    sink: &mut Sink<W>,
-) -> Progress
-    ensures { Holds sink.old sink.new so_far result held.old (spec.place_text dropped.now) held.new }
+/// Puts where a line or ring stood, up to its path.
+#[tactic(auto, using(std::proofs::Common::append_assoc))]
+fn put_place<O: Out>(dropped: &Dropped, out: &mut O)
+    ensures text { O.text out.new ≡ O.text out.old ++ spec.place_text dropped.now }
+    ensures kept { (start : Start) → O.good out.old start → O.good out.new start }
 {
-    let so_far = hold(b"drop ", held, so_far, sink);
-    let so_far = hold_number(dropped.address.layer as u64, held, so_far, sink);
-    let so_far = hold(b" ", held, so_far, sink);
-    let so_far = hold_number(dropped.address.feature as u64, held, so_far, sink);
-    let so_far = hold(b" ", held, so_far, sink);
-    hold_path(dropped.address.path.as_slice(), held, so_far, sink)
+    out.put(b"drop ");
+    put_number(dropped.address.layer as u64, out);
+    out.put(b" ");
+    put_number(dropped.address.feature as u64, out);
+    out.put(b" ");
+    put_path(dropped.address.path.as_slice(), out);
 }
 
-/// Writes or holds the line of a line or ring that isn't written.
-fn hold_dropped<W: Drain>(
-    dropped: &Dropped,
-    held: &mut ShortText,
-    so_far: Progress,
-    sink: &mut Sink<W>,
-) -> Progress
-    ensures { Holds sink.old sink.new so_far result held.old (spec.dropped_text dropped.now) held.new }
+/// Puts the line of a line or ring that isn't written.
+#[tactic(auto, using(std::proofs::Common::append_assoc))]
+fn put_dropped<O: Out>(dropped: &Dropped, out: &mut O)
+    ensures text { O.text out.new ≡ O.text out.old ++ spec.dropped_text dropped.now }
+    ensures kept { (start : Start) → O.good out.old start → O.good out.new start }
 {
-    let so_far = hold_place(dropped, held, so_far, sink);
-    let so_far = hold(b" ", held, so_far, sink);
-    let so_far = hold_cause(dropped.cause, held, so_far, sink);
-    hold(b"\n", held, so_far, sink)
+    put_place(dropped, out);
+    out.put(b" ");
+    out.put(cause_word(dropped.cause).as_bytes());
+    out.put(b"\n");
 }
 
-/// Writes the lines of all lines and rings that aren't written, many of them at once.
-fn put_all_dropped<W: Drain>(all: &[Dropped], so_far: Progress, sink: &mut Sink<W>) -> Progress
-    ensures { Continues sink.old sink.new so_far (spec.all_dropped_text all.now) result }
+/// Puts the lines of all lines and rings that aren't written.
+fn put_all_dropped<O: Out>(all: &[Dropped], out: &mut O)
+    ensures text { O.text out.new ≡ O.text out.old ++ spec.all_dropped_text all.now }
+    ensures kept { (start : Start) → O.good out.old start → O.good out.new start }
 {
-    let mut held = ShortText::new();
-    let mut so_far = so_far;
     'dropped: for dropped in all {
-        so_far = hold_dropped(dropped, &mut held, so_far, sink);
+        put_dropped(dropped, out);
     }
-    put_held(&mut held, so_far, sink)
 }
 
-/// Writes the lines of what was counted in reading, and the number of lines and rings that aren't written.
-fn put_counts<W: Drain>(report: &Report, so_far: Progress, sink: &mut Sink<W>) -> Progress
-    ensures { Continues sink.old sink.new so_far (spec.counts_text report.now) result }
+/// Puts the lines of what was counted in reading, and the number of lines and rings that aren't written.
+#[tactic(auto, using(std::proofs::Common::append_assoc))]
+fn put_counts<O: Out>(report: &Report, out: &mut O)
+    ensures text { O.text out.new ≡ O.text out.old ++ spec.counts_text report.now }
+    ensures kept { (start : Start) → O.good out.old start → O.good out.new start }
 {
-    let so_far = put_line("rounded", report.counts.rounded, so_far, sink);
-    let so_far = put_line("extra", report.counts.extra, so_far, sink);
-    let so_far = put_line("empty", report.counts.empty, so_far, sink);
-    let dropped = report.dropped.as_slice().len() as u64;
-    put_line("dropped", dropped, so_far, sink)
+    put_line("rounded", report.counts.rounded, out);
+    put_line("extra", report.counts.extra, out);
+    put_line("empty", report.counts.empty, out);
+    put_line("dropped", report.dropped.as_slice().len() as u64, out);
 }
 
-/// Writes the lines of the arcs.
-fn put_arcs<W: Drain>(report: &Report, so_far: Progress, sink: &mut Sink<W>) -> Progress
-    ensures { Continues sink.old sink.new so_far (spec.arcs_text report.now) result }
+/// Puts the lines of the arcs.
+#[tactic(auto, using(std::proofs::Common::append_assoc))]
+fn put_arcs<O: Out>(report: &Report, out: &mut O)
+    ensures text { O.text out.new ≡ O.text out.old ++ spec.arcs_text report.now }
+    ensures kept { (start : Start) → O.good out.old start → O.good out.new start }
 {
-    let so_far = put_line("arcs", report.arcs, so_far, sink);
-    let so_far = put_line("kept", report.kept, so_far, sink);
-    put_line("removed", report.removed, so_far, sink)
+    put_line("arcs", report.arcs, out);
+    put_line("kept", report.kept, out);
+    put_line("removed", report.removed, out);
 }
 
-/// Writes the line of the threshold that was chosen, if one was.
-fn put_chosen<W: Drain>(chosen: Option<u128>, so_far: Progress, sink: &mut Sink<W>) -> Progress
-    ensures { Continues sink.old sink.new so_far (spec.chosen_text chosen) result }
+/// Puts the line of the threshold that was chosen, if one was.
+#[tactic(auto, using(std::proofs::Common::append_assoc))]
+fn put_chosen<O: Out>(chosen: Option<u128>, out: &mut O)
+    ensures text { O.text out.new ≡ O.text out.old ++ spec.chosen_text chosen }
+    ensures kept { (start : Start) → O.good out.old start → O.good out.new start }
 {
     let Some(threshold) = chosen else {
-        return put_part(b"", so_far, sink);
+        return;
     };
     let mut buffer = Buffer::new();
-    let so_far = put_part(b"chosen ", so_far, sink);
-    let so_far = put_part(buffer.format(threshold).as_bytes(), so_far, sink);
-    put_part(b"\n", so_far, sink)
+    out.put(b"chosen ");
+    out.put(buffer.format(threshold).as_bytes());
+    out.put(b"\n");
+}
+
+/// Puts a report, as `report_text` does.
+#[tactic(auto, using(std::proofs::Common::append_assoc))]
+fn put_report<O: Out>(report: &Report, out: &mut O)
+    ensures text { O.text out.new ≡ O.text out.old ++ spec.report_text report.now }
+    ensures kept { (start : Start) → O.good out.old start → O.good out.new start }
+{
+    put_counts(report, out);
+    put_all_dropped(report.dropped.as_slice(), out);
+    put_arcs(report, out);
+    put_chosen(report.chosen, out);
 }
 
 /// Writes a report: a line for each count, after `dropped` a line for each line or ring that isn't written, with its layer,
@@ -157,8 +149,7 @@ fn put_chosen<W: Drain>(chosen: Option<u128>, so_far: Progress, sink: &mut Sink<
 pub fn report_text<W: Drain>(report: &Report, sink: &mut Sink<W>) -> Result<u64, WriteFault>
     ensures { Writes sink.old sink.new 0 (spec.report_text report.now) result }
 {
-    let so_far = put_counts(report, Ok(0), sink);
-    let so_far = put_all_dropped(report.dropped.as_slice(), so_far, sink);
-    let so_far = put_arcs(report, so_far, sink);
-    put_chosen(report.chosen, so_far, sink)
+    let mut out = Buffered::over(sink);
+    put_report(report, &mut out);
+    out.end()
 }

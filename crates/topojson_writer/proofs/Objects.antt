@@ -19,7 +19,7 @@ unfolding type_text
 type-null = ap (λ (text : List ℕ). codes "{\"type\":" ++ text) text-null
 
 -- what has no members
-pub ruleset none = (members-none)
+pub ruleset none = (members-none, append-nil)
 
 -- a member alone
 pub member-alone : (name : List ℕ) (v : Json) → members_text ((name, v) ∷ []) ≡ (codes "," ++ name_text name) ++ json_text v

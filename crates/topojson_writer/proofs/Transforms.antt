@@ -3,12 +3,11 @@ use Rattle.std.proofs.Common.{◌≡◌, ℕ, ◌+◌, ◌<◌, ◌≤◌, Bool,
 use Rattle.std.specs.Prelude.{codes}
 use Rattle.std.proofs.lemmas.List.{at_drop_all}
 use Rattle.owned_values.specs.Commas.{comma_unless, with_commas}
-use Rattle.byte_ends.proofs.Parts.{list_left}
 use Rattle.json_value.specs.declared.json.Json.{Json}
 use Rattle.json_value.specs.declared.json.Json.TheVariants as j
 use Rattle.json_value.specs.Text.{json_text, name_text, escaped_byte}
 use Rattle.json_value.proofs.Texts.{text-number, text-object}
-use Rattle.json_writer.proofs.Lists.{pair-text}
+use Rattle.json_writer.proofs.Lists.{list_left, pair-text}
 use Rattle.geometry.specs.Points.{Point}
 use Rattle.topojson_types.specs.declared.transform.Transform.{Transform}
 use Rattle.topojson_types.specs.Differences.{difference, deltas_from}
@@ -18,12 +17,6 @@ use Rattle.topojson_writer.specs.Texts.{members_text}
 use Rattle.topojson_writer.proofs.Objects.{member-alone}
 
 -- ---- transforms
-
-pub numbers-text : (p : List ℕ × List ℕ) → json_text (pair_value p) ≡ codes "[" ++ (p.0 ++ (codes "," ++ (p.1 ++ codes "]")))
-numbers-text p =
-    pair-text p.0 p.1
-    ∙ ap (λ (text : List ℕ). codes "[" ++ (text ++ (codes "," ++ (json_text (j.Number p.1) ++ codes "]")))) (text-number p.0)
-    ∙ ap (λ (text : List ℕ). codes "[" ++ (p.0 ++ (codes "," ++ (text ++ codes "]")))) (text-number p.1)
 
 -- an object of two members
 two-members : (m n : List ℕ) (v w : Json) → json_text (j.Object ((m, v) ∷ ((n, w) ∷ [])))
@@ -38,14 +31,16 @@ pub transform_member-text : (t : Transform) → members_text (members_of_transfo
 unfolding escaped_byte
 transform_member-text t = member-alone (codes "transform") (transform_object t) ∙ ap (λ (text : List ℕ). codes ",\"transform\":" ++ text) (two-members (codes "scale") (codes "translate") (pair_value t.scale) (pair_value t.translate))
 
+pub ruleset transforms = (pair-text, text-number, append_assoc)
+
 -- ---- arcs on a grid, in front of a cell
 
 module _ (text_of : Point → List ℕ) (closing : List ℕ) (is_first : Bool) (cells : List Point) (i : ℕ) (before : Point) where
-  regrouped : (comma text following : List ℕ) → (comma ++ (text ++ following)) ++ closing ≡ (comma ++ text) ++ (following ++ closing)
+  regrouped : (comma text following : List ℕ) → (comma ++ (text ++ following)) ++ closing ≡ comma ++ (text ++ (following ++ closing))
   regrouped comma text following = simp append_assoc
 
   pub cell-goes : (c : Point) → i < length cells → c ≡ get_or cells i c → list_left text_of closing is_first (deltas_from before (drop i cells))
-      ≡ (comma_unless is_first ++ text_of (difference before c)) ++ list_left text_of closing false (deltas_from c (drop (i + 1) cells))
+      ≡ comma_unless is_first ++ (text_of (difference before c) ++ list_left text_of closing false (deltas_from c (drop (i + 1) cells)))
   cell-goes c within is =
       ap (list_left text_of closing is_first) (next cells before i c within is)
       ∙ regrouped (comma_unless is_first) (text_of (difference before c)) (with_commas false (map text_of (deltas_from c (drop (i + 1) cells))))

@@ -61,3 +61,5 @@ topology-text t =
   where
     regrouped : (a b c d : List ℕ) → (a ++ (b ++ c)) ++ d ≡ a ++ (b ++ (c ++ d))
     regrouped a b c d = simp append_assoc
+
+pub ruleset topologies = (topology-text, append_assoc)

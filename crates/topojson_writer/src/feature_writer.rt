@@ -1,148 +1,85 @@
 // Geometry objects with their identifiers and properties as they are written (TopoJSON 1.0, section 2.2).
-ghost use Rattle.std.specs.Prelude.{Some};
-ghost use Rattle.byte_ends.specs.Continues.{Continues};
+ghost use Rattle.std.specs.Prelude.{◌≡◌, ◌++◌};
 ghost use Rattle.json_value.specs.Text.{json_text};
-ghost use Rattle.json_writer.specs.Holding.{Holds};
+ghost use Rattle.json_writer.specs.Standing.{Start};
 ghost use Rattle.topojson_types.specs.Values.{geometrical_option, id_value, id_members, properties_members, feature_value};
 ghost use Rattle.topojson_writer.specs.Texts.{type_text, members_text};
 
-use crate::shape_writer::{hold_parts, hold_type};
-use byte_ends::{Drain, Progress, Sink};
+use crate::shape_writer::{put_parts, type_start};
 use geojson_types::{Id, Properties};
-use json_writer::{
-    PutValue, ShortText, hold, hold_comma, hold_or_put, hold_properties, hold_text, put_held,
-};
+use json_writer::{Out, PutValue, put_properties, put_text};
 use std::marker::PhantomData;
 use topojson_types::{Cell, TopoFeature, TopoShape};
 
-/// Writes or holds an identifier: a text, or a number by its text.
-fn hold_id_value<W: Drain>(
-    id: &Id,
-    held: &mut ShortText,
-    so_far: Progress,
-    sink: &mut Sink<W>,
-) -> Progress
-    ensures { Holds sink.old sink.new so_far result held.old (json_text (id_value id.now)) held.new }
+/// Puts an identifier: a text, or a number by its text.
+#[tactic(auto, using(json_value::proofs::Texts::texts))]
+fn put_id_value<O: Out>(id: &Id, out: &mut O)
+    ensures text { O.text out.new ≡ O.text out.old ++ json_text (id_value id.now) }
+    ensures kept { (start : Start) → O.good out.old start → O.good out.new start }
 {
     match id {
-        Id::Text(text) => hold_text(text.as_str(), held, so_far, sink),
-        Id::Number(number) => hold_or_put(number.as_bytes(), held, so_far, sink),
+        Id::Text(text) => put_text(text.as_str(), out),
+        Id::Number(number) => out.put(number.as_bytes()),
     }
 }
 
-/// Writes or holds the member `id` after a comma.
-fn hold_id_member<W: Drain>(
-    id: &Id,
-    held: &mut ShortText,
-    so_far: Progress,
-    sink: &mut Sink<W>,
-) -> Progress
-    ensures { Holds sink.old sink.new so_far result held.old (members_text (id_members (Some id.now))) held.new }
+/// Puts the member `id` after a comma, if there is an identifier.
+#[tactic(auto, using(crate::proofs::Features::parts))]
+fn put_id<O: Out>(id: &Option<Id>, out: &mut O)
+    ensures text { O.text out.new ≡ O.text out.old ++ members_text (id_members id.now) }
+    ensures kept { (start : Start) → O.good out.old start → O.good out.new start }
 {
-    let so_far = hold(b",\"id\":", held, so_far, sink);
-    hold_id_value(id, held, so_far, sink)
-}
-
-/// Writes or holds the member `id` after a comma, if there is an identifier.
-fn hold_id<W: Drain>(
-    id: &Option<Id>,
-    held: &mut ShortText,
-    so_far: Progress,
-    sink: &mut Sink<W>,
-) -> Progress
-    ensures { Holds sink.old sink.new so_far result held.old (members_text (id_members id.now)) held.new }
-{
-    match id {
-        None => so_far,
-        Some(id) => hold_id_member(id, held, so_far, sink),
+    if let Some(id) = id {
+        out.put(b",\"id\":");
+        put_id_value(id, out);
     }
 }
 
-/// Writes or holds the member `properties` after a comma.
-fn hold_properties_member<W: Drain>(
-    properties: &Properties,
-    held: &mut ShortText,
-    so_far: Progress,
-    sink: &mut Sink<W>,
-) -> Progress
-    ensures { Holds sink.old sink.new so_far result held.old (members_text (properties_members (Some properties.now))) held.new }
+/// Puts the member `properties` after a comma, if they are an object.
+#[tactic(auto, using(crate::proofs::Features::parts))]
+fn put_properties_option<O: Out>(properties: &Option<Properties>, out: &mut O)
+    ensures text { O.text out.new ≡ O.text out.old ++ members_text (properties_members properties.now) }
+    ensures kept { (start : Start) → O.good out.old start → O.good out.new start }
 {
-    let so_far = hold(b",\"properties\":", held, so_far, sink);
-    hold_properties(properties, held, so_far, sink)
-}
-
-/// Writes or holds the member `properties` after a comma, if they are an object.
-fn hold_properties_option<W: Drain>(
-    properties: &Option<Properties>,
-    held: &mut ShortText,
-    so_far: Progress,
-    sink: &mut Sink<W>,
-) -> Progress
-    ensures { Holds sink.old sink.new so_far result held.old (members_text (properties_members properties.now)) held.new }
-{
-    match properties {
-        None => so_far,
-        Some(properties) => hold_properties_member(properties, held, so_far, sink),
+    if let Some(properties) = properties {
+        out.put(b",\"properties\":");
+        put_properties(properties, out);
     }
 }
 
-/// Holds the opening brace of a geometry object, and its type, or null.
-fn hold_option_type<C: PutValue<Cell>, W: Drain>(
-    shape: &Option<TopoShape>,
-    held: &mut ShortText,
-    so_far: Progress,
-    sink: &mut Sink<W>,
-) -> Progress
-    ensures { Holds sink.old sink.new so_far result held.old (type_text (geometrical_option C.value shape.now)) held.new }
+/// The opening brace of a geometry object, and its type, or null.
+#[tactic(auto, using(crate::proofs::Features::parts))]
+fn option_type_start<C: PutValue<Cell>>(shape: &Option<TopoShape>) -> &'static [u8]
+    ensures { result.now ≡ type_text (geometrical_option C.value shape.now) }
 {
     match shape {
-        None => hold(b"{\"type\":null", held, so_far, sink),
-        Some(shape) => hold_type::<C, W>(shape, held, so_far, sink),
+        None => b"{\"type\":null",
+        Some(shape) => type_start::<C>(shape),
     }
 }
 
-/// Writes or holds what a geometry has after its type, identifier and properties: nothing, if it is null.
-fn hold_option_parts<C: PutValue<Cell>, W: Drain>(
-    shape: &Option<TopoShape>,
-    held: &mut ShortText,
-    so_far: Progress,
-    sink: &mut Sink<W>,
-) -> Progress
-    ensures { Holds sink.old sink.new so_far result held.old (members_text (geometrical_option C.value shape.now).parts) held.new }
+/// Puts what a geometry has after its type, identifier and properties: nothing, if it is null.
+#[tactic(auto, using(crate::proofs::Features::parts))]
+fn put_option_parts<C: PutValue<Cell>, O: Out>(shape: &Option<TopoShape>, out: &mut O)
+    ensures text { O.text out.new ≡ O.text out.old ++ members_text (geometrical_option C.value shape.now).parts }
+    ensures kept { (start : Start) → O.good out.old start → O.good out.new start }
 {
-    match shape {
-        None => so_far,
-        Some(shape) => hold_parts::<C, W>(shape, held, so_far, sink),
+    if let Some(shape) = shape {
+        put_parts::<C, O>(shape, out);
     }
 }
 
-/// Writes or holds a geometry object with its identifier and properties.
-fn hold_feature<C: PutValue<Cell>, W: Drain>(
-    feature: &TopoFeature,
-    held: &mut ShortText,
-    so_far: Progress,
-    sink: &mut Sink<W>,
-) -> Progress
-    ensures { Holds sink.old sink.new so_far result held.old (json_text (feature_value C.value feature.now)) held.new }
+/// Puts a geometry object with its identifier and properties.
+#[tactic(auto, using(crate::proofs::Features::features))]
+pub fn put_feature<C: PutValue<Cell>, O: Out>(feature: &TopoFeature, out: &mut O)
+    ensures text { O.text out.new ≡ O.text out.old ++ json_text (feature_value C.value feature.now) }
+    ensures kept { (start : Start) → O.good out.old start → O.good out.new start }
 {
-    let so_far = hold_option_type::<C, W>(&feature.shape, held, so_far, sink);
-    let so_far = hold_id(&feature.id, held, so_far, sink);
-    let so_far = hold_properties_option(&feature.properties, held, so_far, sink);
-    let so_far = hold_option_parts::<C, W>(&feature.shape, held, so_far, sink);
-    hold(b"}", held, so_far, sink)
-}
-
-/// Writes a geometry object with its identifier and properties.
-pub fn put_feature<C: PutValue<Cell>, W: Drain>(
-    feature: &TopoFeature,
-    so_far: Progress,
-    sink: &mut Sink<W>,
-) -> Progress
-    ensures { Continues sink.old sink.new so_far (json_text (feature_value C.value feature.now)) result }
-{
-    let mut held = ShortText::new();
-    let so_far = hold_feature::<C, W>(feature, &mut held, so_far, sink);
-    put_held(&mut held, so_far, sink)
+    out.put(option_type_start::<C>(&feature.shape));
+    put_id(&feature.id, out);
+    put_properties_option(&feature.properties, out);
+    put_option_parts::<C, O>(&feature.shape, out);
+    out.put(b"}");
 }
 
 /// The way to write features, with their cells in this way.
@@ -153,18 +90,7 @@ pub struct Features<C> {
 impl<C: PutValue<Cell>> PutValue<TopoFeature> for Features<C> {
     ghost value = { feature_value C.value };
 
-    fn put<W: Drain>(feature: &TopoFeature, so_far: Progress, sink: &mut Sink<W>) -> Progress {
-        put_feature::<C, W>(feature, so_far, sink)
-    }
-
-    fn put_element<W: Drain>(
-        feature: &TopoFeature,
-        is_first: bool,
-        held: &mut ShortText,
-        so_far: Progress,
-        sink: &mut Sink<W>,
-    ) -> Progress {
-        let so_far = hold_comma(is_first, held, so_far, sink);
-        hold_feature::<C, W>(feature, held, so_far, sink)
+    fn put<O: Out>(feature: &TopoFeature, out: &mut O) {
+        put_feature::<C, O>(feature, out);
     }
 }

@@ -1,10 +1,11 @@
 use Rattle.std.proofs.Common.{sym, ◌∙◌}
-use Rattle.byte_ends.proofs.Parts.{as_text}
+use Rattle.std.proofs.lemmas.List.{append-nil}
+use Rattle.json_writer.proofs.Appending.{as_part}
 use Rattle.reports.proofs.Lines.{rest-none, rest-some}
 use Rattle.reports.proofs.explanation_writer.put_rest.Goals as goal
 
-pub returns-then-is_empty : goal.returns-then-is_empty
-returns-then-is_empty g c = as_text (rest-none _ _ (sym c.is_empty.ensures ∙ c.if-is_empty.true)) c.put_part.ensures
+pub returns-then-not-is_empty-clause-text : goal.returns-then-not-is_empty-clause-text
+returns-then-not-is_empty-clause-text g c = as_part _ (rest-some _ _ (sym c.is_empty.ensures ∙ c.if-not-is_empty.true)) c.put_line.ensures.text
 
-pub returns-else-is_empty : goal.returns-else-is_empty
-returns-else-is_empty g c = as_text (rest-some _ _ (sym c.is_empty.ensures ∙ c.if-is_empty.false)) c.put_line.ensures
+pub returns-else-not-is_empty-clause-text : goal.returns-else-not-is_empty-clause-text
+returns-else-not-is_empty-clause-text g c = as_part _ (rest-none _ _ (sym c.is_empty.ensures ∙ c.if-not-is_empty.false)) (sym (append-nil _))

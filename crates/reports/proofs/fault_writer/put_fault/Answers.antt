@@ -1,13 +1,20 @@
-use Rattle.byte_ends.proofs.Parts.{as_text, then}
-use Rattle.reports.proofs.Objects.{fault-text}
+use Rattle.std.proofs.Common.{refl}
+use Rattle.json_value.specs.declared.json.Json.TheVariants as j
+use Rattle.reports.specs.Faults.{code, name, layer, feature, at, sent}
+use Rattle.reports.specs.Values.{number_or_null, text_or_null}
+use Rattle.reports.proofs.Objects.{fault-text, starts, next, last}
 use Rattle.reports.proofs.fault_writer.put_fault.Goals as goal
 
-pub returns : goal.returns
-returns g c =
-    let code = then c.put_part-so_far.ensures (rw c.code.ensures at c.put_optional_text-so_far.ensures) in
-    let name = then c.put_part-so_far-2.ensures (rw c.name.ensures at c.put_string-so_far.ensures) in
-    let layer = rw c.layer.ensures at c.put_optional_member-so_far.ensures in
-    let feature = rw c.feature.ensures at c.put_optional_member-so_far-2.ensures in
-    let at = rw c.at.ensures at c.put_optional_member-so_far-3.ensures in
-    let sent = rw c.sent.ensures at c.put_optional_member-so_far-4.ensures in
-    as_text (fault-text _ _ _ _ _ _) (then code (then name (then layer (then feature (then at (then sent c.put_part.ensures))))))
+pub returns-clause-text : goal.returns-clause-text
+returns-clause-text g c =
+    let s0 = starts (g.O.Out.text c.args.out.now) (fault-text (text_or_null (code c.args.fault.now)) (j.Text (name c.args.fault.now)) (number_or_null (layer c.args.fault.now))
+    (number_or_null (feature c.args.fault.now)) (number_or_null (at c.args.fault.now)) (number_or_null (sent c.args.fault.now))) in
+    let s1 = next _ _ s0 c.put.ensures.text refl in
+    let s2 = next _ _ s1 (rw c.code.ensures at c.put_optional_text.ensures.text) refl in
+    let s3 = next _ _ s2 c.put-2.ensures.text refl in
+    let s4 = next _ _ s3 (rw c.name.ensures at c.put_string.ensures.text) refl in
+    let s5 = next _ _ s4 (rw c.layer.ensures at c.put_optional_member.ensures.text) refl in
+    let s6 = next _ _ s5 (rw c.feature.ensures at c.put_optional_member-2.ensures.text) refl in
+    let s7 = next _ _ s6 (rw c.at.ensures at c.put_optional_member-3.ensures.text) refl in
+    let s8 = next _ _ s7 (rw c.sent.ensures at c.put_optional_member-4.ensures.text) refl in
+    last s8 c.put-3.ensures.text

@@ -1,7 +1,9 @@
-use Rattle.byte_ends.proofs.Parts.{then, whole}
+use Rattle.std.proofs.Common.{rules, sym}
 use Rattle.reports.proofs.report_writer.report_text.Goals as goal
 
 pub returns : goal.returns
 returns g c =
-    let dropped = rw c.as_slice.ensures at c.put_all_dropped-so_far.ensures in
-    whole (then (then c.put_counts-so_far.ensures dropped) (then c.put_arcs-so_far.ensures c.put_chosen.ensures))
+    let stood = c.put_report.ensures.kept _ c.over-out.ensures.begins in
+    let same = sym stood.same in
+    let wrote = c.end.ensures _ stood in
+    search rules

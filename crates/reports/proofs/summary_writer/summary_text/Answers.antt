@@ -1,22 +1,9 @@
-use Rattle.std.proofs.Common.{◌++◌, ◌∙◌, ap, append_assoc, length}
-use Rattle.std.specs.Prelude.{codes}
-use Rattle.std.proofs.lemmas.List.{drop_all}
-use Rattle.byte_ends.proofs.Parts.{begins, goes, ends, whole}
-use Rattle.reports.specs.Reports.{line_text}
-use Rattle.reports.specs.Summaries.{object_text, objects_text, totals_text}
-use Rattle.owned_values.proofs.Lists.{drop_here}
+use Rattle.std.proofs.Common.{rules, sym}
 use Rattle.reports.proofs.summary_writer.summary_text.Goals as goal
 
-pub objects-init : goal.objects-init
-objects-init g c =
-    let s = c.args.summary.now in
-    let head = line_text (codes "objects") (length s.objects) in
-    rw c.as_slice-objects.ensures (begins _ _ (append_assoc head (objects_text s.objects) (totals_text s)) (rw c.as_slice-objects.ensures at c.put_line-so_far.ensures))
-
-pub objects-preserved : goal.objects-preserved
-objects-preserved g c =
-    goes c.objects.invariant
-    (ap (λ z. objects_text z ++ totals_text c.args.summary.now) (drop_here _ _ _ c.objects-test.true c.object-item.is) ∙ append_assoc (object_text c.object-item.result) _ _) c.put_object-so_far.ensures
-
 pub returns : goal.returns
-returns g c = whole (ends (rw (drop_all _ _ c.objects-test.false) at c.objects.invariant) c.put_totals.ensures)
+returns g c =
+    let stood = c.put_summary.ensures.kept _ c.over-out.ensures.begins in
+    let same = sym stood.same in
+    let wrote = c.end.ensures _ stood in
+    search rules

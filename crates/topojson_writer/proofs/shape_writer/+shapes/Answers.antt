@@ -1,15 +1,13 @@
-use Rattle.std.proofs.Common.{List, ℕ, ap, ◌∙◌}
-use Rattle.std.proofs.lemmas.List.{drop_all}
+use Rattle.std.proofs.Common.{List, ℕ, ◌++◌, ap, ◌∙◌}
 use Rattle.std.specs.Prelude.{codes}
-use Rattle.byte_ends.proofs.Parts.{list_left}
 use Rattle.json_value.specs.declared.json.Json.{Json}
 use Rattle.json_value.specs.Text.{json_text}
-use Rattle.json_writer.proofs.Held.{held_as, held_begins, held_ends, held_goes, held_then}
-use Rattle.json_writer.proofs.Lists.{array-text, element-next, text_by}
+use Rattle.json_writer.proofs.Appending.{as_part, then, begins, list-goes, list-ends}
+use Rattle.json_writer.proofs.Lists.{array-text, text_by}
 use Rattle.geometry.specs.Points.{Point}
 use Rattle.topojson_types.specs.Topologies.{TopoShape}
-use Rattle.topojson_types.specs.Values.{geometrical}
-use Rattle.topojson_writer.specs.Texts.{parts_value, shape_value}
+use Rattle.topojson_types.specs.Values.{Geometrical, geometrical}
+use Rattle.topojson_writer.specs.Texts.{members_text, parts_value, shape_value, type_text}
 use Rattle.topojson_writer.proofs.Objects.{object-text}
 use Rattle.topojson_writer.proofs.Shapes.{parts-text}
 use Rattle.topojson_writer.proofs.Shapes as kind
@@ -20,46 +18,45 @@ use Rattle.topojson_writer.proofs.shape_writer.+shapes.Goals as goal
 abbrev value_of : (Point → Json) → TopoShape → List ℕ
 value_of cell shape = json_text (parts_value (geometrical cell shape))
 
-pub hold_parts_value-returns-in-Point : goal.hold_parts_value-returns-in-Point
-hold_parts_value-returns-in-Point g t c = held_as _ _ _ _ (ap (value_of g.C.PutValue.value) c.in-Point.is ∙ ap json_text (kind.value-point g.C.PutValue.value _)) c.put_element.ensures
+pub put_parts_value-returns-in-Point-clause-text : goal.put_parts_value-returns-in-Point-clause-text
+put_parts_value-returns-in-Point-clause-text g t c = as_part _ (ap (value_of g.C.PutValue.value) c.in-Point.is ∙ ap json_text (kind.value-point g.C.PutValue.value _)) c.put.ensures.text
 
-pub hold_parts_value-returns-in-MultiPoint : goal.hold_parts_value-returns-in-MultiPoint
-hold_parts_value-returns-in-MultiPoint g t c = held_as _ _ _ _ (ap (value_of g.C.PutValue.value) c.in-MultiPoint.is ∙ ap json_text (kind.value-points g.C.PutValue.value _)) (rw c.as_slice.ensures at c.hold_array.ensures)
+pub put_parts_value-returns-in-MultiPoint-clause-text : goal.put_parts_value-returns-in-MultiPoint-clause-text
+put_parts_value-returns-in-MultiPoint-clause-text g t c = as_part _ (ap (value_of g.C.PutValue.value) c.in-MultiPoint.is ∙ ap json_text (kind.value-points g.C.PutValue.value _)) (rw c.as_slice.ensures at c.put_array.ensures.text)
 
-pub hold_parts_value-returns-in-Line : goal.hold_parts_value-returns-in-Line
-hold_parts_value-returns-in-Line g t c = held_as _ _ _ _ (ap (value_of g.C.PutValue.value) c.in-Line.is ∙ ap json_text (kind.value-line g.C.PutValue.value _)) (rw c.as_slice-in-Line.ensures at c.hold_array-in-Line.ensures)
+pub put_parts_value-returns-in-Line-clause-text : goal.put_parts_value-returns-in-Line-clause-text
+put_parts_value-returns-in-Line-clause-text g t c = as_part _ (ap (value_of g.C.PutValue.value) c.in-Line.is ∙ ap json_text (kind.value-line g.C.PutValue.value _)) (rw c.as_slice-in-Line.ensures at c.put_array-in-Line.ensures.text)
 
-pub hold_parts_value-returns-in-Lines : goal.hold_parts_value-returns-in-Lines
-hold_parts_value-returns-in-Lines g t c = held_as _ _ _ _ (ap (value_of g.C.PutValue.value) c.in-Lines.is ∙ ap json_text (kind.value-lines g.C.PutValue.value _)) (rw c.as_slice-in-Lines.ensures at c.hold_array-in-Lines.ensures)
+pub put_parts_value-returns-in-Lines-clause-text : goal.put_parts_value-returns-in-Lines-clause-text
+put_parts_value-returns-in-Lines-clause-text g t c = as_part _ (ap (value_of g.C.PutValue.value) c.in-Lines.is ∙ ap json_text (kind.value-lines g.C.PutValue.value _)) (rw c.as_slice-in-Lines.ensures at c.put_array-in-Lines.ensures.text)
 
-pub hold_parts_value-returns-in-Area : goal.hold_parts_value-returns-in-Area
-hold_parts_value-returns-in-Area g t c = held_as _ _ _ _ (ap (value_of g.C.PutValue.value) c.in-Area.is ∙ ap json_text (kind.value-area g.C.PutValue.value _)) (rw c.as_slice-in-Area.ensures at c.hold_array-in-Area.ensures)
+pub put_parts_value-returns-in-Area-clause-text : goal.put_parts_value-returns-in-Area-clause-text
+put_parts_value-returns-in-Area-clause-text g t c = as_part _ (ap (value_of g.C.PutValue.value) c.in-Area.is ∙ ap json_text (kind.value-area g.C.PutValue.value _)) (rw c.as_slice-in-Area.ensures at c.put_array-in-Area.ensures.text)
 
-pub hold_parts_value-returns-in-Areas : goal.hold_parts_value-returns-in-Areas
-hold_parts_value-returns-in-Areas g t c = held_as _ _ _ _ (ap (value_of g.C.PutValue.value) c.in-Areas.is ∙ ap json_text (kind.value-areas g.C.PutValue.value _)) (rw c.as_slice-in-Areas.ensures at c.hold_array-in-Areas.ensures)
+pub put_parts_value-returns-in-Areas-clause-text : goal.put_parts_value-returns-in-Areas-clause-text
+put_parts_value-returns-in-Areas-clause-text g t c = as_part _ (ap (value_of g.C.PutValue.value) c.in-Areas.is ∙ ap json_text (kind.value-areas g.C.PutValue.value _)) (rw c.as_slice-in-Areas.ensures at c.put_array-in-Areas.ensures.text)
 
-pub hold_parts_value-returns-in-Group : goal.hold_parts_value-returns-in-Group
-hold_parts_value-returns-in-Group g t c = held_as _ _ _ _ (ap (value_of g.C.PutValue.value) c.in-Group.is ∙ ap json_text (kind.value-group g.C.PutValue.value _)) (rw c.as_slice-in-Group.ensures at c.hold_shapes.ensures)
+pub put_parts_value-returns-in-Group-clause-text : goal.put_parts_value-returns-in-Group-clause-text
+put_parts_value-returns-in-Group-clause-text g t c = as_part _ (ap (value_of g.C.PutValue.value) c.in-Group.is ∙ ap json_text (kind.value-group g.C.PutValue.value _)) (rw c.as_slice-in-Group.ensures at c.put_shapes.ensures.text)
 
-pub hold_parts-returns : goal.hold_parts-returns
-hold_parts-returns g t c = held_as _ _ _ _ (parts-text g.C.PutValue.value c.args.shape.now) (held_then _ _ _ _ _ c.hold_parts_name-so_far.ensures c.hold_parts_value.ensures)
+pub put_parts-returns-clause-text : goal.put_parts-returns-clause-text
+put_parts-returns-clause-text g t c = as_part _ (parts-text g.C.PutValue.value c.args.shape.now) (then _ _ _ (rw c.name_of_parts.ensures at c.put.ensures.text) c.put_parts_value.ensures.text)
 
-pub hold_shape-returns : goal.hold_shape-returns
-hold_shape-returns g t c =
-    held_as _ _ _ _ (object-text (geometrical g.C.PutValue.value c.args.shape.now))
-    (held_then _ _ _ _ _ c.hold_type-so_far.ensures (held_then _ _ _ _ _ c.hold_parts-so_far.ensures c.hold.ensures))
+pub put_shape-returns-clause-text : goal.put_shape-returns-clause-text
+put_shape-returns-clause-text g t c =
+    let o : Geometrical = geometrical g.C.PutValue.value c.args.shape.now in
+    let end = then (g.O.Out.text c.put.new.self) (members_text o.parts) (codes "}") c.put_parts.ensures.text c.put-2.ensures.text in
+    as_part _ (object-text o) (then (g.O.Out.text c.args.out.now) (type_text o) (members_text o.parts ++ codes "}") (rw c.type_start.ensures at c.put.ensures.text) end)
 
 -- ---- geometries
 
-pub hold_shapes-shapes-init : goal.hold_shapes-shapes-init
-hold_shapes-shapes-init g t c = held_begins _ _ (codes "[") _ _ (array-text (shape_value g.C.PutValue.value) c.args.shapes.now) c.hold-so_far.ensures
+pub put_shapes-shapes-init : goal.put_shapes-shapes-init
+put_shapes-shapes-init g t c = begins _ (array-text (shape_value g.C.PutValue.value) c.args.shapes.now) c.put.ensures.text c.put.ensures.kept
 
-pub hold_shapes-shapes-preserved : goal.hold_shapes-shapes-preserved
-hold_shapes-shapes-preserved g t c =
-    let next = element-next (text_by (shape_value g.C.PutValue.value)) (codes "]") c.shapes.is_first c.args.shapes.now c.shapes.shape-index c.shape-item.result c.shapes-test.true c.shape-item.is in
-    held_goes _ _ _ _ _ _ _ c.shapes.invariant next (held_then _ _ _ _ _ c.hold_comma-so_far.ensures c.hold_shape-so_far.ensures)
+pub put_shapes-shapes-preserved : goal.put_shapes-shapes-preserved
+put_shapes-shapes-preserved g t c =
+    list-goes (text_by (shape_value g.C.PutValue.value)) (codes "]") _ _ _ c.shapes.invariant _ c.shapes-test.true c.shape-item.is
+    c.put_comma.ensures.text c.put_comma.ensures.kept c.put_shape.ensures.text c.put_shape.ensures.kept
 
-pub hold_shapes-returns : goal.hold_shapes-returns
-hold_shapes-returns g t c =
-    let none = ap (list_left (text_by (shape_value g.C.PutValue.value)) (codes "]") c.shapes.is_first) (drop_all c.shapes.shape-index c.args.shapes.now c.shapes-test.false) in
-    held_ends _ _ _ _ _ _ c.shapes.invariant none c.hold.ensures
+pub put_shapes-returns-clause-text : goal.put_shapes-returns-clause-text
+put_shapes-returns-clause-text g t c = list-ends (text_by (shape_value g.C.PutValue.value)) (codes "]") _ _ _ c.shapes.invariant c.shapes-test.false c.put-2.ensures.text

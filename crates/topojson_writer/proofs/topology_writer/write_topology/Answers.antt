@@ -1,5 +1,9 @@
-use Rattle.byte_ends.proofs.Parts.{whole}
+use Rattle.std.proofs.Common.{rules, sym}
 use Rattle.topojson_writer.proofs.topology_writer.write_topology.Goals as goal
 
 pub returns : goal.returns
-returns g c = whole c.put_topology.ensures
+returns g c =
+    let stood = c.put_topology.ensures.kept _ c.over-out.ensures.begins in
+    let same = sym stood.same in
+    let wrote = c.end.ensures _ stood in
+    search rules

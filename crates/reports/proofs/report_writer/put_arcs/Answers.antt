@@ -1,5 +1,0 @@
-use Rattle.byte_ends.proofs.Parts.{then}
-use Rattle.reports.proofs.report_writer.put_arcs.Goals as goal
-
-pub returns : goal.returns
-returns g c = then (then c.put_line-so_far.ensures c.put_line-so_far-2.ensures) c.put_line.ensures

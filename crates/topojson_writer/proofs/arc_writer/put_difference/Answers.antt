@@ -1,0 +1,9 @@
+use Rattle.std.proofs.Common.{◌≡◌, ◌-ℤ◌, arith, to_z, of_z, w64}
+use Rattle.std.proofs.lemmas.Int.{ints}
+use Rattle.topojson_writer.proofs.arc_writer.put_difference.Goals as goal
+
+pub returns-clause-text : goal.returns-clause-text
+returns-clause-text g c =
+    let x : to_z w64 (of_z w64 (to_z w64 (of_z w64 c.x.result) -ℤ to_z w64 (of_z w64 c.x-2.result))) ≡ c.args.cell.x -ℤ c.args.before.x = omega (arith, ints) in
+    let y : to_z w64 (of_z w64 (to_z w64 (of_z w64 c.y.result) -ℤ to_z w64 (of_z w64 c.y-2.result))) ≡ c.args.cell.y -ℤ c.args.before.y = omega (arith, ints) in
+    rw (x, y) at c.put_pair.ensures.text

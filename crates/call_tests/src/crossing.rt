@@ -1,6 +1,6 @@
 // Crossings counted up to limits that no command has. That the answer is the definition's is proved: these show that memory isn't always refused.
-use guarded_reduction::crossings_up_to;
 use geometry::Position;
+use guarded_reduction::crossings_up_to;
 use owned_values::Items;
 use std::test::Fail;
 

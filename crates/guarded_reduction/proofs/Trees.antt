@@ -63,11 +63,13 @@ under_leaf leaves i j p q (by_right u) = let h : 2 * i + 1 ≤ j = under_least (
 -- at a leaf, where the box holds its place's position if that is left
 pub leaf_holds : (ps : List Point) (bs : List Bool) (zs : List ℕ) (leaf place : ℕ) (e : Extent) → length ps ≤ leaf → place ≡ slice_index zs (leaf - length ps) →
     (is_left_at bs place ≡ true → HoldsPoint e (point_at ps place)) → HoldsLeft ps bs zs leaf e
-leaf_holds ps bs zs leaf place e p q h = record { holds = λ r w l u.
-    let j : length ps + r ≡ leaf = under_leaf (length ps) leaf (length ps + r) p (omega arith) u in
-    let d : leaf - length ps ≡ r = omega arith in
-    let s : place ≡ slice_index zs r = q ∙ ap (λ (n : ℕ). slice_index zs n) d in
-    subst (λ (z : ℕ). HoldsPoint e (point_at ps z)) s (h (subst (λ (z : ℕ). is_left_at bs z ≡ true) (sym s) l)) }
+leaf_holds ps bs zs leaf place e p q h = record {
+  holds = λ r w l u.
+      let j : length ps + r ≡ leaf = under_leaf (length ps) leaf (length ps + r) p (omega arith) u in
+      let d : leaf - length ps ≡ r = omega arith in
+      let s : place ≡ slice_index zs r = q ∙ ap (λ (n : ℕ). slice_index zs n) d in
+      subst (λ (z : ℕ). HoldsPoint e (point_at ps z)) s (h (subst (λ (z : ℕ). is_left_at bs z ≡ true) (sym s) l));
+}
 
 -- at a node, where the box holds those of its children
 pub both_hold : (ps : List Point) (bs : List Bool) (zs : List ℕ) (node : ℕ) (d e f : Extent) → node < length ps → HoldsLeft ps bs zs (2 * node) d → HoldsLeft ps bs zs (2 * node + 1) e → LiesIn d f → LiesIn e f →

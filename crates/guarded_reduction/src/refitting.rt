@@ -10,12 +10,7 @@ use owned_values::Memory;
 use std::alloc::Global;
 
 /// The box of a leaf, which holds nothing where its place is gone.
-fn leaf_extent(
-    positions: &[Position],
-    present: &[bool],
-    places: &[usize],
-    leaf: usize,
-) -> Extent
+fn leaf_extent(positions: &[Position], present: &[bool], places: &[usize], leaf: usize) -> Extent
     requires leaves { AreLeaves positions.now present.now places.now }
     requires leaf { length positions.now ≤ leaf }
     requires inside { leaf < 2 * length positions.now }
@@ -91,12 +86,7 @@ fn refit(
 }
 
 /// Each node that has a box is refitted, the last first.
-fn refit_all(
-    extents: &mut [Extent],
-    positions: &[Position],
-    present: &[bool],
-    places: &[usize],
-)
+fn refit_all(extents: &mut [Extent], positions: &[Position], present: &[bool], places: &[usize])
     requires leaves { AreLeaves positions.now present.now places.now }
     requires few { length extents.old ≤ length positions.now }
     ensures { AreFitted extents.new positions.now present.now places.now 1 }

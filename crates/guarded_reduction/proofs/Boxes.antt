@@ -5,9 +5,6 @@ use Rattle.geometry.specs.Points.{Point}
 use Rattle.guarded_reduction.specs.declared.extent.Extent.{Extent}
 use Rattle.guarded_reduction.specs.Extents.{HoldsPoint, LiesIn}
 
-pub lies_in_itself : (e : Extent) → LiesIn e e
-lies_in_itself e = record { low_x = omega (arith, ints); low_y = omega (arith, ints); high_x = omega (arith, ints); high_y = omega (arith, ints) }
-
 pub lies_in_trans : (e f g : Extent) → LiesIn e f → LiesIn f g → LiesIn e g
 lies_in_trans e f g h k = record { low_x = omega (arith, ints, h.low_x, k.low_x); low_y = omega (arith, ints, h.low_y, k.low_y); high_x = omega (arith, ints, h.high_x, k.high_x); high_y = omega (arith, ints, h.high_y, k.high_y) }
 

@@ -14,7 +14,7 @@ use std::alloc::Global;
 
 /// The positions of places, which of them are left, the places in the order of the leaves, the rank of each among these, and a tree over them: the
 /// children of the node at i are those at 2 i and 2 i + 1, and the leaves come last. A box holds what is left under a node, for the nodes of all but
-/// the two lowest levels.
+/// the three lowest levels.
 #[derive(Drop)]
 pub struct BoxTree {
     pub positions: Vec<Position>,

@@ -1,7 +1,6 @@
 // Boxes.
 ghost use Rattle.std.specs.Prelude.{◌≡◌, ℤ, ◌≤ℤ◌, true};
 ghost use Rattle.geometry.specs.Points.{Point};
-ghost use Rattle.guarded_reduction.specs.declared.extent.Extent.{Extent as Box};
 ghost use Rattle.guarded_reduction.specs.Extents.{HoldsPoint, LiesIn};
 
 use geometry::Position;
@@ -24,25 +23,6 @@ pub fn empty_extent() -> Extent
         low_y: i64::MAX,
         high_x: i64::MIN,
         high_y: i64::MIN,
-    }
-}
-
-/// A box that holds nothing, and is in another.
-pub fn empty_within(e: Extent) -> Extent
-    ensures nothing { (p : Point) → HoldsPoint result p → ⊥ }
-    ensures within { LiesIn result e }
-{
-    let Extent {
-        low_x,
-        low_y,
-        high_x,
-        high_y,
-    } = e;
-    Extent {
-        low_x: greater(low_x, i64::MAX),
-        low_y: greater(low_y, i64::MAX),
-        high_x: lesser(high_x, i64::MIN),
-        high_y: lesser(high_y, i64::MIN),
     }
 }
 
@@ -71,7 +51,6 @@ pub fn is_point(e: &Extent, p: Position) -> bool
 fn lesser(x: i64, y: i64) -> i64
     ensures first { result ≤ℤ x }
     ensures second { result ≤ℤ y }
-    ensures greatest { (k : ℤ) → k ≤ℤ x → k ≤ℤ y → k ≤ℤ result }
 {
     if x <= y { x } else { y }
 }
@@ -80,7 +59,6 @@ fn lesser(x: i64, y: i64) -> i64
 fn greater(x: i64, y: i64) -> i64
     ensures first { x ≤ℤ result }
     ensures second { y ≤ℤ result }
-    ensures least { (k : ℤ) → x ≤ℤ k → y ≤ℤ k → result ≤ℤ k }
 {
     if x <= y { y } else { x }
 }
@@ -89,7 +67,6 @@ fn greater(x: i64, y: i64) -> i64
 pub fn joined(e: Extent, f: Extent) -> Extent
     ensures first { LiesIn e result }
     ensures second { LiesIn f result }
-    ensures least { (g : Box) → LiesIn e g → LiesIn f g → LiesIn result g }
 {
     Extent {
         low_x: lesser(e.low_x, f.low_x),

@@ -5,7 +5,7 @@ ghost use Rattle.guarded_reduction.specs.Extents.{HoldsPoint};
 ghost use Rattle.guarded_reduction.specs.Lines.{as_segment, line_at};
 ghost use Rattle.guarded_meaning.specs.Segments as spec;
 
-use crate::extent::{Extent, around, joined};
+use crate::extent::{Extent, around, joined, meets};
 use crate::meeting::meets_badly;
 use geometry::Position;
 
@@ -43,9 +43,10 @@ pub fn extent_of(line: &Line) -> Extent
     joined(around(line.from), around(line.to))
 }
 
-/// Two segments meet badly.
+/// Two segments meet badly. Most pairs that are asked of have boxes that lie apart.
 pub fn is_bad_pair(line: &Line, other: &Line) -> bool
     ensures { result ≡ spec.meets_badly (as_segment line.now) (as_segment other.now) }
 {
-    meets_badly(line.from, line.to, other.from, other.to)
+    meets(extent_of(other), extent_of(line))
+        && meets_badly(line.from, line.to, other.from, other.to)
 }

@@ -98,7 +98,7 @@ fn refit_all(extents: &mut [Extent], positions: &[Position], present: &[bool], p
     }
 }
 
-/// The boxes over places that are left. The nodes of the two lowest levels have none.
+/// The boxes over places that are left. The nodes of the three lowest levels have none.
 pub fn boxes_over(
     alloc: Global,
     positions: &[Position],

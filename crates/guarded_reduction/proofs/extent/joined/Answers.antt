@@ -17,11 +17,3 @@ returns-clause-second c = record {
   high_x = omega (arith, ints, c.greater.ensures.second);
   high_y = omega (arith, ints, c.greater-2.ensures.second);
 }
-
-pub returns-clause-least : goal.returns-clause-least
-returns-clause-least c = λ g h k. record {
-  low_x = omega (arith, ints, c.lesser.ensures.greatest g.low_x (omega (arith, ints, h.low_x)) (omega (arith, ints, k.low_x)));
-  low_y = omega (arith, ints, c.lesser-2.ensures.greatest g.low_y (omega (arith, ints, h.low_y)) (omega (arith, ints, k.low_y)));
-  high_x = omega (arith, ints, c.greater.ensures.least g.high_x (omega (arith, ints, h.high_x)) (omega (arith, ints, k.high_x)));
-  high_y = omega (arith, ints, c.greater-2.ensures.least g.high_y (omega (arith, ints, h.high_y)) (omega (arith, ints, k.high_y)));
-}

@@ -28,10 +28,10 @@ use Rattle.json_cursor.specs.Held.{IsHeld}
 use Rattle.json_cursor.specs.Members.{Made, Members}
 use Rattle.geojson_model.specs.declared.occurrence.Occurrence.{Occurrence}
 use Rattle.geojson_model.specs.declared.occurrence.Occurrence.TheVariants.{Never, Once, Again}
-use Rattle.geojson_model.specs.declared.geometries.Coordinates.{Coordinates}
+use Rattle.geojson_model.specs.declared.coordinate_members.Coordinates.{Coordinates}
 use Rattle.geojson_model.specs.declared.geometries.Group.{Group}
 use Rattle.geojson_model.specs.declared.geometries.Parts.{Parts}
-use Rattle.geojson_model.specs.declared.geometries.Read.{Read}
+use Rattle.geojson_model.specs.declared.coordinate_members.Read.{Read}
 use Rattle.geojson_model.specs.declared.geometries.Start.{Start}
 use Rattle.geojson_model.specs.declared.leading.Seen.{Seen}
 

@@ -1,8 +1,7 @@
-// Geometries.
-ghost use Rattle.std.specs.Prelude.{◌≡◌, ◌++◌, ◌<◌, [], ℕ, OnOk, bytes_eq, codes, false, length, option_to_list, true};
-ghost use Rattle.json_value.specs.declared.json.Json.{Json as Value};
+// Geometries by their members.
+ghost use Rattle.std.specs.Prelude.{◌≡◌, ◌++◌, [], ℕ, OnOk, bytes_eq, codes, false, length, option_to_list};
 ghost use Rattle.json_cursor.specs.Members.{GoesOn, GoesThrough, Members as Listed, TakesAll, prefix_members};
-ghost use Rattle.geojson_meaning.specs.Geometries.{coordinates_shape, geometry, shape, shapes, typed_geometry};
+ghost use Rattle.geojson_meaning.specs.Geometries.{geometry, shape, shapes, typed_geometry};
 ghost use Rattle.geojson_meaning.specs.Reader.{kept};
 ghost use Rattle.json_cursor.specs.Answers.{Answers};
 ghost use Rattle.json_cursor.specs.Arrays.{prefix_elements, prefix_value};
@@ -10,18 +9,18 @@ ghost use Rattle.geojson_meaning.specs.Members.{named};
 ghost use Rattle.geojson_meaning.specs.declared.types.GeometryType.TheVariants as types;
 ghost use Rattle.json_cursor.specs.Held.{Finds, FindsValue, IsHeld};
 ghost use Rattle.json_cursor.specs.Names.{name_of};
-ghost use Rattle.geojson_model.specs.Members.{BeginsGeometry, IsCoordinates, IsGroup, IsParts, IsRead, IsOccurrence, IsTaken, IsType, Judges, LeadsGeometry, Sees};
+ghost use Rattle.geojson_model.specs.Members.{IsGroup, IsParts, IsOccurrence, IsType, Judges, Sees};
 ghost use Rattle.geojson_model.specs.Members as spec;
 ghost use Rattle.geojson_model.specs.declared.geometries.Start.{Start as Begun};
 
-use crate::leading::{first_fault, led_at, twice_at};
+use crate::coordinate_members::{Coordinates, coordinates_member, coordinates_of};
+use crate::leading::{led_at, led_geometry_at};
 use crate::occurrence::Occurrence;
-use crate::shapes::coordinates_at;
 use crate::type_names::type_name_at;
-use geojson_meaning::{CoordinatesType, GeoFaultKind, GeoJsonType, GeometryType, geojson_type};
+use geojson_meaning::{GeoFaultKind, GeoJsonType, GeometryType, geojson_type};
 use geojson_types::{Counts, Shape};
 use json_cursor::{Mark, Name, Stop, after_byte, after_others, broken, mark_at, name_at};
-use json_reading::{Fault, Why, after_value, skip};
+use json_reading::{Fault, after_value, skip};
 use json_value::Items;
 use std::alloc::{AllocFailed, Global};
 
@@ -30,21 +29,6 @@ use std::alloc::{AllocFailed, Global};
 pub struct Start {
     pub exact: bool,
     pub counts: Counts,
-}
-
-/// What the member `coordinates` is read as by this type, or its fault, and what was counted then.
-#[derive(Drop)]
-pub struct Read {
-    kind: CoordinatesType,
-    shape: Result<Option<Shape>, GeoFaultKind>,
-    counts: Counts,
-}
-
-/// Where the value of the member `coordinates` begins, and what it was read as, if its type was known then.
-#[derive(Drop)]
-pub struct Coordinates<'a> {
-    prefix: &'a [u8],
-    read: Option<Read>,
 }
 
 /// What the value of `geometries` is read as, or its fault, and what was counted then. It is read whatever the type is: where the type comes
@@ -78,92 +62,6 @@ pub(crate) fn type_at<'a>(
     match geojson_type(name.as_str()) {
         None => Ok((Err(GeoFaultKind::UnknownType), rest)),
         Some(kind) => Ok((Ok(kind), rest)),
-    }
-}
-
-/// The value of `coordinates` at the front, which is passed over, and what follows it.
-fn passed_at<'a>(
-    alloc: Global,
-    depth_left: u32,
-    start: Start,
-    bytes: &'a [u8],
-) -> Result<(Coordinates<'a>, &'a [u8]), Fault>
-    ensures { FindsValue (IsCoordinates start depth_left) depth_left bytes.now result }
-{
-    let rest = after_value(alloc, depth_left, bytes)?;
-    Ok((
-        Coordinates {
-            prefix: bytes,
-            read: None,
-        },
-        rest,
-    ))
-}
-
-/// The value of `coordinates` at the front, which is read by this type, and what follows it.
-fn read_at<'a>(
-    alloc: Global,
-    depth_left: u32,
-    start: Start,
-    kind: CoordinatesType,
-    bytes: &'a [u8],
-) -> Result<(Coordinates<'a>, &'a [u8]), Fault>
-    ensures { FindsValue (IsCoordinates start depth_left) depth_left bytes.now result }
-{
-    let mut counts = start.counts;
-    match coordinates_at(alloc, depth_left, bytes, start.exact, kind, &mut counts) {
-        Ok((shape, rest)) => {
-            let read = Read {
-                kind,
-                shape: Ok(shape),
-                counts,
-            };
-            Ok((
-                Coordinates {
-                    prefix: bytes,
-                    read: Some(read),
-                },
-                rest,
-            ))
-        }
-        Err(Stop::Fault(fault)) => {
-            let rest = after_value(alloc, depth_left, bytes)?;
-            let read = Read {
-                kind,
-                shape: Err(fault),
-                counts,
-            };
-            Ok((
-                Coordinates {
-                    prefix: bytes,
-                    read: Some(read),
-                },
-                rest,
-            ))
-        }
-        Err(Stop::NoValue) => Err(Fault::Malformed {
-            why: Why::Syntax,
-            left: bytes.len(),
-        }),
-        Err(Stop::Memory) => Err(Fault::Memory),
-    }
-}
-
-/// The value of `coordinates` at the front, which is read where its type is known by now, and what follows it.
-fn coordinates_member<'a>(
-    alloc: Global,
-    depth_left: u32,
-    start: Start,
-    kind: &Occurrence<Result<GeoJsonType, GeoFaultKind>>,
-    bytes: &'a [u8],
-) -> Result<(Coordinates<'a>, &'a [u8]), Fault>
-    ensures { FindsValue (IsCoordinates start depth_left) depth_left bytes.now result }
-{
-    match kind {
-        Occurrence::Once(Ok(GeoJsonType::Geometry(GeometryType::Coordinates(kind)))) => read_at(
-            alloc, depth_left, start, *kind, bytes,
-        ),
-        _ => passed_at(alloc, depth_left, start, bytes),
     }
 }
 
@@ -202,92 +100,6 @@ impl<'a> Parts<'a> {
             return Ok(rest);
         }
         after_value(alloc, depth_left, value)
-    }
-}
-
-/// Whether the types are one.
-fn is_same(one: CoordinatesType, other: CoordinatesType) -> bool
-    ensures { result ≡ true → one ≡ other }
-{
-    match one {
-        CoordinatesType::Point => matches!(other, CoordinatesType::Point),
-        CoordinatesType::MultiPoint => matches!(other, CoordinatesType::MultiPoint),
-        CoordinatesType::LineString => matches!(other, CoordinatesType::LineString),
-        CoordinatesType::MultiLineString => matches!(other, CoordinatesType::MultiLineString),
-        CoordinatesType::Polygon => matches!(other, CoordinatesType::Polygon),
-        CoordinatesType::MultiPolygon => matches!(other, CoordinatesType::MultiPolygon),
-    }
-}
-
-/// What was read of the value by this very type, and what was counted then.
-fn taken(
-    read: Option<Read>,
-    kind: CoordinatesType,
-) -> Option<(Result<Option<Shape>, GeoFaultKind>, Counts)>
-    ensures { (start : Begun) (v : Value) → IsRead start v read → IsTaken start kind v result }
-{
-    let Some(
-        Read {
-            kind: by,
-            shape,
-            counts,
-        },
-    ) = read
-    else {
-        return None;
-    };
-    if !is_same(by, kind) {
-        return None;
-    }
-    Some((shape, counts))
-}
-
-/// What the value of `coordinates` is by this type, which is read where its member came before its type.
-fn shape_by(
-    alloc: Global,
-    depth_left: u32,
-    kind: CoordinatesType,
-    found: Coordinates<'_>,
-    start: Start,
-    counts: &mut Counts,
-) -> Result<Option<Shape>, Stop<GeoFaultKind>>
-    ensures { (v : Value) → IsCoordinates start depth_left v found.entry → Judges (coordinates_shape start.exact kind v) start.counts counts.new result }
-{
-    let Coordinates { prefix, read } = found;
-    match taken(read, kind) {
-        Some((shape, counted)) => {
-            *counts = counted;
-            match shape {
-                Ok(shape) => Ok(shape),
-                Err(fault) => Err(Stop::Fault(fault)),
-            }
-        }
-        None => {
-            *counts = start.counts;
-            match coordinates_at(alloc, depth_left, prefix, start.exact, kind, counts) {
-                Err(stop) => Err(stop),
-                Ok((shape, _)) => Ok(shape),
-            }
-        }
-    }
-}
-
-/// What the member `coordinates` is by this type.
-fn coordinates_of(
-    alloc: Global,
-    depth_left: u32,
-    kind: CoordinatesType,
-    coordinates: Occurrence<Coordinates<'_>>,
-    start: Start,
-    counts: &mut Counts,
-) -> Result<Option<Shape>, Stop<GeoFaultKind>>
-    ensures { (ms : Listed) → IsOccurrence (IsCoordinates start depth_left) (named (codes "coordinates") ms) coordinates.entry
-        → Judges (typed_geometry start.exact (types.Coordinates kind) ms) start.counts counts.new result }
-{
-    match coordinates {
-        Occurrence::Never => Err(Stop::Fault(GeoFaultKind::Missing)),
-        Occurrence::Again => Err(Stop::Fault(GeoFaultKind::Duplicate)),
-        Occurrence::Once(found) => shape_by(alloc, depth_left, kind, found, start, counts),
     }
 }
 
@@ -365,56 +177,6 @@ pub(crate) fn shape_of(
                 coordinates_of(alloc, depth_left, kind, coordinates, start, counts)
             }
         },
-    }
-}
-
-/// The geometry at the front, whose type and coordinates stand first: they are read once, and members after them are passed over.
-fn led_geometry_at<'a>(
-    alloc: Global,
-    depth_left: u32,
-    kind: CoordinatesType,
-    prefix: &'a [u8],
-    bytes: &'a [u8],
-    exact: bool,
-    counts: &mut Counts,
-) -> Result<(Option<Shape>, &'a [u8]), Stop<GeoFaultKind>>
-    requires depth_left { 0 < depth_left }
-    requires begins { BeginsGeometry kind depth_left bytes.now prefix.now }
-    requires leads { LeadsGeometry kind depth_left bytes.now prefix.now }
-    ensures { Answers (λ x. x) (shape exact) (prefix_value depth_left bytes.now) counts.old counts.new result }
-{
-    match coordinates_at(alloc, depth_left - 1, prefix, exact, kind, counts) {
-        Err(Stop::Memory) => Err(Stop::Memory),
-        Err(Stop::NoValue) => Err(Stop::NoValue),
-        Err(Stop::Fault(fault)) => {
-            let found = twice_at(alloc, depth_left, bytes)?;
-            match found {
-                None => Err(Stop::Fault(GeoFaultKind::WrongKind)),
-                Some((twice, _)) => Err(Stop::Fault(first_fault(twice, fault))),
-            }
-        }
-        Ok((shape, after)) => {
-            if let Some(rest) = after_byte(b'}', skip(after)) {
-                return Ok((shape, rest));
-            }
-            match twice_at(alloc, depth_left, bytes) {
-                Err(fault) => {
-                    drop(shape);
-                    Err(Stop::from(fault))
-                }
-                Ok(None) => {
-                    drop(shape);
-                    Err(Stop::Fault(GeoFaultKind::WrongKind))
-                }
-                Ok(Some((twice, rest))) => {
-                    if twice {
-                        drop(shape);
-                        return Err(Stop::Fault(GeoFaultKind::Duplicate));
-                    }
-                    Ok((shape, rest))
-                }
-            }
-        }
     }
 }
 

@@ -1,16 +1,20 @@
-// Geometries whose type and the member that they are made of stand first, as most programs write them.
+// Geometries whose type and coordinates stand first, as most programs write them.
 ghost use Rattle.std.specs.Prelude.{◌≡◌, ◌<◌, IfErr, IfOk, IfSome, Some};
 ghost use Rattle.json_reading.specs.Gives.{Fails};
+ghost use Rattle.json_cursor.specs.Answers.{Answers};
 ghost use Rattle.json_cursor.specs.Arrays.{prefix_value};
+ghost use Rattle.geojson_meaning.specs.Geometries.{shape};
 ghost use Rattle.geojson_meaning.specs.Types.{geometry_type};
 ghost use Rattle.geojson_meaning.specs.declared.types.GeometryType.TheVariants as kinds;
 ghost use Rattle.geojson_model.specs.Members.{BeginsGeometry, IsSeen, LeadsGeometry, Repeats};
 ghost use Rattle.geojson_model.specs.Members as spec;
 
 use crate::occurrence::Occurrence;
+use crate::shapes::coordinates_at;
 use crate::type_names::type_name_at;
 use geojson_meaning::{CoordinatesType, GeoFaultKind, GeometryType, geometry_type};
-use json_cursor::{Members, after_byte, name_at, named_at, object_into};
+use geojson_types::{Counts, Shape};
+use json_cursor::{Members, Stop, after_byte, name_at, named_at, object_into};
 use json_reading::{Fault, after_value, skip};
 use std::alloc::Global;
 
@@ -109,7 +113,7 @@ pub(crate) fn led_at<'a>(
 
 /// Whether in the object at the front the type stands twice, or `coordinates`, and what follows it; none of what is no object. Its members are
 /// passed over.
-pub(crate) fn twice_at<'a>(
+fn twice_at<'a>(
     alloc: Global,
     depth_left: u32,
     bytes: &'a [u8],
@@ -128,12 +132,62 @@ pub(crate) fn twice_at<'a>(
 }
 
 /// The first fault of a geometry whose member has this one: a name that stands twice comes before it.
-pub(crate) fn first_fault(twice: bool, fault: GeoFaultKind) -> GeoFaultKind
+fn first_fault(twice: bool, fault: GeoFaultKind) -> GeoFaultKind
     ensures { result ≡ spec.first_fault twice fault }
 {
     if twice {
         GeoFaultKind::Duplicate
     } else {
         fault
+    }
+}
+
+/// The geometry at the front, whose type and coordinates stand first: they are read once, and members after them are passed over.
+pub(crate) fn led_geometry_at<'a>(
+    alloc: Global,
+    depth_left: u32,
+    kind: CoordinatesType,
+    prefix: &'a [u8],
+    bytes: &'a [u8],
+    exact: bool,
+    counts: &mut Counts,
+) -> Result<(Option<Shape>, &'a [u8]), Stop<GeoFaultKind>>
+    requires depth_left { 0 < depth_left }
+    requires begins { BeginsGeometry kind depth_left bytes.now prefix.now }
+    requires leads { LeadsGeometry kind depth_left bytes.now prefix.now }
+    ensures { Answers (λ x. x) (shape exact) (prefix_value depth_left bytes.now) counts.old counts.new result }
+{
+    match coordinates_at(alloc, depth_left - 1, prefix, exact, kind, counts) {
+        Err(Stop::Memory) => Err(Stop::Memory),
+        Err(Stop::NoValue) => Err(Stop::NoValue),
+        Err(Stop::Fault(fault)) => {
+            let found = twice_at(alloc, depth_left, bytes)?;
+            match found {
+                None => Err(Stop::Fault(GeoFaultKind::WrongKind)),
+                Some((twice, _)) => Err(Stop::Fault(first_fault(twice, fault))),
+            }
+        }
+        Ok((shape, after)) => {
+            if let Some(rest) = after_byte(b'}', skip(after)) {
+                return Ok((shape, rest));
+            }
+            match twice_at(alloc, depth_left, bytes) {
+                Err(fault) => {
+                    drop(shape);
+                    Err(Stop::from(fault))
+                }
+                Ok(None) => {
+                    drop(shape);
+                    Err(Stop::Fault(GeoFaultKind::WrongKind))
+                }
+                Ok(Some((twice, rest))) => {
+                    if twice {
+                        drop(shape);
+                        return Err(Stop::Fault(GeoFaultKind::Duplicate));
+                    }
+                    Ok((shape, rest))
+                }
+            }
+        }
     }
 }

@@ -1,7 +1,7 @@
 use Rattle.json_cursor.specs.Arrays.{prefix_value}
 use Rattle.geojson_model.proofs.UsualGeometries.{is_usual, led_faulty, led_nothing, led_read, led_twice, one_byte}
 use Rattle.geojson_model.proofs.GeometryParts as part
-use Rattle.geojson_model.proofs.geometries.led_geometry_at.Goals as goal
+use Rattle.geojson_model.proofs.leading.led_geometry_at.Goals as goal
 
 pub returns-in-Err-NoValue : goal.returns-in-Err-NoValue
 returns-in-Err-NoValue c = led_nothing c.args.exact c.args.kind c.args.depth_left c.args.bytes.now c.args.prefix.now c.args.counts.now c.requires.leads (rw c.in-Err-NoValue.field-0-is at c.in-Err-NoValue.ensures)

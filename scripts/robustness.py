@@ -429,6 +429,10 @@ def arc_lines(n, first=""):
     return first + ",".join('{"type":"LineString","arcs":[0]}' for _ in range(n))
 
 
+def layer_lines(n):
+    return ",".join(geometry("LineString", segment(i)) for i in range(n))
+
+
 def nested_topology(collection):
     return topology(f'"a":{collection}', segment(0))
 
@@ -444,6 +448,10 @@ NESTED = (
     ("lines of a topology, types last", 120, lambda d, n: nested_topology(nested(d, arc_lines(n), *TYPE_LAST)), STAT, 0),
     ("lines of a topology, a member last", 120, lambda d, n: nested_topology(nested(d, arc_lines(n), *MEMBER_LAST)), STAT, 0),
     ("lines of a topology, a faulty one first", 120, lambda d, n: nested_topology(nested(d, arc_lines(n, NO_ARC))), STAT, 1),
+    ("lines of a layer", 60, lambda d, n: nested(d, layer_lines(n)), BUILD, 0),
+    ("lines of a layer, types last", 60, lambda d, n: nested(d, layer_lines(n), *TYPE_LAST), BUILD, 0),
+    ("lines of a layer, a member last", 60, lambda d, n: nested(d, layer_lines(n), *MEMBER_LAST), BUILD, 0),
+    ("lines of a layer, a faulty one first", 60, lambda d, n: nested(d, geometry("LineString", "[[0]]") + "," + layer_lines(n)), BUILD, 1),
 )
 # By how much the time of a byte may grow from one collection to the deepest ones, and how many lines or points are in them.
 GREATEST_DEPTH_GROWTH, FEW_NESTED, MANY_NESTED = 3, 10**4, 10**5
@@ -614,7 +622,7 @@ PARTS = (
     (try_outputs, 31, 31),
     (try_inputs, 14, 14),
     (try_sizes, 312, 104),
-    (try_nested, 54, 54),
+    (try_nested, 90, 90),
     (try_chosen, 41, 34),
 )
 

@@ -1,8 +1,7 @@
 -- A geometry by its members.
-use Rattle.std.proofs.Common.{◌≡◌, ℕ, Bool, true, false, List, [], ◌∷◌, ◌++◌, Option, Some, None, Result, Ok, Err, refl, ap, sym, ◌∙◌}
-use Rattle.std.specs.Prelude.{bytes_eq, codes, option_to_list}
+use Rattle.std.proofs.Common.{◌≡◌, ℕ, Bool, true, false, List, [], ◌∷◌, Option, Some, None, Result, Ok, Err, refl, ap, sym, ◌∙◌}
+use Rattle.std.specs.Prelude.{bytes_eq, codes}
 use Rattle.std.proofs.lemmas.Slice.Eq.{bytes_eq-Decides}
-use Rattle.json_cursor.specs.Folds.{some_one, with_read}
 use Rattle.json_value.specs.declared.json.Json.{Json}
 use Rattle.json_value.specs.Kinds.{array_of, object_of, text_of}
 use Rattle.json_value.specs.declared.json.Json.TheVariants as j
@@ -26,10 +25,15 @@ use Rattle.geojson_types.specs.Features.{Shape}
 use Rattle.geojson_meaning.specs.Types.{coordinates_type, geojson_type, geometry_type}
 use Rattle.json_cursor.specs.Answers.{Reads, Stops}
 use Rattle.json_cursor.specs.Members.{Members}
-use Rattle.json_cursor.proofs.Steps.{found_stops, made, made_reads, made_stops}
+use Rattle.json_cursor.specs.Arrays.{prefix_value}
+use Rattle.json_cursor.specs.Held.{Finds, FindsValue, IsHeld}
+use Rattle.json_cursor.proofs.Steps.{found_stops, made}
+use Rattle.json_reading.specs.declared.fault.Fault.{Fault}
+use Rattle.json_reading.specs.declared.fault.Fault.TheVariants as fault
+use Rattle.std.specs.Borrow.{Bor}
 use Rattle.json_cursor.specs.declared.stop.Stop.{Stop}
 use Rattle.json_cursor.specs.declared.stop.Stop.TheVariants as stop
-use Rattle.geojson_model.specs.Members.{IsOccurrence, IsType, Judges, geometry_kind, kind_of, part as the_part, type_in}
+use Rattle.geojson_model.specs.Members.{IsOccurrence, IsType, Judges, geometry_kind, kind_of, type_in}
 use Rattle.geojson_model.specs.declared.occurrence.Occurrence.{Occurrence}
 use Rattle.geojson_model.specs.declared.occurrence.Occurrence.TheVariants.{Never, Once, Again}
 
@@ -126,25 +130,20 @@ module _ (exact : Bool) (ms : Members) (c : Counts) where
     unfolding typed_geometry need
     ungrouped e h = rw (one, h) refl
 
-    pub judged_group : (new : Counts) (why : Stop GeoFaultKind) → Judges (shapes exact v) c new (Err why) → Judges (typed_geometry exact Collection ms) c new (Err why)
-    judged_group new (stop.Fault e) h = ungrouped e h
-    judged_group new stop.NoValue h = absurd h
-    judged_group new stop.Memory h = tt
-
 -- ---- what stands at the front
+
+pub object_shape : (exact : Bool) (ms : Members) (old : Counts) → shape exact (j.Object ms) old ≡ geometry exact ms old
+object_shape exact ms old = ap (λ (r : Reader (Option Shape)). r old) (shape_object exact (j.Object ms) ms (object_of-object ms))
 
 -- what is judged of the object that stands there is answered of it
 module _ (exact : Bool) (prefix : Option (Json × List ℕ)) (ms : Members) (rest : List ℕ) (old : Counts) (is : prefix ≡ Some (j.Object ms, rest)) where
-  object_shape : shape exact (j.Object ms) old ≡ geometry exact ms old
-  object_shape = ap (λ (r : Reader (Option Shape)). r old) (shape_object exact (j.Object ms) ms (object_of-object ms))
-
   pub object_stops : (new : Counts) (why : Stop GeoFaultKind) → Judges (geometry exact ms) old new (Err why) → Stops (shape exact) prefix old why
-  object_stops new (stop.Fault e) h = found_stops (shape exact) prefix old (j.Object ms) rest e is (object_shape ∙ h)
+  object_stops new (stop.Fault e) h = found_stops (shape exact) prefix old (j.Object ms) rest e is (object_shape exact ms old ∙ h)
   object_stops new stop.NoValue h = absurd h
   object_stops new stop.Memory h = tt
 
   pub object_reads : (x : Option Shape) (new : Counts) → geometry exact ms old ≡ Ok (x, new) → Reads (shape exact) prefix x rest old new
-  object_reads x new h = record { value = j.Object ms; prefix_is = is; means = object_shape ∙ h }
+  object_reads x new h = record { value = j.Object ms; prefix_is = is; means = object_shape exact ms old ∙ h }
 
 pub no_object : (exact : Bool) (v : Json) (old : Counts) → object_of v ≡ None → shape exact v old ≡ Err WrongKind
 no_object exact v old h = ap (λ (r : Reader (Option Shape)). r old) (shape_other exact v h)
@@ -159,26 +158,10 @@ pub no_elements : (exact : Bool) (prefix : Option (Json × List ℕ)) (rest : Li
 unfolding gather
 no_elements exact prefix rest old is = record { value = j.Array []; prefix_is = is; means = array_shapes exact [] old }
 
-module _ (exact : Bool) (prefix : Option (Json × List ℕ)) (found : Option (List Json × List ℕ)) (old : Counts) (is : prefix ≡ made j.Array found) where
-  pub elements_stop : (why : Stop GeoFaultKind) → Stops (kept (shape exact)) found old why → Stops (shapes exact) prefix old why
-  elements_stop why h = made_stops j.Array (shapes exact) (kept (shape exact)) prefix found is old old (λ vs rest e. array_shapes exact vs old) why h
-
-  pub elements_read : (ss : List Shape) (rest : List ℕ) (new : Counts) → Reads (kept (shape exact)) found ss rest old new → Reads (shapes exact) prefix ss rest old new
-  elements_read ss rest new r = made_reads j.Array (shapes exact) (kept (shape exact)) prefix found is old old (λ vs end e. array_shapes exact vs old) ss rest new r
-
-pub group_stops : (exact : Bool) (prefix : Option (Json × List ℕ)) (old : Counts) (why : Stop GeoFaultKind) → Stops (shapes exact) prefix old why → Stops (the_part exact Collection) prefix old why
-group_stops exact prefix old (stop.Fault e) h = λ v rest found. rw (h v rest found) refl
-group_stops exact prefix old stop.NoValue h = h
-group_stops exact prefix old stop.Memory h = tt
-
--- ---- one geometry more
-
-pub taken_stops : (exact : Bool) (now : List Shape) (prefix : Option (Json × List ℕ)) (old : Counts) (why : Stop GeoFaultKind) → Stops (shape exact) prefix old why
-    → Stops (with_read (some_one (shape exact)) now) prefix old why
-taken_stops exact now prefix old (stop.Fault e) h = λ v rest found. rw (h v rest found) refl
-taken_stops exact now prefix old stop.NoValue h = h
-taken_stops exact now prefix old stop.Memory h = tt
-
-pub taken_reads : (exact : Bool) (now : List Shape) (prefix : Option (Json × List ℕ)) (x : Option Shape) (rest : List ℕ) (old new : Counts) → Reads (shape exact) prefix x rest old new
-    → Reads (with_read (some_one (shape exact)) now) prefix (now ++ option_to_list x) rest old new
-taken_reads exact now prefix x rest old new r = record { value = r.value; prefix_is = r.prefix_is; means = rw r.means refl }
+-- what is held of the elements is held of their array
+module _ (exact : Bool) (found : Option (List Json × List ℕ)) (old new : Counts) (d : ℕ) (bytes : List ℕ) (is : prefix_value d bytes ≡ made j.Array found) where
+  pub array_held : (answer : Result (Result (List Shape) GeoFaultKind × Bor (List ℕ)) Fault) → Finds (IsHeld (kept (shape exact)) old new) found answer → FindsValue (IsHeld (shapes exact) old new) d bytes answer
+  array_held (Ok (Ok ss, rest)) h = (j.Array h.0, is ∙ ap (made j.Array) h.1, array_shapes exact h.0 old ∙ h.2)
+  array_held (Ok (Err e, rest)) h = (j.Array h.0, is ∙ ap (made j.Array) h.1, array_shapes exact h.0 old ∙ h.2)
+  array_held (Err (fault.Malformed why left)) h = is ∙ ap (made j.Array) h
+  array_held (Err fault.Memory) h = tt

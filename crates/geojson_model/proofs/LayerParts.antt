@@ -31,7 +31,7 @@ use Rattle.json_cursor.specs.declared.stop.Stop.{Stop}
 use Rattle.json_cursor.specs.declared.stop.Stop.TheVariants as stop
 use Rattle.geojson_model.specs.Features.{IsFields, is_field}
 use Rattle.geojson_model.specs.Layers.{IsCollected, IsLayerParts, Types, array_features, members_features, numbered, stop_in, type_of}
-use Rattle.geojson_model.specs.Members.{IsCoordinates, BeginsAt, IsParts, IsOccurrence, IsType, Judges, Sees, type_in}
+use Rattle.geojson_model.specs.Members.{IsCoordinates, IsParts, IsOccurrence, IsType, Judges, Sees, type_in, IsGroup}
 use Rattle.geojson_model.specs.declared.features.Fields.{Fields}
 use Rattle.geojson_model.specs.declared.geometries.Parts.{Parts}
 use Rattle.geojson_model.specs.declared.geometries.Start.{Start}
@@ -213,7 +213,7 @@ pub bare_passes : (start : Start) (d : ℕ) (ms : Members) (name : List ℕ) (v 
 bare_passes start d ms name v parts no_type no_coordinates no_geometries h = record {
   kind = passes IsType (codes "type") ms name v parts.kind h.kind no_type;
   coordinates = passes (IsCoordinates start d) (codes "coordinates") ms name v parts.coordinates h.coordinates no_coordinates;
-  geometries = passes (BeginsAt d) (codes "geometries") ms name v parts.geometries h.geometries no_geometries;
+  geometries = passes (IsGroup start) (codes "geometries") ms name v parts.geometries h.geometries no_geometries;
 }
 
 module _ (start : Start) (d : ℕ) (name value : List ℕ) (occurrence : Occurrence Collected) where

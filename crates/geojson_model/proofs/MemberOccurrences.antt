@@ -13,6 +13,7 @@ use Rattle.json_cursor.specs.declared.stop.Stop.TheVariants as stop
 use Rattle.json_cursor.specs.Arrays.{prefix_value}
 use Rattle.json_reading.specs.declared.fault.Fault.{Fault}
 use Rattle.json_reading.proofs.Passed.{first_fails}
+use Rattle.json_reading.specs.Passes.{Passes}
 use Rattle.json_cursor.specs.Members.{GoesOn, Made, Members, prefix_member}
 use Rattle.geojson_model.specs.declared.occurrence.Occurrence.{Occurrence}
 use Rattle.geojson_model.specs.declared.occurrence.Occurrence.TheVariants.{Never, Once, Again}
@@ -71,6 +72,12 @@ pub member_sees : {S : Type 0} (Holds : Made S) (d : ℕ) (bytes name value : Li
     → Sees Holds d name value before after result → GoesOn Holds d before after bytes result
 member_sees Holds d bytes name value before after named (Ok rest) s = record { member = (name, s.0); prefix = member_found d bytes name value rest.now s.0 named s.1; holds = s.2 }
 member_sees Holds d bytes name value before after named (Err fault) h = rw named (first_fails (prefix_value d value) _ fault h)
+
+-- a value that is passed over
+pub passed_over : {S : Type 0} (Holds : Made S) (d : ℕ) (name value : List ℕ) (before after : S) → ((v : Json) (ms : Members) → Holds ms before → Holds (ms ++ (name, v) ∷ []) after) → (answer : Result (Bor (List ℕ)) Fault) → Passes answer (prefix_value d value)
+    → Sees Holds d name value before after answer
+passed_over Holds d name value before after law (Ok rest) h = (h.0, h.1, λ ms k. law h.0 ms k)
+passed_over Holds d name value before after law (Err fault) h = h
 
 -- what is answered of the value that is known to stand at a front
 pub judged : {C E B : Type 0} (read : Json → Counting C E B) (prefix : Option (Json × List ℕ)) (v : Json) (rest : List ℕ) (old new : C) → prefix ≡ Some (v, rest)

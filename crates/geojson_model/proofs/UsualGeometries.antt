@@ -1,4 +1,4 @@
--- A collection as most programs write it.
+-- A geometry of coordinates as most programs write it.
 use Rattle.std.proofs.Common.{◌≡◌, ◌≢◌, ℕ, suc, ◌-◌, ◌<◌, Bool, eqb, if◌then◌else◌, List, [], ◌∷◌, length, Option, Some, None, Result, Ok, Err, true, false, refl, sym, ap, subst, ◌∙◌, arith}
 use Rattle.std.specs.Prelude.{bytes_eq, codes, ◌||◌}
 use Rattle.std.proofs.lemmas.Slice.Eq.{bytes_eq-Decides}
@@ -17,9 +17,9 @@ use Rattle.json_reading.proofs.StringLoop.{with_prefix}
 use Rattle.json_value.proofs.KindsOf.{object_of-object, text_of-text}
 use Rattle.geojson_types.specs.declared.counts.Counts.{Counts}
 use Rattle.geojson_types.specs.Features.{Shape}
-use Rattle.geojson_meaning.specs.declared.types.GeometryType.{GeometryType}
-use Rattle.geojson_meaning.specs.declared.types.GeometryType.TheVariants.{Collection, Coordinates}
-use Rattle.geojson_meaning.specs.Geometries.{geometry, shape, typed_geometry}
+use Rattle.geojson_meaning.specs.declared.types.CoordinatesType.{CoordinatesType}
+use Rattle.geojson_meaning.specs.declared.types.GeometryType.TheVariants.{Coordinates}
+use Rattle.geojson_meaning.specs.Geometries.{coordinates_shape, geometry, shape, typed_geometry}
 use Rattle.geojson_meaning.specs.Members.{named, need, type_name}
 use Rattle.geojson_meaning.specs.Types.{geometry_type}
 use Rattle.geojson_meaning.specs.declared.fault.GeoFaultKind.{GeoFaultKind}
@@ -30,11 +30,10 @@ use Rattle.json_cursor.specs.Arrays.{prefix_value}
 use Rattle.json_cursor.specs.Members.{Members, prefix_member}
 use Rattle.json_cursor.proofs.Openings.{members_fail, some_members}
 use Rattle.json_cursor.proofs.Steps.{bound, made, unmade}
-use Rattle.geojson_model.specs.declared.geometries.Parts.{Parts}
-use Rattle.geojson_model.specs.declared.geometries.Start.{Start}
+use Rattle.geojson_model.specs.declared.leading.Seen.{Seen}
 use Rattle.geojson_model.specs.declared.occurrence.Occurrence.{Occurrence}
 use Rattle.geojson_model.specs.declared.occurrence.Occurrence.TheVariants.{Never, Once, Again}
-use Rattle.geojson_model.specs.Members.{IsCoordinates, BeginsAt, IsLed, IsParts, IsOccurrence, IsType, LeadsGeometry, RepeatsIn, first_fault, is_again, part, part_name, twice}
+use Rattle.geojson_model.specs.Members.{IsLed, IsOccurrence, IsSeen, LeadsGeometry, RepeatsIn, first_fault, is_again, twice}
 use Rattle.geojson_model.proofs.GeometryParts.{object_reads, object_stops}
 use Rattle.geojson_model.proofs.MemberOccurrences.{judged_read}
 
@@ -65,18 +64,17 @@ is_word name word h = (bytes_eq-Decides name word).0 (sym h)
 
 -- ---- what it is read as
 
-module _ (exact : Bool) (v : Json) (name : List ℕ) (old : Counts) where
-  abbrev pub members : GeometryType → Members
-  members kind = (codes "type", j.Text name) ∷ (part_name kind, v) ∷ []
+module _ (exact : Bool) (v : Json) (name : List ℕ) (old : Counts) (kind : CoordinatesType) (typed : geometry_type name ≡ Some (Coordinates kind)) where
+  abbrev members : Members
+  members = (codes "type", j.Text name) ∷ (codes "coordinates", v) ∷ []
 
-  typed : (kind : GeometryType) → geometry_type name ≡ Some kind → geometry exact (members kind) old ≡ part exact kind v old
+  means_alone : geometry exact members old ≡ coordinates_shape exact kind v old
   unfolding geometry type_name named typed_geometry need
-  typed Collection is = rw (text_of-text name, is) refl
-  typed (Coordinates kind) is = rw (text_of-text name, is) refl
+  means_alone = rw (text_of-text name, typed) refl
 
-  pub is_usual : (kind : GeometryType) → geometry_type name ≡ Some kind → (s : Option Shape) (new : Counts) → part exact kind v old ≡ Ok (s, new) → (prefix : Option (Json × List ℕ)) (end : List ℕ)
-      → prefix ≡ Some (j.Object (members kind), end) → Reads (shape exact) prefix s end old new
-  is_usual kind is s new h prefix end stands = object_reads exact prefix (members kind) end old stands s new (typed kind is ∙ h)
+  pub is_usual : (s : Option Shape) (new : Counts) → coordinates_shape exact kind v old ≡ Ok (s, new) → (prefix : Option (Json × List ℕ)) (end : List ℕ)
+      → prefix ≡ Some (j.Object members, end) → Reads (shape exact) prefix s end old new
+  is_usual s new h prefix end stands = object_reads exact prefix members end old stands s new (means_alone ∙ h)
 
 -- ---- two members first, and whatever follows them
 
@@ -143,32 +141,26 @@ following Is v us Never h = absurd cc
 following Is v us (Once y) (w, same, k) = cc
 following Is v us Again (w, u, ws, same) = (u, (ws, cc))
 
-module _ (exact : Bool) (v : Json) (name : List ℕ) (more : Members) (old : Counts) where
-  abbrev led : GeometryType → Members
-  led kind = (codes "type", j.Text name) ∷ (part_name kind, v) ∷ more
+module _ (exact : Bool) (v : Json) (name : List ℕ) (more : Members) (old : Counts) (kind : CoordinatesType) (typed : geometry_type name ≡ Some (Coordinates kind)) where
+  abbrev led : Members
+  led = (codes "type", j.Text name) ∷ (codes "coordinates", v) ∷ more
 
-  abbrev MeansBy : GeometryType → Bool → Type 0
-  MeansBy kind is = geometry exact (led kind) old ≡ (if is then Err Duplicate else part exact kind v old)
+  abbrev MeansBy : Bool → Type 0
+  MeansBy is = geometry exact led old ≡ (if is then Err Duplicate else coordinates_shape exact kind v old)
 
-  by_repeats : (kind : GeometryType) → geometry_type name ≡ Some kind → (again doubled : Bool) → Following (named (codes "type") more) again → Following (named (part_name kind) more) doubled → MeansBy kind (again || doubled)
+  by_repeats : (again doubled : Bool) → Following (named (codes "type") more) again → Following (named (codes "coordinates") more) doubled → MeansBy (again || doubled)
   unfolding geometry type_name named typed_geometry need
-  by_repeats Collection is true doubled t u = rw t.1.1 refl
-  by_repeats (Coordinates k) is true doubled t u = rw t.1.1 refl
-  by_repeats Collection is false true t u = rw (t, text_of-text name, is, u.1.1) refl
-  by_repeats (Coordinates k) is false true t u = rw (t, text_of-text name, is, u.1.1) refl
-  by_repeats Collection is false false t u = rw (t, text_of-text name, is, u) refl
-  by_repeats (Coordinates k) is false false t u = rw (t, text_of-text name, is, u) refl
+  by_repeats true doubled t u = rw t.1.1 refl
+  by_repeats false true t u = rw (t, text_of-text name, typed, u.1.1) refl
+  by_repeats false false t u = rw (t, text_of-text name, typed, u) refl
 
-  means_by : (kind : GeometryType) → geometry_type name ≡ Some kind → (start : Start) (d : ℕ) (parts : Parts) → IsParts start d (led kind) parts → MeansBy kind (twice kind parts)
+  means_by : (seen : Seen) → IsSeen led seen → MeansBy (twice seen)
   unfolding named
-  means_by Collection is start d parts h =
-      by_repeats Collection is (is_again parts.kind) (is_again parts.geometries) (following IsType (j.Text name) (named (codes "type") more) parts.kind h.kind)
-      (following (BeginsAt d) v (named (codes "geometries") more) parts.geometries h.geometries)
-  means_by (Coordinates k) is start d parts h =
-      by_repeats (Coordinates k) is (is_again parts.kind) (is_again parts.coordinates) (following IsType (j.Text name) (named (codes "type") more) parts.kind h.kind)
-      (following (IsCoordinates start d) v (named (codes "coordinates") more) parts.coordinates h.coordinates)
+  means_by seen h =
+      by_repeats (is_again seen.kind) (is_again seen.coordinates) (following (λ w x. Unit {0}) (j.Text name) (named (codes "type") more) seen.kind h.kind)
+      (following (λ w x. Unit {0}) v (named (codes "coordinates") more) seen.coordinates h.coordinates)
 
-module _ (exact : Bool) (kind : GeometryType) (d : ℕ) (bytes prefix : List ℕ) (old : Counts) (leads : LeadsGeometry kind d bytes prefix) where
+module _ (exact : Bool) (kind : CoordinatesType) (d : ℕ) (bytes prefix : List ℕ) (old : Counts) (leads : LeadsGeometry kind d bytes prefix) where
   nothing_by : (o : Option (Json × List ℕ)) → prefix_value d bytes ≡ o → prefix_value (d - 1) prefix ≡ None → prefix_value d bytes ≡ None
   nothing_by None h none = h
   nothing_by (Some x) h none = let wrong = sym none ∙ (leads x.0 x.1 h).found in absurd cc
@@ -176,20 +168,20 @@ module _ (exact : Bool) (kind : GeometryType) (d : ℕ) (bytes prefix : List ℕ
   pub led_nothing : prefix_value (d - 1) prefix ≡ None → prefix_value d bytes ≡ None
   led_nothing none = nothing_by (prefix_value d bytes) refl none
 
-  module _ (is : Bool) (rest : List ℕ) (r : RepeatsIn kind d bytes is rest) where
+  module _ (is : Bool) (rest : List ℕ) (r : RepeatsIn d bytes is rest) where
     this : IsLed kind d prefix (j.Object r.members)
     this = leads (j.Object r.members) rest r.prefix
 
-    these : r.members ≡ led exact this.part this.name this.more old kind
+    these : r.members ≡ led exact this.part this.name this.more old kind this.typed
     these =
-        let same : ◌≡◌ {A = Option Members} (Some r.members) (Some (led exact this.part this.name this.more old kind)) = sym (object_of-object r.members) ∙ ap object_of this.object ∙ object_of-object (led exact this.part this.name this.more old kind) in cc
+        let same : ◌≡◌ {A = Option Members} (Some r.members) (Some (led exact this.part this.name this.more old kind this.typed)) = sym (object_of-object r.members) ∙ ap object_of this.object ∙ object_of-object (led exact this.part this.name this.more old kind this.typed) in cc
 
     abbrev chosen : Bool → Result (Option Shape × Counts) GeoFaultKind
-    chosen t = if t then Err Duplicate else part exact kind this.part old
+    chosen t = if t then Err Duplicate else coordinates_shape exact kind this.part old
 
     means : geometry exact r.members old ≡ chosen is
     means =
-        ap (λ ms. geometry exact ms old) these ∙ means_by exact this.part this.name this.more old kind this.typed r.start (d - 1) r.parts (subst (λ ms. IsParts r.start (d - 1) ms r.parts) these r.occurrence)
+        ap (λ ms. geometry exact ms old) these ∙ means_by exact this.part this.name this.more old kind this.typed r.seen (subst (λ ms. IsSeen ms r.seen) these r.occurrence)
         ∙ ap chosen (sym r.answer)
 
     pub led_twice : is ≡ true → Stops (shape exact) (prefix_value d bytes) old (stop.Fault Duplicate)
@@ -199,8 +191,8 @@ module _ (exact : Bool) (kind : GeometryType) (d : ℕ) (bytes prefix : List ℕ
     by_fault true read e h = refl
     by_fault false read e h = h
 
-    pub led_faulty : (e : GeoFaultKind) → Stops (part exact kind) (prefix_value (d - 1) prefix) old (stop.Fault e) → Stops (shape exact) (prefix_value d bytes) old (stop.Fault (first_fault is e))
+    pub led_faulty : (e : GeoFaultKind) → Stops (coordinates_shape exact kind) (prefix_value (d - 1) prefix) old (stop.Fault e) → Stops (shape exact) (prefix_value d bytes) old (stop.Fault (first_fault is e))
     led_faulty e h = object_stops exact (prefix_value d bytes) r.members rest old r.prefix old (stop.Fault (first_fault is e)) (means ∙ by_fault is _ e (h this.part this.after this.found))
 
-    pub led_read : is ≡ false → (s : Option Shape) (after : List ℕ) (new : Counts) → Reads (part exact kind) (prefix_value (d - 1) prefix) s after old new → Reads (shape exact) (prefix_value d bytes) s rest old new
-    led_read is_not s after new q = object_reads exact (prefix_value d bytes) r.members rest old r.prefix s new (means ∙ ap chosen is_not ∙ judged_read (part exact kind) (prefix_value (d - 1) prefix) this.part this.after old new this.found s after q)
+    pub led_read : is ≡ false → (s : Option Shape) (after : List ℕ) (new : Counts) → Reads (coordinates_shape exact kind) (prefix_value (d - 1) prefix) s after old new → Reads (shape exact) (prefix_value d bytes) s rest old new
+    led_read is_not s after new q = object_reads exact (prefix_value d bytes) r.members rest old r.prefix s new (means ∙ ap chosen is_not ∙ judged_read (coordinates_shape exact kind) (prefix_value (d - 1) prefix) this.part this.after old new this.found s after q)

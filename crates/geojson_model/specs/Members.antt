@@ -9,11 +9,10 @@ use Rattle.json_reading.specs.declared.fault.Fault.{Fault}
 use Rattle.json_reading.specs.Gives.{Fails}
 use Rattle.geojson_types.specs.declared.counts.Counts.{Counts}
 use Rattle.geojson_types.specs.Features.{Shape}
-use Rattle.geometry.specs.declared.shape.Geometry.TheVariants as g
 use Rattle.geojson_meaning.specs.Geometries.{coordinates_shape, shapes}
 use Rattle.geojson_meaning.specs.Members.{named}
 use Rattle.json_value.specs.Readers.{Counting}
-use Rattle.geojson_meaning.specs.Reader.{Reader, ◌>>=◌, give, or_fail}
+use Rattle.geojson_meaning.specs.Reader.{or_fail}
 use Rattle.geojson_meaning.specs.Types.{geojson_type, geometry_type}
 use Rattle.geojson_meaning.specs.declared.fault.GeoFaultKind.{GeoFaultKind}
 use Rattle.geojson_meaning.specs.declared.fault.GeoFaultKind.TheVariants.{Duplicate, Missing, UnknownType, WrongKind}
@@ -25,13 +24,16 @@ use Rattle.geojson_meaning.specs.declared.types.GeometryType.TheVariants as kind
 use Rattle.json_cursor.specs.declared.stop.Stop.{Stop}
 use Rattle.json_cursor.specs.declared.stop.Stop.TheVariants as stop
 use Rattle.json_cursor.specs.Arrays.{prefix_value}
+use Rattle.json_cursor.specs.Held.{IsHeld}
 use Rattle.json_cursor.specs.Members.{Made, Members}
 use Rattle.geojson_model.specs.declared.occurrence.Occurrence.{Occurrence}
 use Rattle.geojson_model.specs.declared.occurrence.Occurrence.TheVariants.{Never, Once, Again}
-use Rattle.geojson_model.specs.declared.geometries.Coordinates.{Coordinates}
+use Rattle.geojson_model.specs.declared.coordinate_members.Coordinates.{Coordinates}
+use Rattle.geojson_model.specs.declared.geometries.Group.{Group}
 use Rattle.geojson_model.specs.declared.geometries.Parts.{Parts}
-use Rattle.geojson_model.specs.declared.geometries.Read.{Read}
+use Rattle.geojson_model.specs.declared.coordinate_members.Read.{Read}
 use Rattle.geojson_model.specs.declared.geometries.Start.{Start}
+use Rattle.geojson_model.specs.declared.leading.Seen.{Seen}
 
 -- these are the values of a name that was seen so
 abbrev pub IsOccurrence : {A : Type 0} → (Json → A → Type 0) → List Json → Occurrence A → Type 0
@@ -110,63 +112,58 @@ pub record IsCoordinates (start : Start) (d : ℕ) (v : Json) (x : Coordinates) 
   pub prefix : BeginsAt d v x.prefix
   pub read : IsRead start v x.read
 
+-- this is what the value of `geometries` is read as
+abbrev pub IsGroup : Start → Json → Group → Type 0
+IsGroup start v group = IsHeld (shapes start.exact) start.counts group.counts v group.shapes
+
 -- what was seen of these members
 pub record IsParts (start : Start) (d : ℕ) (ms : Members) (parts : Parts) : Type 0 where
   pub kind : IsOccurrence IsType (named (codes "type") ms) parts.kind
   pub coordinates : IsOccurrence (IsCoordinates start d) (named (codes "coordinates") ms) parts.coordinates
-  pub geometries : IsOccurrence (BeginsAt d) (named (codes "geometries") ms) parts.geometries
+  pub geometries : IsOccurrence (IsGroup start) (named (codes "geometries") ms) parts.geometries
 
--- ---- a geometry as most programs write it
+-- ---- a geometry of coordinates as most programs write it
 
--- the name of the member that a geometry of this type is made of
-abbrev pub part_name : GeometryType → List ℕ
-part_name kinds.Collection = codes "geometries"
-part_name (kinds.Coordinates kind) = codes "coordinates"
-
--- what the value of that member gives
-abbrev pub part : Bool → GeometryType → Json → Reader (Option Shape)
-part exact kinds.Collection v = do
-  ss ← shapes exact v
-  give (Some (g.Group ss))
-part exact (kinds.Coordinates kind) v = coordinates_shape exact kind v
-
--- after the front of that member a value and the brace that closes the object (125) make it such a geometry
-abbrev pub BeginsGeometry : GeometryType → ℕ → List ℕ → List ℕ → Type 0
+-- after the front of its coordinates a value and the brace that closes the object (125) make it such a geometry
+abbrev pub BeginsGeometry : CoordinatesType → ℕ → List ℕ → List ℕ → Type 0
 BeginsGeometry kind d bytes prefix = (v : Json) (after end : List ℕ) → prefix_value (d - 1) prefix ≡ Some (v, after) → skip after ≡ 125 ∷ end
-    → (name : List ℕ) × (geometry_type name ≡ Some kind) × (prefix_value d bytes ≡ Some (j.Object ((codes "type", j.Text name) ∷ (part_name kind, v) ∷ []), end))
+    → (name : List ℕ) × (geometry_type name ≡ Some (kinds.Coordinates kind)) × (prefix_value d bytes ≡ Some (j.Object ((codes "type", j.Text name) ∷ (codes "coordinates", v) ∷ []), end))
 
--- a geometry of this type whose type stands first in it, and then the member that it is made of, whose value begins there
-pub record IsLed (kind : GeometryType) (d : ℕ) (prefix : List ℕ) (v : Json) : Type 0 where
+-- a geometry of this type whose type stands first in it, and then its coordinates, which begin there
+pub record IsLed (kind : CoordinatesType) (d : ℕ) (prefix : List ℕ) (v : Json) : Type 0 where
   pub name : List ℕ
-  pub typed : geometry_type name ≡ Some kind
+  pub typed : geometry_type name ≡ Some (kinds.Coordinates kind)
   pub part : Json
   pub after : List ℕ
   pub found : prefix_value (d - 1) prefix ≡ Some (part, after)
   pub more : Members
-  pub object : v ≡ j.Object ((codes "type", j.Text name) ∷ (part_name kind, part) ∷ more)
+  pub object : v ≡ j.Object ((codes "type", j.Text name) ∷ (codes "coordinates", part) ∷ more)
 
 -- whatever value stands there is one
-abbrev pub LeadsGeometry : GeometryType → ℕ → List ℕ → List ℕ → Type 0
+abbrev pub LeadsGeometry : CoordinatesType → ℕ → List ℕ → List ℕ → Type 0
 LeadsGeometry kind d bytes prefix = (v : Json) (end : List ℕ) → prefix_value d bytes ≡ Some (v, end) → IsLed kind d prefix v
 
--- the type stands twice, or the member that a geometry of this type is made of
-abbrev pub twice : GeometryType → Parts → Bool
-twice kinds.Collection parts = is_again parts.kind || is_again parts.geometries
-twice (kinds.Coordinates kind) parts = is_again parts.kind || is_again parts.coordinates
+-- how often these members stood
+pub record IsSeen (ms : Members) (seen : Seen) : Type 0 where
+  pub kind : IsOccurrence (λ v x. Unit {0}) (named (codes "type") ms) seen.kind
+  pub coordinates : IsOccurrence (λ v x. Unit {0}) (named (codes "coordinates") ms) seen.coordinates
+
+-- the type stands twice, or the coordinates
+abbrev pub twice : Seen → Bool
+twice seen = is_again seen.kind || is_again seen.coordinates
 
 abbrev pub first_fault : Bool → GeoFaultKind → GeoFaultKind
 first_fault twice fault = if twice then Duplicate else fault
 
 -- an object stands at the front in which they do, or don't; or whatever value stands there is no object; or none stands there, or nothing is said
-pub record RepeatsIn (kind : GeometryType) (d : ℕ) (bytes : List ℕ) (is : Bool) (rest : List ℕ) : Type 0 where
+pub record RepeatsIn (d : ℕ) (bytes : List ℕ) (is : Bool) (rest : List ℕ) : Type 0 where
   pub members : Members
   pub prefix : prefix_value d bytes ≡ Some (j.Object members, rest)
-  pub start : Start
-  pub parts : Parts
-  pub occurrence : IsParts start (d - 1) members parts
-  pub answer : is ≡ twice kind parts
+  pub seen : Seen
+  pub occurrence : IsSeen members seen
+  pub answer : is ≡ twice seen
 
-abbrev pub Repeats : GeometryType → ℕ → List ℕ → Result (Option (Bool × Bor (List ℕ))) Fault → Type 0
-Repeats kind d bytes (Ok (Some x)) = RepeatsIn kind d bytes x.0 x.1.now
-Repeats kind d bytes (Ok None) = (v : Json) (end : List ℕ) → prefix_value d bytes ≡ Some (v, end) → object_of v ≡ None
-Repeats kind d bytes (Err fault) = Fails fault (prefix_value d bytes)
+abbrev pub Repeats : ℕ → List ℕ → Result (Option (Bool × Bor (List ℕ))) Fault → Type 0
+Repeats d bytes (Ok (Some x)) = RepeatsIn d bytes x.0 x.1.now
+Repeats d bytes (Ok None) = (v : Json) (end : List ℕ) → prefix_value d bytes ≡ Some (v, end) → object_of v ≡ None
+Repeats d bytes (Err fault) = Fails fault (prefix_value d bytes)

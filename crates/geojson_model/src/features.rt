@@ -324,7 +324,6 @@ pub fn feature_at<'a>(
     let start = Start {
         exact,
         counts: *counts,
-        reads: true,
     };
     let mut parts = FeatureParts::none();
     match object_into::<FeatureParts>(alloc, depth_left, &mut parts, bytes, start) {

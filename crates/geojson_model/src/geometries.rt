@@ -1,52 +1,42 @@
-// Geometries.
-ghost use Rattle.std.specs.Prelude.{◌≡◌, ◌++◌, ◌<◌, [], ℕ, OnOk, Some, codes, length, option_to_list, true};
-ghost use Rattle.json_value.specs.declared.json.Json.{Json as Value};
-ghost use Rattle.json_cursor.specs.Members.{Members as Listed};
-ghost use Rattle.geojson_meaning.specs.Geometries.{coordinates_shape, geometry, shape, shapes, typed_geometry};
+// Geometries by their members.
+ghost use Rattle.std.specs.Prelude.{◌≡◌, ◌++◌, [], ℕ, OnOk, bytes_eq, codes, false, length, option_to_list};
+ghost use Rattle.json_cursor.specs.Members.{GoesOn, GoesThrough, Members as Listed, TakesAll, prefix_members};
+ghost use Rattle.geojson_meaning.specs.Geometries.{geometry, shape, shapes, typed_geometry};
 ghost use Rattle.geojson_meaning.specs.Reader.{kept};
 ghost use Rattle.json_cursor.specs.Answers.{Answers};
 ghost use Rattle.json_cursor.specs.Arrays.{prefix_elements, prefix_value};
 ghost use Rattle.geojson_meaning.specs.Members.{named};
 ghost use Rattle.geojson_meaning.specs.declared.types.GeometryType.TheVariants as types;
-ghost use Rattle.json_cursor.specs.Held.{FindsValue};
+ghost use Rattle.json_cursor.specs.Held.{Finds, FindsValue, IsHeld};
 ghost use Rattle.json_cursor.specs.Names.{name_of};
-ghost use Rattle.geojson_model.specs.Members.{BeginsGeometry, IsCoordinates, BeginsAt, IsParts, IsRead, IsOccurrence, IsTaken, IsType, Judges, LeadsGeometry, Sees, part, twice};
+ghost use Rattle.geojson_model.specs.Members.{IsGroup, IsParts, IsOccurrence, IsType, Judges, Sees};
 ghost use Rattle.geojson_model.specs.Members as spec;
 ghost use Rattle.geojson_model.specs.declared.geometries.Start.{Start as Begun};
 
-use crate::leading::{first_fault, led_at, twice_at};
+use crate::coordinate_members::{Coordinates, coordinates_member, coordinates_of};
+use crate::leading::{led_at, led_geometry_at};
 use crate::occurrence::Occurrence;
-use crate::shapes::coordinates_at;
 use crate::type_names::type_name_at;
-use geojson_meaning::{CoordinatesType, GeoFaultKind, GeoJsonType, GeometryType, geojson_type};
+use geojson_meaning::{GeoFaultKind, GeoJsonType, GeometryType, geojson_type};
 use geojson_types::{Counts, Shape};
-use json_cursor::{Mark, Members, Name, Stop, after_byte, mark_at, name_at, object_into};
-use json_reading::{Fault, Why, after_value, skip};
+use json_cursor::{Mark, Name, Stop, after_byte, after_others, broken, mark_at, name_at};
+use json_reading::{Fault, after_value, skip};
 use json_value::Items;
 use std::alloc::{AllocFailed, Global};
 
-/// By what a geometry is read: whether coordinates may not be rounded, what was counted before it, and whether the coordinates are read
-/// where they stand after the type, or passed over.
+/// By what a geometry is read: whether coordinates may not be rounded, and what was counted before it.
 #[derive(Clone, Copy)]
 pub struct Start {
     pub exact: bool,
     pub counts: Counts,
-    pub reads: bool,
 }
 
-/// What the member `coordinates` is read as by this type, or its fault, and what was counted then.
+/// What the value of `geometries` is read as, or its fault, and what was counted then. It is read whatever the type is: where the type comes
+/// after it, geometries in geometries would else be passed over once more at each of their levels.
 #[derive(Drop)]
-pub struct Read {
-    kind: CoordinatesType,
-    shape: Result<Option<Shape>, GeoFaultKind>,
+pub struct Group {
+    shapes: Result<Items<Shape>, GeoFaultKind>,
     counts: Counts,
-}
-
-/// Where the value of the member `coordinates` begins, and what it was read as, if its type was known then.
-#[derive(Drop)]
-pub struct Coordinates<'a> {
-    prefix: &'a [u8],
-    read: Option<Read>,
 }
 
 /// What was seen of the members of a geometry.
@@ -54,7 +44,7 @@ pub struct Coordinates<'a> {
 pub struct Parts<'a> {
     pub kind: Occurrence<Result<GeoJsonType, GeoFaultKind>>,
     coordinates: Occurrence<Coordinates<'a>>,
-    geometries: Occurrence<&'a [u8]>,
+    geometries: Occurrence<Group>,
 }
 
 /// The type that the value at the front names, or its fault, and what follows it.
@@ -75,95 +65,6 @@ pub(crate) fn type_at<'a>(
     }
 }
 
-/// The value of `coordinates` at the front, which is passed over, and what follows it.
-fn passed_at<'a>(
-    alloc: Global,
-    depth_left: u32,
-    start: Start,
-    bytes: &'a [u8],
-) -> Result<(Coordinates<'a>, &'a [u8]), Fault>
-    ensures { FindsValue (IsCoordinates start depth_left) depth_left bytes.now result }
-{
-    let rest = after_value(alloc, depth_left, bytes)?;
-    Ok((
-        Coordinates {
-            prefix: bytes,
-            read: None,
-        },
-        rest,
-    ))
-}
-
-/// The value of `coordinates` at the front, which is read by this type, and what follows it.
-fn read_at<'a>(
-    alloc: Global,
-    depth_left: u32,
-    start: Start,
-    kind: CoordinatesType,
-    bytes: &'a [u8],
-) -> Result<(Coordinates<'a>, &'a [u8]), Fault>
-    ensures { FindsValue (IsCoordinates start depth_left) depth_left bytes.now result }
-{
-    let mut counts = start.counts;
-    match coordinates_at(alloc, depth_left, bytes, start.exact, kind, &mut counts) {
-        Ok((shape, rest)) => {
-            let read = Read {
-                kind,
-                shape: Ok(shape),
-                counts,
-            };
-            Ok((
-                Coordinates {
-                    prefix: bytes,
-                    read: Some(read),
-                },
-                rest,
-            ))
-        }
-        Err(Stop::Fault(fault)) => {
-            let rest = after_value(alloc, depth_left, bytes)?;
-            let read = Read {
-                kind,
-                shape: Err(fault),
-                counts,
-            };
-            Ok((
-                Coordinates {
-                    prefix: bytes,
-                    read: Some(read),
-                },
-                rest,
-            ))
-        }
-        Err(Stop::NoValue) => Err(Fault::Malformed {
-            why: Why::Syntax,
-            left: bytes.len(),
-        }),
-        Err(Stop::Memory) => Err(Fault::Memory),
-    }
-}
-
-/// The value of `coordinates` at the front, which is read where its type is known by now, and what follows it.
-fn coordinates_member<'a>(
-    alloc: Global,
-    depth_left: u32,
-    start: Start,
-    kind: &Occurrence<Result<GeoJsonType, GeoFaultKind>>,
-    bytes: &'a [u8],
-) -> Result<(Coordinates<'a>, &'a [u8]), Fault>
-    ensures { FindsValue (IsCoordinates start depth_left) depth_left bytes.now result }
-{
-    if !start.reads {
-        return passed_at(alloc, depth_left, start, bytes);
-    }
-    match kind {
-        Occurrence::Once(Ok(GeoJsonType::Geometry(GeometryType::Coordinates(kind)))) => read_at(
-            alloc, depth_left, start, *kind, bytes,
-        ),
-        _ => passed_at(alloc, depth_left, start, bytes),
-    }
-}
-
 impl<'a> Parts<'a> {
     /// Of no members.
     pub(crate) fn none() -> Parts<'a>
@@ -176,8 +77,8 @@ impl<'a> Parts<'a> {
         }
     }
 
-    /// Goes on with one of this name, whose value is at the front.
-    pub(crate) fn see(
+    /// Goes on with one of this name, which isn't `geometries`, and whose value is at the front.
+    fn see(
         &mut self,
         alloc: Global,
         depth_left: u32,
@@ -185,6 +86,7 @@ impl<'a> Parts<'a> {
         value: &'a [u8],
         start: Start,
     ) -> Result<&'a [u8], Fault>
+        requires { bytes_eq (name_of name.now) (codes "geometries") ≡ false }
         ensures { Sees (IsParts start depth_left) depth_left (name_of name.now) value.now self.old self.new result }
     {
         if name.is("type") {
@@ -197,126 +99,7 @@ impl<'a> Parts<'a> {
             self.coordinates.see(found);
             return Ok(rest);
         }
-        let rest = after_value(alloc, depth_left, value)?;
-        if name.is("geometries") {
-            self.geometries.see(value);
-        }
-        Ok(rest)
-    }
-}
-
-impl Parts<'_> {
-    /// Whether the type stands twice, or the member that a geometry of this type is made of.
-    pub(crate) fn stand_twice(&self, kind: GeometryType) -> bool
-        ensures { result ≡ twice kind self.now }
-    {
-        match kind {
-            GeometryType::Collection => self.kind.is_again() || self.geometries.is_again(),
-            GeometryType::Coordinates(_) => self.kind.is_again() || self.coordinates.is_again(),
-        }
-    }
-}
-
-impl<'a> Members<'a> for Parts<'a> {
-    type With = Start;
-
-    ghost holds = { IsParts };
-
-    fn member(
-        &mut self,
-        alloc: Global,
-        depth_left: u32,
-        bytes: &'a [u8],
-        with: Start,
-    ) -> Result<&'a [u8], Fault> {
-        let (name, value) = name_at(alloc, bytes)?;
-        self.see(alloc, depth_left, &name, value, with)
-    }
-}
-
-/// Whether the types are one.
-fn is_same(one: CoordinatesType, other: CoordinatesType) -> bool
-    ensures { result ≡ true → one ≡ other }
-{
-    match one {
-        CoordinatesType::Point => matches!(other, CoordinatesType::Point),
-        CoordinatesType::MultiPoint => matches!(other, CoordinatesType::MultiPoint),
-        CoordinatesType::LineString => matches!(other, CoordinatesType::LineString),
-        CoordinatesType::MultiLineString => matches!(other, CoordinatesType::MultiLineString),
-        CoordinatesType::Polygon => matches!(other, CoordinatesType::Polygon),
-        CoordinatesType::MultiPolygon => matches!(other, CoordinatesType::MultiPolygon),
-    }
-}
-
-/// What was read of the value by this very type, and what was counted then.
-fn taken(
-    read: Option<Read>,
-    kind: CoordinatesType,
-) -> Option<(Result<Option<Shape>, GeoFaultKind>, Counts)>
-    ensures { (start : Begun) (v : Value) → IsRead start v read → IsTaken start kind v result }
-{
-    let Some(
-        Read {
-            kind: by,
-            shape,
-            counts,
-        },
-    ) = read
-    else {
-        return None;
-    };
-    if !is_same(by, kind) {
-        return None;
-    }
-    Some((shape, counts))
-}
-
-/// What the value of `coordinates` is by this type, which is read where its member came before its type.
-fn shape_by(
-    alloc: Global,
-    depth_left: u32,
-    kind: CoordinatesType,
-    found: Coordinates<'_>,
-    start: Start,
-    counts: &mut Counts,
-) -> Result<Option<Shape>, Stop<GeoFaultKind>>
-    ensures { (v : Value) → IsCoordinates start depth_left v found.entry → Judges (coordinates_shape start.exact kind v) start.counts counts.new result }
-{
-    let Coordinates { prefix, read } = found;
-    match taken(read, kind) {
-        Some((shape, counted)) => {
-            *counts = counted;
-            match shape {
-                Ok(shape) => Ok(shape),
-                Err(fault) => Err(Stop::Fault(fault)),
-            }
-        }
-        None => {
-            *counts = start.counts;
-            match coordinates_at(alloc, depth_left, prefix, start.exact, kind, counts) {
-                Err(stop) => Err(stop),
-                Ok((shape, _)) => Ok(shape),
-            }
-        }
-    }
-}
-
-/// What the member `coordinates` is by this type.
-fn coordinates_of(
-    alloc: Global,
-    depth_left: u32,
-    kind: CoordinatesType,
-    coordinates: Occurrence<Coordinates<'_>>,
-    start: Start,
-    counts: &mut Counts,
-) -> Result<Option<Shape>, Stop<GeoFaultKind>>
-    ensures { (ms : Listed) → IsOccurrence (IsCoordinates start depth_left) (named (codes "coordinates") ms) coordinates.entry
-        → Judges (typed_geometry start.exact (types.Coordinates kind) ms) start.counts counts.new result }
-{
-    match coordinates {
-        Occurrence::Never => Err(Stop::Fault(GeoFaultKind::Missing)),
-        Occurrence::Again => Err(Stop::Fault(GeoFaultKind::Duplicate)),
-        Occurrence::Once(found) => shape_by(alloc, depth_left, kind, found, start, counts),
+        after_value(alloc, depth_left, value)
     }
 }
 
@@ -339,32 +122,31 @@ fn kind_of(
 }
 
 /// What the member `geometries` is.
-#[cycle(geometries)]
 fn group_of(
-    alloc: Global,
-    depth_left: u32,
-    geometries: Occurrence<&[u8]>,
-    start: Start,
+    geometries: Occurrence<Group>,
     counts: &mut Counts,
 ) -> Result<Option<Shape>, Stop<GeoFaultKind>>
-    ensures { (ms : Listed) → IsOccurrence (BeginsAt depth_left) (named (codes "geometries") ms) geometries.entry
+    ensures { (start : Begun) (ms : Listed) → IsOccurrence (IsGroup start) (named (codes "geometries") ms) geometries
         → Judges (typed_geometry start.exact types.Collection ms) start.counts counts.new result }
 {
     match geometries {
         Occurrence::Never => Err(Stop::Fault(GeoFaultKind::Missing)),
         Occurrence::Again => Err(Stop::Fault(GeoFaultKind::Duplicate)),
-        Occurrence::Once(prefix) => {
-            *counts = start.counts;
-            match geometries_at(alloc, depth_left, prefix, start.exact, counts) {
-                Err(stop) => Err(stop),
-                Ok((shapes, _)) => Ok(Some(Shape::Group(shapes))),
+        Occurrence::Once(group) => {
+            let Group {
+                shapes,
+                counts: counted,
+            } = group;
+            *counts = counted;
+            match shapes {
+                Err(fault) => Err(Stop::Fault(fault)),
+                Ok(shapes) => Ok(Some(Shape::Group(shapes))),
             }
         }
     }
 }
 
 /// The geometry of these members.
-#[cycle(geometries)]
 pub(crate) fn shape_of(
     alloc: Global,
     depth_left: u32,
@@ -388,7 +170,7 @@ pub(crate) fn shape_of(
         Ok(kind) => match kind {
             GeometryType::Collection => {
                 drop(coordinates);
-                group_of(alloc, depth_left, geometries, start, counts)
+                group_of(geometries, counts)
             }
             GeometryType::Coordinates(kind) => {
                 drop(geometries);
@@ -398,27 +180,94 @@ pub(crate) fn shape_of(
     }
 }
 
-/// The geometry at the front (RFC 7946, section 3.1), which is none where nothing is left of it, and what follows it; or why reading
-/// stops. Its members may stand in any order.
+/// Goes on with a member of this name, whose value is at the front, and gives what follows it.
 #[cycle(geometries)]
-pub fn geometry_at<'a>(
+pub(crate) fn member_value<'a>(
     alloc: Global,
     depth_left: u32,
-    bytes: &'a [u8],
-    exact: bool,
-    counts: &mut Counts,
-) -> Result<(Option<Shape>, &'a [u8]), Stop<GeoFaultKind>>
-    ensures { Answers (λ x. x) (shape exact) (prefix_value depth_left bytes.now) counts.old counts.new result }
+    parts: &mut Parts<'a>,
+    name: &Name<'a>,
+    value: &'a [u8],
+    start: Start,
+) -> Result<&'a [u8], Fault>
+    ensures { Sees (IsParts start depth_left) depth_left (name_of name.now) value.now parts.old parts.new result }
 {
-    match led_at(alloc, depth_left, bytes)? {
-        None => any_geometry_at(alloc, depth_left, bytes, exact, counts),
-        Some((kind, prefix)) => {
-            led_geometry_at(alloc, depth_left, kind, prefix, bytes, exact, counts)
-        }
+    if name.is("geometries") {
+        let mut counts = start.counts;
+        let (shapes, rest) = geometries_at(alloc, depth_left, value, start.exact, &mut counts)?;
+        parts.geometries.see(Group { shapes, counts });
+        return Ok(rest);
     }
+    parts.see(alloc, depth_left, name, value, start)
 }
 
-/// The geometry at the front, by its members one after another. A member that is made of geometries is passed over first.
+/// Goes on with the member of a geometry at the front, and gives what follows it.
+#[cycle(geometries)]
+fn member_at<'a>(
+    alloc: Global,
+    depth_left: u32,
+    parts: &mut Parts<'a>,
+    bytes: &'a [u8],
+    start: Start,
+) -> Result<&'a [u8], Fault>
+    ensures { GoesOn (IsParts start depth_left) depth_left parts.old parts.new bytes.now result }
+{
+    let (name, value) = name_at(alloc, bytes)?;
+    member_value(alloc, depth_left, parts, &name, value, start)
+}
+
+/// Goes on with the members of a geometry after its brace, one or more, and gives what follows them. (The loop of `json_cursor` goes over
+/// members that don't lead back to it.)
+#[cycle(geometries)]
+fn members_after<'a>(
+    alloc: Global,
+    depth_left: u32,
+    parts: &mut Parts<'a>,
+    inside: &'a [u8],
+    start: Start,
+) -> Result<&'a [u8], Fault>
+    ensures { TakesAll (IsParts start depth_left) (prefix_members depth_left (length inside.now) inside.now) parts.old parts.new result }
+{
+    let mut rest = inside;
+    'members: for _ in 0..inside.len() {
+        let following = member_at(alloc, depth_left, parts, skip(rest), start)?;
+        let mark = skip(following);
+        if let Some(end) = after_byte(b'}', mark) {
+            return Ok(end);
+        }
+        let Some(more) = after_byte(b',', mark) else {
+            return Err(broken(mark));
+        };
+        rest = more;
+    }
+    Err(broken(rest))
+}
+
+/// Goes on with the members of the object at the front, and gives what follows it; none of what is no object, of which nothing is read.
+#[cycle(geometries)]
+fn members_at<'a>(
+    alloc: Global,
+    depth_left: u32,
+    parts: &mut Parts<'a>,
+    bytes: &'a [u8],
+    start: Start,
+) -> Result<Option<&'a [u8]>, Fault>
+    ensures { GoesThrough (IsParts start) depth_left bytes.now parts.old parts.new result }
+{
+    let Some(inside) = after_byte(b'{', bytes) else {
+        return Ok(None);
+    };
+    if depth_left == 0 {
+        return Err(broken(inside));
+    }
+    if let Some(end) = after_byte(b'}', skip(inside)) {
+        return Ok(Some(end));
+    }
+    let rest = members_after(alloc, depth_left - 1, parts, inside, start)?;
+    Ok(Some(rest))
+}
+
+/// The geometry at the front or its first fault, by its members one after another, and what follows it.
 #[cycle(geometries)]
 fn any_geometry_at<'a>(
     alloc: Global,
@@ -426,101 +275,57 @@ fn any_geometry_at<'a>(
     bytes: &'a [u8],
     exact: bool,
     counts: &mut Counts,
-) -> Result<(Option<Shape>, &'a [u8]), Stop<GeoFaultKind>>
-    ensures { Answers (λ x. x) (shape exact) (prefix_value depth_left bytes.now) counts.old counts.new result }
+) -> Result<(Result<Option<Shape>, GeoFaultKind>, &'a [u8]), Fault>
+    ensures { FindsValue (IsHeld (shape exact) counts.old counts.new) depth_left bytes.now result }
 {
     let start = Start {
         exact,
         counts: *counts,
-        reads: true,
     };
     let mut parts = Parts::none();
-    match object_into::<Parts<'a>>(alloc, depth_left, &mut parts, bytes, start) {
+    match members_at(alloc, depth_left, &mut parts, bytes, start) {
         Err(fault) => {
             drop(parts);
-            Err(Stop::from(fault))
+            Err(fault)
         }
         Ok(None) => {
             drop(parts);
-            Err(Stop::Fault(GeoFaultKind::WrongKind))
+            let rest = after_value(alloc, depth_left, bytes)?;
+            Ok((Err(GeoFaultKind::WrongKind), rest))
         }
         Ok(Some(rest)) => match shape_of(alloc, depth_left - 1, parts, start, counts) {
-            Err(stop) => Err(stop),
-            Ok(shape) => Ok((shape, rest)),
+            Ok(shape) => Ok((Ok(shape), rest)),
+            Err(Stop::Fault(fault)) => Ok((Err(fault), rest)),
+            Err(Stop::NoValue) => Err(broken(rest)),
+            Err(Stop::Memory) => Err(Fault::Memory),
         },
     }
 }
 
-/// The geometry at the front, whose type and the member that it is made of stand first: that member is read once, and those after it are passed over.
+/// The geometry at the front (RFC 7946, section 3.1), which is none where nothing is left of it, or its first fault, and what follows it. Its
+/// members may stand in any order.
 #[cycle(geometries)]
-fn led_geometry_at<'a>(
+fn held_geometry_at<'a>(
     alloc: Global,
     depth_left: u32,
-    kind: GeometryType,
-    prefix: &'a [u8],
     bytes: &'a [u8],
     exact: bool,
     counts: &mut Counts,
-) -> Result<(Option<Shape>, &'a [u8]), Stop<GeoFaultKind>>
-    requires depth_left { 0 < depth_left }
-    requires begins { BeginsGeometry kind depth_left bytes.now prefix.now }
-    requires leads { LeadsGeometry kind depth_left bytes.now prefix.now }
-    ensures { Answers (λ x. x) (shape exact) (prefix_value depth_left bytes.now) counts.old counts.new result }
+) -> Result<(Result<Option<Shape>, GeoFaultKind>, &'a [u8]), Fault>
+    ensures { FindsValue (IsHeld (shape exact) counts.old counts.new) depth_left bytes.now result }
 {
-    match part_at(alloc, depth_left - 1, kind, prefix, exact, counts) {
-        Err(Stop::Memory) => Err(Stop::Memory),
-        Err(Stop::NoValue) => Err(Stop::NoValue),
-        Err(Stop::Fault(fault)) => {
-            let found = twice_at(alloc, depth_left, kind, bytes)?;
-            match found {
-                None => Err(Stop::Fault(GeoFaultKind::WrongKind)),
-                Some((twice, _)) => Err(Stop::Fault(first_fault(twice, fault))),
+    match led_at(alloc, depth_left, bytes)? {
+        None => any_geometry_at(alloc, depth_left, bytes, exact, counts),
+        Some((kind, prefix)) => match led_geometry_at(
+            alloc, depth_left, kind, prefix, bytes, exact, counts,
+        ) {
+            Ok((shape, rest)) => Ok((Ok(shape), rest)),
+            Err(Stop::Fault(fault)) => {
+                let rest = after_value(alloc, depth_left, bytes)?;
+                Ok((Err(fault), rest))
             }
-        }
-        Ok((shape, after)) => {
-            if let Some(rest) = after_byte(b'}', skip(after)) {
-                return Ok((shape, rest));
-            }
-            match twice_at(alloc, depth_left, kind, bytes) {
-                Err(fault) => {
-                    drop(shape);
-                    Err(Stop::from(fault))
-                }
-                Ok(None) => {
-                    drop(shape);
-                    Err(Stop::Fault(GeoFaultKind::WrongKind))
-                }
-                Ok(Some((twice, rest))) => {
-                    if twice {
-                        drop(shape);
-                        return Err(Stop::Fault(GeoFaultKind::Duplicate));
-                    }
-                    Ok((shape, rest))
-                }
-            }
-        }
-    }
-}
-
-/// The shape of this type that the value at the front gives as the member that a geometry of this type is made of, and what follows it.
-#[cycle(geometries)]
-fn part_at<'a>(
-    alloc: Global,
-    depth_left: u32,
-    kind: GeometryType,
-    bytes: &'a [u8],
-    exact: bool,
-    counts: &mut Counts,
-) -> Result<(Option<Shape>, &'a [u8]), Stop<GeoFaultKind>>
-    ensures { Answers (λ x. x) (part exact kind) (prefix_value depth_left bytes.now) counts.old counts.new result }
-{
-    match kind {
-        GeometryType::Coordinates(kind) => coordinates_at(
-            alloc, depth_left, bytes, exact, kind, counts,
-        ),
-        GeometryType::Collection => match geometries_at(alloc, depth_left, bytes, exact, counts) {
-            Err(stop) => Err(stop),
-            Ok((shapes, rest)) => Ok((Some(Shape::Group(shapes)), rest)),
+            Err(Stop::NoValue) => Err(broken(bytes)),
+            Err(Stop::Memory) => Err(Fault::Memory),
         },
     }
 }
@@ -538,7 +343,8 @@ fn push_some(read: &mut Vec<Shape>, one: Option<Shape>) -> Result<(), AllocFaile
     }
 }
 
-/// The geometries after the bracket of an array, one or more, without those of which nothing is left, and what follows it.
+/// The geometries after the bracket of an array, one or more, without those of which nothing is left, or their first fault, and what follows
+/// them. Those after a faulty one are passed over.
 #[cycle(geometries)]
 fn geometries_after<'a>(
     alloc: Global,
@@ -546,30 +352,34 @@ fn geometries_after<'a>(
     inside: &'a [u8],
     exact: bool,
     counts: &mut Counts,
-) -> Result<(Vec<Shape>, &'a [u8]), Stop<GeoFaultKind>>
-    ensures { Answers (λ v. v.items) (kept (shape exact)) (prefix_elements depth_left (length inside.now) inside.now) counts.old counts.new result }
+) -> Result<(Result<Items<Shape>, GeoFaultKind>, &'a [u8]), Fault>
+    ensures { Finds (IsHeld (kept (shape exact)) counts.old counts.new) (prefix_elements depth_left (length inside.now) inside.now) result }
 {
     let mut read = Vec::new(alloc);
     let mut rest = inside;
-    'geometries: for _ in 0..inside.len() {
-        match geometry_at(alloc, depth_left, skip(rest), exact, counts) {
-            Err(stop) => return Err(stop),
-            Ok((one, following)) => {
+    'geometries: for turn in 0..inside.len() {
+        let (one, following) = held_geometry_at(alloc, depth_left, skip(rest), exact, counts)?;
+        match one {
+            Err(fault) => {
+                let end = after_others(alloc, depth_left, inside.len() - turn, following)?;
+                return Ok((Err(fault), end));
+            }
+            Ok(one) => {
                 push_some(&mut read, one)?;
                 let (mark, more) = mark_at(following);
                 match mark {
-                    Mark::Neither => return Err(Stop::NoValue),
-                    Mark::Close => return Ok((read, more)),
+                    Mark::Neither => return Err(broken(more)),
+                    Mark::Close => return Ok((Ok(Items::of(read)), more)),
                     Mark::Comma => {}
                 }
                 rest = more;
             }
         }
     }
-    Err(Stop::NoValue)
+    Err(broken(rest))
 }
 
-/// The geometries of the array at the front, without those of which nothing is left, and what follows it; or why reading stops.
+/// The geometries of the array at the front, without those of which nothing is left, or their first fault, and what follows it.
 #[cycle(geometries)]
 fn geometries_at<'a>(
     alloc: Global,
@@ -577,20 +387,36 @@ fn geometries_at<'a>(
     bytes: &'a [u8],
     exact: bool,
     counts: &mut Counts,
-) -> Result<(Items<Shape>, &'a [u8]), Stop<GeoFaultKind>>
-    ensures { Answers (λ x. x) (shapes exact) (prefix_value depth_left bytes.now) counts.old counts.new result }
+) -> Result<(Result<Items<Shape>, GeoFaultKind>, &'a [u8]), Fault>
+    ensures { FindsValue (IsHeld (shapes exact) counts.old counts.new) depth_left bytes.now result }
 {
     let Some(inside) = after_byte(b'[', bytes) else {
-        return Err(Stop::Fault(GeoFaultKind::WrongKind));
+        let rest = after_value(alloc, depth_left, bytes)?;
+        return Ok((Err(GeoFaultKind::WrongKind), rest));
     };
     if depth_left == 0 {
-        return Err(Stop::NoValue);
+        return Err(broken(inside));
     }
     if let Some(rest) = after_byte(b']', skip(inside)) {
-        return Ok((Items::of(Vec::new(alloc)), rest));
+        return Ok((Ok(Items::of(Vec::new(alloc))), rest));
     }
-    match geometries_after(alloc, depth_left - 1, inside, exact, counts) {
-        Err(stop) => Err(stop),
-        Ok((read, rest)) => Ok((Items::of(read), rest)),
+    geometries_after(alloc, depth_left - 1, inside, exact, counts)
+}
+
+/// The geometry at the front (RFC 7946, section 3.1), which is none where nothing is left of it, and what follows it; or why reading
+/// stops. Its members may stand in any order.
+pub fn geometry_at<'a>(
+    alloc: Global,
+    depth_left: u32,
+    bytes: &'a [u8],
+    exact: bool,
+    counts: &mut Counts,
+) -> Result<(Option<Shape>, &'a [u8]), Stop<GeoFaultKind>>
+    ensures { Answers (λ x. x) (shape exact) (prefix_value depth_left bytes.now) counts.old counts.new result }
+{
+    let (held, rest) = held_geometry_at(alloc, depth_left, bytes, exact, counts)?;
+    match held {
+        Ok(shape) => Ok((shape, rest)),
+        Err(fault) => Err(Stop::Fault(fault)),
     }
 }

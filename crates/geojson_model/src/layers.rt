@@ -14,7 +14,7 @@ ghost use Rattle.geojson_model.specs.Members.{IsParts, IsOccurrence, Judges};
 ghost use Rattle.geojson_model.specs.declared.geometries.Start.{Start as Begun};
 
 use crate::features::{Fields, feature_at, feature_of, is_field};
-use crate::geometries::{Parts, Start, shape_of};
+use crate::geometries::{Parts, Start, member_value, shape_of};
 use crate::occurrence::Occurrence;
 use geojson_meaning::{GeoFault, GeoFaultKind, GeoJsonType};
 use geojson_types::{Counts, Feature};
@@ -187,7 +187,7 @@ impl<'a> Members<'a> for LayerParts<'a> {
         if is_field(&name) {
             return self.fields.see(alloc, depth_left, &name, value, with);
         }
-        self.bare.see(alloc, depth_left, &name, value, with)
+        member_value(alloc, depth_left, &mut self.bare, &name, value, with)
     }
 }
 
@@ -328,7 +328,6 @@ pub fn layer_at<'a>(
     let start = Start {
         exact,
         counts: *counts,
-        reads: true,
     };
     let mut parts = LayerParts::none();
     match object_into::<LayerParts<'a>>(alloc, depth_left, &mut parts, bytes, start) {

@@ -4,6 +4,7 @@
 //! value calls `read_layer`. What layers are made of is passed on.
 #![tactic(auto)]
 
+mod coordinate_members;
 mod coordinates;
 mod features;
 mod geometries;

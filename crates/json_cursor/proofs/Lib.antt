@@ -4,6 +4,7 @@ pub mod CopiedLists
 pub mod CopiedTexts
 pub mod Failed
 pub mod FoldedSoFar
+pub mod KeptSoFar
 pub mod PrefixKinds
 pub mod LedParts
 pub mod Lists

@@ -10,6 +10,7 @@ use Rattle.json_reading.specs.declared.fault.Fault.{Fault}
 use Rattle.geojson_types.specs.declared.counts.Counts.{Counts}
 use Rattle.geojson_types.specs.declared.id.Id.{Id}
 use Rattle.geometry.specs.Points.{Point}
+use Rattle.json_cursor.specs.Held.{FindsValue}
 use Rattle.topojson_types.specs.declared.feature.TopoFeature.{TopoFeature}
 use Rattle.topojson_types.specs.declared.transform.Transform.{Transform}
 use Rattle.topojson_types.specs.Topologies.{TopoShape}
@@ -38,7 +39,7 @@ use Rattle.topojson_decoder.specs.declared.occurrence.Occurrence.TheVariants.{Ne
 use Rattle.topojson_decoder.specs.Features.{IsFeature, IsFound, IsMemberAt, blank_identifier, blank_members, found, found_in, kept_identifier, kept_members, member_name, typed_feature}
 use Rattle.topojson_decoder.specs.Geometries.{IsParts}
 use Rattle.topojson_decoder.specs.Kept.{of_option, of_read}
-use Rattle.topojson_decoder.specs.Members.{GoesOnWith, IsOccurrence, Judges, FindsValue, see}
+use Rattle.topojson_decoder.specs.Members.{GoesOnWith, IsOccurrence, Judges, see}
 use Rattle.topojson_decoder.proofs.KeptParts.{whole_option}
 use Rattle.topojson_decoder.proofs.PartsSeen.{sees_word}
 use Rattle.topojson_decoder.proofs.MemberOccurrences.{member_goes_on, no_other, passes, sees}

@@ -1,6 +1,6 @@
 -- A geometry by its members.
-use Rattle.std.proofs.Common.{◌≡◌, ℕ, List, [], ◌∷◌, ◌++◌, Option, Some, None, Result, Ok, Err, refl, ap, ◌∙◌}
-use Rattle.std.specs.Prelude.{codes, option_to_list}
+use Rattle.std.proofs.Common.{◌≡◌, ℕ, List, [], ◌∷◌, Option, Some, None, Result, Ok, Err, refl, ap, ◌∙◌}
+use Rattle.std.specs.Prelude.{codes}
 use Rattle.std.specs.Borrow.{Bor}
 use Rattle.json_value.specs.declared.json.Json.{Json}
 use Rattle.json_value.specs.declared.json.Json.TheVariants as j
@@ -11,6 +11,7 @@ use Rattle.json_cursor.specs.Kinds.{kind_in, kind_of}
 use Rattle.json_value.proofs.KindsOf.{array_of-array, object_of-object}
 use Rattle.json_value.specs.Members.{Members, named}
 use Rattle.json_reading.specs.declared.fault.Fault.{Fault}
+use Rattle.json_reading.specs.declared.fault.Fault.TheVariants as fault
 use Rattle.json_reading.specs.Passes.{Passes}
 use Rattle.json_cursor.specs.Arrays.{prefix_value}
 use Rattle.geometry.specs.Points.{Point}
@@ -27,15 +28,12 @@ use Rattle.topojson_meaning.specs.Members.{need}
 use Rattle.topojson_meaning.specs.Reader.{Reader, gather, kept}
 use Rattle.topojson_meaning.specs.Shapes as shapes
 use Rattle.topojson_decoder.proofs.Unrolling as unrolling
-use Rattle.json_cursor.specs.Answers.{Reads, Stops}
-use Rattle.json_cursor.specs.Folds.{some_one, with_read}
-use Rattle.json_cursor.proofs.Steps.{made, made_reads, made_stops}
-use Rattle.json_cursor.specs.declared.stop.Stop.{Stop}
-use Rattle.json_cursor.specs.declared.stop.Stop.TheVariants as stop
+use Rattle.json_cursor.specs.Answers.{Reads}
+use Rattle.json_cursor.specs.Held.{Finds, FindsValue, IsHeld}
+use Rattle.json_cursor.proofs.Steps.{made}
 use Rattle.topojson_decoder.specs.Geometries.{ReadsPart, textless_type}
 use Rattle.topojson_decoder.specs.declared.geometry_parts.Read.{Read}
 use Rattle.topojson_decoder.specs.declared.geometry_parts.Start.{Start}
-use Rattle.topojson_decoder.specs.Members.{Judges}
 
 -- ---- a value that is passed over
 
@@ -134,14 +132,10 @@ module _ (t : Option Transform) (arcs : List (List Point)) where
   unfolding gather
   no_elements prefix rest old is = record { value = j.Array []; prefix_is = is; means = array_shapes [] old }
 
-  -- ---- one geometry more
-
-  pub taken_stops : (now : List TopoShape) (prefix : Option (Json × List ℕ)) (old : Counts) (why : Stop TopoFault) → Stops (shapes.shape t arcs) prefix old why
-      → Stops (with_read (some_one (shapes.shape t arcs)) now) prefix old why
-  taken_stops now prefix old (stop.Fault e) h = λ v rest found. rw (h v rest found) refl
-  taken_stops now prefix old stop.NoValue h = h
-  taken_stops now prefix old stop.Memory h = tt
-
-  pub taken_reads : (now : List TopoShape) (prefix : Option (Json × List ℕ)) (x : Option TopoShape) (rest : List ℕ) (old new : Counts) → Reads (shapes.shape t arcs) prefix x rest old new
-      → Reads (with_read (some_one (shapes.shape t arcs)) now) prefix (now ++ option_to_list x) rest old new
-  taken_reads now prefix x rest old new r = record { value = r.value; prefix_is = r.prefix_is; means = rw r.means refl }
+  -- what is held of the elements is held of their array
+  module _ (found : Option (List Json × List ℕ)) (old new : Counts) (d : ℕ) (bytes : List ℕ) (is : prefix_value d bytes ≡ made j.Array found) where
+    pub array_held : (answer : Result (Result (List TopoShape) TopoFault × Bor (List ℕ)) Fault) → Finds (IsHeld (kept (shapes.shape t arcs)) old new) found answer → FindsValue (IsHeld (shapes.shapes t arcs) old new) d bytes answer
+    array_held (Ok (Ok ss, rest)) h = (j.Array h.0, is ∙ ap (made j.Array) h.1, array_shapes h.0 old ∙ h.2)
+    array_held (Ok (Err e, rest)) h = (j.Array h.0, is ∙ ap (made j.Array) h.1, array_shapes h.0 old ∙ h.2)
+    array_held (Err (fault.Malformed why left)) h = is ∙ ap (made j.Array) h
+    array_held (Err fault.Memory) h = tt

@@ -4,7 +4,6 @@ pub mod Ends
 pub mod FeatureLists
 pub mod FeatureParts
 pub mod GeometryParts
-pub mod HeldGeometries
 pub mod IndexParts
 pub mod KeptParts
 pub mod LeapBlocks

@@ -20,12 +20,13 @@ use Rattle.json_cursor.specs.Arrays.{array_by, prefix_value}
 use Rattle.json_reading.specs.declared.fault.Fault.{Fault}
 use Rattle.json_reading.specs.Passes.{Passes}
 use Rattle.json_cursor.specs.Folds.{fold}
+use Rattle.json_cursor.specs.Held.{IsHeld}
 use Rattle.json_cursor.specs.Kinds.{kind_in, kind_of}
 use Rattle.topojson_decoder.specs.declared.occurrence.Occurrence.{Occurrence}
 use Rattle.topojson_decoder.specs.declared.occurrence.Occurrence.TheVariants.{Never, Once, Again}
 use Rattle.topojson_decoder.specs.declared.transforms.NumberTexts.{NumberTexts}
 use Rattle.topojson_decoder.specs.declared.transforms.TransformParts.{TransformParts}
-use Rattle.topojson_decoder.specs.Members.{GoesOnWith, IsHeld, IsOccurrence, see}
+use Rattle.topojson_decoder.specs.Members.{GoesOnWith, IsOccurrence, see}
 use Rattle.topojson_decoder.specs.Transforms.{IsTexts, IsTransform, both_of, needed, other_transform, put, take, take_in}
 use Rattle.topojson_decoder.proofs.MemberOccurrences.{no_other, passes, sees}
 

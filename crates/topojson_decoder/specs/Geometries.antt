@@ -17,7 +17,8 @@ use Rattle.topojson_meaning.specs.Shapes as shapes
 use Rattle.json_cursor.specs.declared.kinds.Kind.{Kind}
 use Rattle.json_cursor.specs.declared.kinds.Kind.TheVariants.{Null}
 use Rattle.json_cursor.specs.Arrays.{prefix_value}
-use Rattle.topojson_decoder.specs.Members.{BeginsAt, IsHeld, IsOccurrence, IsOnly}
+use Rattle.json_cursor.specs.Held.{IsHeld}
+use Rattle.topojson_decoder.specs.Members.{BeginsAt, IsOccurrence, IsOnly}
 use Rattle.topojson_decoder.specs.declared.geometry_parts.PartType.{PartType}
 use Rattle.topojson_decoder.specs.declared.geometry_parts.PartType.TheVariants.{Places, Arcs}
 use Rattle.topojson_decoder.specs.declared.geometry_parts.GeometryParts.{GeometryParts}

@@ -12,8 +12,9 @@ use Rattle.topojson_types.specs.declared.transform.Transform.{Transform}
 use Rattle.topojson_meaning.specs.declared.fault.TopoFault.{TopoFault}
 use Rattle.topojson_meaning.specs.Arcs.{arc_list}
 use Rattle.json_cursor.specs.Arrays.{prefix_value}
+use Rattle.json_cursor.specs.Held.{IsHeld}
 use Rattle.json_cursor.specs.Members.{TakesMember, TakesMembers, prefix_member}
-use Rattle.topojson_decoder.specs.Members.{BeginsAt, IsHeld, IsOccurrence, TakesValue}
+use Rattle.topojson_decoder.specs.Members.{BeginsAt, IsOccurrence, TakesValue}
 use Rattle.topojson_decoder.specs.Transforms.{IsTransformOf}
 use Rattle.topojson_decoder.specs.declared.index.FoundArcs.{FoundArcs}
 use Rattle.topojson_decoder.specs.declared.index.Index.{Index}

@@ -1,5 +1,5 @@
 -- Members of objects that are looked up, as they were seen among the others.
-use Rattle.std.specs.Prelude.{◌≡◌, ℕ, List, [], ◌∷◌, ◌++◌, Option, Some, Result, Ok, Err}
+use Rattle.std.specs.Prelude.{◌≡◌, ℕ, List, [], ◌∷◌, ◌++◌, Some, Result, Ok, Err}
 use Rattle.std.specs.Borrow.{Bor}
 use Rattle.json_value.specs.declared.json.Json.{Json}
 use Rattle.json_value.specs.Members.{Members}
@@ -37,16 +37,6 @@ IsOnly Is (v ∷ w ∷ us) = Unit {0}
 abbrev pub BeginsAt : ℕ → Json → Bor (List ℕ) → Type 0
 BeginsAt d v prefix = (rest : List ℕ) × (prefix_value d prefix.now ≡ Some (v, rest))
 
--- a value stands at the front, of which this is known, and this follows it; or none stands there, or nothing is said
-abbrev pub FindsValue : {A : Type 0} → (Json → A → Type 0) → ℕ → List ℕ → Result (A × Bor (List ℕ)) Fault → Type 0
-FindsValue Is d bytes (Ok x) = (v : Json) × (prefix_value d bytes ≡ Some (v, x.1.now)) × Is v x.0
-FindsValue Is d bytes (Err fault) = Fails fault (prefix_value d bytes)
-
--- something stands at the front, of which this is known, and this follows it; or nothing stands there, or nothing is said
-abbrev pub Finds : {V A : Type 0} → (V → A → Type 0) → Option (V × List ℕ) → Result (A × Bor (List ℕ)) Fault → Type 0
-Finds {V} Is prefix (Ok x) = (v : V) × (prefix ≡ Some (v, x.1.now)) × Is v x.0
-Finds Is prefix (Err fault) = Fails fault prefix
-
 -- this is read, or the fault is the reader's, or nothing is said
 abbrev pub Judges : {B : Type 0} → Reader B → Counts → Counts → Result B (Stop TopoFault) → Type 0
 Judges read old new (Ok x) = read old ≡ Ok (x, new)
@@ -65,8 +55,3 @@ pub record TakesValue {S : Type 0} (Holds : Made S) (d : ℕ) (name : List ℕ) 
 abbrev pub GoesOnWith : {S : Type 0} → Made S → ℕ → List ℕ → S → S → List ℕ → Result (Bor (List ℕ)) Fault → Type 0
 GoesOnWith Holds d name before after bytes (Ok rest) = TakesValue Holds d name before after bytes rest.now
 GoesOnWith Holds d name before after bytes (Err fault) = Fails fault (prefix_value d bytes)
-
--- this is what the value is read as from these counts on, with these after it, or its fault
-abbrev pub IsHeld : {B : Type 0} → (Json → Reader B) → Counts → Counts → Json → Result B TopoFault → Type 0
-IsHeld read old new v (Ok x) = read v old ≡ Ok (x, new)
-IsHeld read old new v (Err e) = read v old ≡ Err e

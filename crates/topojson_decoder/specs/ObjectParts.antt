@@ -4,6 +4,7 @@ use Rattle.std.specs.Option.{option_copied}
 use Rattle.json_value.specs.declared.json.Json.{Json}
 use Rattle.json_value.specs.Members.{Members, named}
 use Rattle.geometry.specs.Points.{Point}
+use Rattle.json_cursor.specs.Held.{IsHeld}
 use Rattle.topojson_types.specs.declared.feature.TopoFeature.{TopoFeature}
 use Rattle.topojson_types.specs.declared.object.TopoObject.{TopoObject}
 use Rattle.topojson_types.specs.declared.transform.Transform.{Transform}
@@ -12,7 +13,7 @@ use Rattle.topojson_meaning.specs.Objects as objects
 use Rattle.topojson_meaning.specs.Reader.{Reader, ◌>>=◌, pure}
 use Rattle.topojson_decoder.specs.Features.{IsFeature}
 use Rattle.topojson_decoder.specs.Kept.{kept_features, making, of_object}
-use Rattle.topojson_decoder.specs.Members.{BeginsAt, IsHeld, IsOccurrence}
+use Rattle.topojson_decoder.specs.Members.{BeginsAt, IsOccurrence}
 use Rattle.topojson_decoder.specs.declared.geometry_parts.Start.{Start}
 use Rattle.topojson_decoder.specs.declared.object_parts.Features.{Features}
 use Rattle.topojson_decoder.specs.declared.object_parts.ObjectParts.{ObjectParts}

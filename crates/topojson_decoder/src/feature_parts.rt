@@ -2,13 +2,14 @@
 ghost use Rattle.std.specs.Prelude.{◌≡◌, [], ℕ, IfSome, List, None, Ok, Option, Result, codes, true};
 ghost use Rattle.json_value.specs.declared.json.Json.{Json as Value};
 ghost use Rattle.json_value.specs.Members.{Members as Listed};
+ghost use Rattle.json_cursor.specs.Held.{FindsValue};
 ghost use Rattle.json_cursor.specs.Members.{GoesOn};
 ghost use Rattle.json_reading.specs.Strings.{simple};
 ghost use Rattle.topojson_meaning.specs.Answers.{Finds};
 ghost use Rattle.topojson_meaning.specs.Features.{identifier as identifier_in, members_if};
 ghost use Rattle.topojson_meaning.specs.declared.fault.TopoFault.{TopoFault as Refusal};
 ghost use Rattle.topojson_decoder.specs.Features.{IsFeature, IsFound, IsMemberAt, blank_identifier, blank_members, feature, found_in as found_among, kept_identifier, kept_members, member_name};
-ghost use Rattle.topojson_decoder.specs.Members.{FindsValue, GoesOnWith, IsOccurrence, Judges};
+ghost use Rattle.topojson_decoder.specs.Members.{GoesOnWith, IsOccurrence, Judges};
 ghost use Rattle.topojson_decoder.specs.declared.geometry_parts.Start.{Start as Begun};
 
 use crate::geometries::{member_value, typed_of};

@@ -4,13 +4,13 @@ ghost use Rattle.std.specs.Option.{option_copied};
 ghost use Rattle.json_value.specs.Members.{Members as Listed, named};
 ghost use Rattle.json_cursor.specs.Answers.{Answers};
 ghost use Rattle.json_cursor.specs.Arrays.{prefix_elements, prefix_value};
-ghost use Rattle.json_cursor.specs.Held.{IsHeld as AreHeld};
+ghost use Rattle.json_cursor.specs.Held.{Finds, FindsValue, IsHeld};
 ghost use Rattle.json_cursor.specs.Members.{GoesOn, GoesThrough, TakesAll, prefix_members};
 ghost use Rattle.topojson_meaning.specs.Reader.{kept};
 ghost use Rattle.topojson_meaning.specs.Shapes.{shape, shapes};
 ghost use Rattle.topojson_meaning.specs.declared.geometry_type.GeometryType.TheVariants as types;
 ghost use Rattle.topojson_decoder.specs.Geometries.{IsGroup, IsParts, geometry, typed_shape};
-ghost use Rattle.topojson_decoder.specs.Members.{Finds, FindsValue, GoesOnWith, IsHeld, IsOccurrence, Judges};
+ghost use Rattle.topojson_decoder.specs.Members.{GoesOnWith, IsOccurrence, Judges};
 ghost use Rattle.topojson_decoder.specs.declared.geometry_parts.Start.{Start as Begun};
 
 use crate::geometry_parts::{GeometryParts, Group, PartType, Start, kind_of, part_of};
@@ -270,7 +270,7 @@ fn geometries_after<'a>(
     inside: &'a [u8],
     counts: &mut Counts,
 ) -> Result<(Result<Items<TopoShape>, TopoFault>, &'a [u8]), Fault>
-    ensures { Finds (AreHeld (kept (shape (option_copied by.entry.transform) by.entry.arcs.now)) counts.old counts.new) (prefix_elements depth_left (length inside.now) inside.now) result }
+    ensures { Finds (IsHeld (kept (shape (option_copied by.entry.transform) by.entry.arcs.now)) counts.old counts.new) (prefix_elements depth_left (length inside.now) inside.now) result }
 {
     let mut read = Vec::new(alloc);
     let mut rest = inside;

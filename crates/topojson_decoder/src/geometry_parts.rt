@@ -4,10 +4,11 @@ ghost use Rattle.json_value.specs.declared.json.Json.{Json as Value};
 ghost use Rattle.json_value.specs.Members.{Members as Listed, named};
 ghost use Rattle.json_cursor.specs.Answers.{Answers};
 ghost use Rattle.json_cursor.specs.Arrays.{prefix_value};
+ghost use Rattle.json_cursor.specs.Held.{FindsValue};
 ghost use Rattle.topojson_meaning.specs.GeometryTypes.{object_type, part_name};
 ghost use Rattle.topojson_decoder.specs.Geometries.{IsParts, IsRead, IsTaken, IsType, ReadsPart, of_part, part, typed_shape};
 ghost use Rattle.topojson_decoder.specs.Geometries as spec;
-ghost use Rattle.topojson_decoder.specs.Members.{BeginsAt, FindsValue, GoesOnWith, IsOccurrence, Judges};
+ghost use Rattle.topojson_decoder.specs.Members.{BeginsAt, GoesOnWith, IsOccurrence, Judges};
 ghost use Rattle.topojson_decoder.specs.declared.geometry_parts.Start.{Start as Begun};
 
 use crate::held::held;

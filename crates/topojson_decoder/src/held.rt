@@ -3,8 +3,8 @@ ghost use Rattle.json_value.specs.declared.json.Json.{Json as Value};
 ghost use Rattle.geojson_types.specs.declared.counts.Counts.{Counts};
 ghost use Rattle.json_cursor.specs.Answers.{Answers};
 ghost use Rattle.json_cursor.specs.Arrays.{prefix_value};
+ghost use Rattle.json_cursor.specs.Held.{FindsValue, IsHeld};
 ghost use Rattle.topojson_meaning.specs.Reader.{Reader};
-ghost use Rattle.topojson_decoder.specs.Members.{IsHeld, FindsValue};
 
 use json_cursor::Stop;
 use json_reading::{Fault, Why, after_value};

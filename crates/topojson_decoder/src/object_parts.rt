@@ -5,9 +5,10 @@ ghost use Rattle.json_value.specs.declared.json.Json.{Json as Value};
 ghost use Rattle.json_value.specs.Members.{Members as Listed, named};
 ghost use Rattle.json_cursor.specs.Answers.{Answers};
 ghost use Rattle.json_cursor.specs.Arrays.{prefix_value};
+ghost use Rattle.json_cursor.specs.Held.{FindsValue};
 ghost use Rattle.topojson_meaning.specs.Objects.{object};
 ghost use Rattle.topojson_decoder.specs.Kept.{kept_object};
-ghost use Rattle.topojson_decoder.specs.Members.{GoesOnWith, IsOccurrence, Judges, FindsValue};
+ghost use Rattle.topojson_decoder.specs.Members.{GoesOnWith, IsOccurrence, Judges};
 ghost use Rattle.topojson_decoder.specs.ObjectParts.{AreFeatures, IsObject, collection, features, kept_typed_object};
 ghost use Rattle.topojson_decoder.specs.declared.geometry_parts.Start.{Start as Begun};
 

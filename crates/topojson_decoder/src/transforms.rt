@@ -2,9 +2,9 @@
 ghost use Rattle.std.specs.Prelude.{◌≡◌, []};
 ghost use Rattle.json_value.specs.Members.{Members as Listed};
 ghost use Rattle.geojson_types.specs.declared.counts.Counts.{Counts as Counted};
+ghost use Rattle.json_cursor.specs.Held.{FindsValue};
 ghost use Rattle.topojson_meaning.specs.Reader.{pure};
 ghost use Rattle.topojson_meaning.specs.Transforms.{transform_members, transform_number, transform_pair};
-ghost use Rattle.topojson_decoder.specs.Members.{FindsValue};
 ghost use Rattle.topojson_decoder.specs.Transforms.{IsTexts, IsTransform, IsTransformOf};
 ghost use Rattle.topojson_decoder.specs.Transforms as spec;
 

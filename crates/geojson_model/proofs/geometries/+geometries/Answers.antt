@@ -1,157 +1,188 @@
-use Rattle.std.proofs.Common.{[], ◌-◌, List, Ok, ap, length, refl, subst, sym, ◌∙◌}
+use Rattle.std.proofs.Common.{[], ◌-◌, List, Ok, ap, length, refl, sym, ◌∙◌, arith}
+use Rattle.std.proofs.lemmas.Result.{err_from_is_err_and}
+use Rattle.json_value.specs.declared.json.Json.TheVariants as j
 use Rattle.geojson_types.specs.Features.{Shape}
-use Rattle.json_cursor.specs.Answers.{Reads}
-use Rattle.std.specs.Str.{is_utf8}
-use Rattle.json_value.specs.Reading.{value_at}
 use Rattle.json_cursor.specs.Arrays.{prefix_elements, prefix_value}
-use Rattle.json_cursor.specs.Folds.{fold, some_one, with_read}
-use Rattle.json_cursor.proofs.ArrayParts.{as_list, same_reads, same_stops}
-use Rattle.json_cursor.proofs.FoldedSoFar as so_far
-use Rattle.json_cursor.proofs.Openings.{is_empty, is_filled, is_no_array, too_deep}
-use Rattle.json_cursor.proofs.Steps.{text_stops}
-use Rattle.geojson_meaning.specs.Geometries.{geometry, shape, shapes, typed_geometry}
-use Rattle.geojson_meaning.specs.Reader.{kept}
-use Rattle.geojson_meaning.specs.declared.types.GeometryType.TheVariants as types
-use Rattle.geojson_model.proofs.UsualGeometries.{is_usual, led_faulty, led_nothing, led_read, led_twice, one_byte}
+use Rattle.json_cursor.specs.Names.{name_of}
+use Rattle.json_cursor.proofs.KeptSoFar as held
+use Rattle.json_cursor.proofs.MemberParts as members
+use Rattle.json_cursor.proofs.MemberParts.{malformed}
+use Rattle.json_cursor.proofs.Openings.{is_empty, is_filled, is_no_array, is_no_object, members_fail, no_members, object_deep, some_members, too_deep}
+use Rattle.geojson_meaning.specs.Geometries.{shape}
+use Rattle.geojson_meaning.specs.Members.{named}
+use Rattle.std.proofs.Common.{◌++◌, ◌∷◌, subst}
+use Rattle.std.specs.Prelude.{codes}
+use Rattle.geojson_model.specs.Members.{IsCoordinates, IsGroup, IsOccurrence, IsParts, IsType}
 use Rattle.geojson_model.proofs.GeometryParts as part
-use Rattle.geojson_model.proofs.MemberOccurrences.{judged, judged_read}
+use Rattle.geojson_model.proofs.MemberOccurrences.{member_sees, not_other, passes, sees}
 use Rattle.geojson_model.proofs.geometries.+geometries.Goals as goal
 
-pub group_of-returns-in-Never : goal.group_of-returns-in-Never
-group_of-returns-in-Never t c = λ ms occurrence. part.no_geometries c.args.start.exact ms c.args.start.counts (rw c.in-Never.is at occurrence)
+pub member_value-returns-then-is : goal.member_value-returns-then-is
+member_value-returns-then-is t c =
+    let d = c.args.depth_left in
+    let name = name_of c.args.name.now in
+    let found = c.in_ok-shapes.ensures in
+    let same = sym c.if-is.ensures in
+    let parts = c.args.parts.now in (
+      found.0,
+      found.1,
+      λ ms h. record {
+        kind = passes IsType (codes "type") ms name found.0 parts.kind h.kind (not_other name (codes "geometries") (codes "type") same refl);
+        coordinates = passes (IsCoordinates c.args.start d) (codes "coordinates") ms name found.0 parts.coordinates h.coordinates (not_other name (codes "geometries") (codes "coordinates") same refl);
+        geometries = subst (λ s. IsOccurrence (IsGroup c.args.start) (named (codes "geometries") (ms ++ (name, found.0) ∷ [])) s) (sym c.see.ensures) (sees (IsGroup c.args.start) (codes "geometries") ms name found.0 parts.geometries h.geometries _ same found.2);
+      },
+    )
 
-pub group_of-returns-in-Again : goal.group_of-returns-in-Again
-group_of-returns-in-Again t c = λ ms occurrence.
-    let s = rw c.in-Again.is at occurrence in
-    part.more_geometries c.args.start.exact ms c.args.start.counts s.0 s.1 s.2 s.3
+pub member_at-returns : goal.member_at-returns
+member_at-returns t c =
+    member_sees (IsParts c.args.start c.args.depth_left) c.args.depth_left c.args.bytes.now (name_of c.in_ok-name.name) c.in_ok-name.value.now _ _ (c.in_ok-name.ensures c.args.depth_left) c.member_value.result c.member_value.ensures
 
-pub group_of-returns-in-Err : goal.group_of-returns-in-Err
-group_of-returns-in-Err t c = λ ms occurrence.
-    let s = rw c.in-Once.is at occurrence in
-    part.judged_group c.args.start.exact ms c.args.start.counts s.0 s.1 c.geometries_at.new.counts c.in-Err.stop
-    (judged (shapes c.args.start.exact) (prefix_value c.args.depth_left c.in-Once.prefix.now) s.0 s.2.0 c.args.start.counts c.geometries_at.new.counts s.2.1 c.in-Err.stop c.in-Err.ensures)
+pub members_after-returns-in_err-following : goal.members_after-returns-in_err-following
+members_after-returns-in_err-following t c =
+    let p = err_from_is_err_and c.from_residual.result c.from_residual.ensures.1 in
+    rw (p.1, p.2)
+    (members.no_member (IsParts c.args.start c.args.depth_left) _ _ _ _ _ _ _ c.members.invariant c.members-test.true _ (rw c.skip.ensures at c.in_err-following.ensures))
 
-pub group_of-returns-in-Ok : goal.group_of-returns-in-Ok
-group_of-returns-in-Ok t c = λ ms occurrence.
-    let s = rw c.in-Once.is at occurrence in
-    part.grouped c.args.start.exact ms c.args.start.counts s.0 s.1 _ c.geometries_at.new.counts
-    (judged_read (shapes c.args.start.exact) (prefix_value c.args.depth_left c.in-Once.prefix.now) s.0 s.2.0 c.args.start.counts c.geometries_at.new.counts s.2.1 _ _ c.in-Ok.ensures)
+pub members_after-returns-in-Some : goal.members_after-returns-in-Some
+members_after-returns-in-Some t c =
+    members.ends (IsParts c.args.start c.args.depth_left) _ _ _ _ _ _ _ c.members.invariant c.members-test.true _ _ (rw c.skip.ensures at c.in_ok-following.ensures) _ (rw c.skip-mark.ensures at c.in-Some.ensures)
 
-pub shape_of-returns-in-Err : goal.shape_of-returns-in-Err
-shape_of-returns-in-Err t c = λ ms is.
-    part.is_of_kind c.args.start.exact ms c.args.start.counts c.args.parts.kind is.kind ∙ ap (part.by_geometry c.args.start.exact ms c.args.start.counts) (sym c.kind_of.ensures ∙ c.in-Err.is)
+pub members_after-returns-in_default-after_byte : goal.members_after-returns-in_default-after_byte
+members_after-returns-in_default-after_byte t c =
+    malformed _ _ c.broken.ensures
+    (members.breaks (IsParts c.args.start c.args.depth_left) _ _ _ _ _ _ _ c.members.invariant c.members-test.true _ _ (rw c.skip.ensures at c.in_ok-following.ensures) (rw c.skip-mark.ensures at c.in_default.ensures) (rw c.skip-mark.ensures at c.in_default-after_byte.ensures))
 
-pub shape_of-returns-in-Collection : goal.shape_of-returns-in-Collection
-shape_of-returns-in-Collection t c = λ ms is.
-    part.judges_same (geometry c.args.start.exact ms) (typed_geometry c.args.start.exact types.Collection ms) c.args.start.counts _
-    (part.is_of_kind c.args.start.exact ms c.args.start.counts c.args.parts.kind is.kind ∙ ap (part.by_geometry c.args.start.exact ms c.args.start.counts) (sym c.kind_of.ensures ∙ c.in-Ok.is ∙ ap Ok c.in-Collection.is))
-    c.group_of.result (c.group_of.ensures ms is.geometries)
+pub members_after-members-preserved : goal.members_after-members-preserved
+members_after-members-preserved t c =
+    members.goes_on (IsParts c.args.start c.args.depth_left) _ _ _ _ _ _ _ c.members.invariant c.members-test.true _ _ (rw c.skip.ensures at c.in_ok-following.ensures) _ (rw c.skip-mark.ensures at c.in-Some-after_byte.ensures)
 
-pub shape_of-returns-in-Coordinates : goal.shape_of-returns-in-Coordinates
-shape_of-returns-in-Coordinates t c = λ ms is.
-    part.judges_same (geometry c.args.start.exact ms) (typed_geometry c.args.start.exact (types.Coordinates c.in-Coordinates.kind) ms) c.args.start.counts _
-    (part.is_of_kind c.args.start.exact ms c.args.start.counts c.args.parts.kind is.kind ∙ ap (part.by_geometry c.args.start.exact ms c.args.start.counts) (sym c.kind_of.ensures ∙ c.in-Ok.is ∙ ap Ok c.in-Coordinates.is))
-    c.coordinates_of.result (c.coordinates_of.ensures ms is.coordinates)
+pub members_after-returns : goal.members_after-returns
+members_after-returns t c =
+    malformed _ _ c.broken-2.ensures (members.turns_over (IsParts c.args.start c.args.depth_left) _ _ _ _ _ _ _ c.members.invariant c.members-test.false)
 
-pub any_geometry_at-returns-in-Err : goal.any_geometry_at-returns-in-Err
-any_geometry_at-returns-in-Err t c = rw c.from.ensures (text_stops (shape c.args.exact) (prefix_value c.args.depth_left c.args.bytes.now) c.args.counts.now c.in-Err.fault c.in-Err.ensures)
+pub members_at-returns-in_default : goal.members_at-returns-in_default
+members_at-returns-in_default t c = is_no_object c.args.depth_left c.args.bytes.now c.in_default.ensures
 
-pub any_geometry_at-returns-in-Ok-None : goal.any_geometry_at-returns-in-Ok-None
-any_geometry_at-returns-in-Ok-None t c = λ v rest found. part.no_object c.args.exact v c.args.counts.now ((rw c.in-Ok-None.field-0-is at c.in-Ok-None.ensures) v rest found)
+pub members_at-returns-then-depth_left-eq0 : goal.members_at-returns-then-depth_left-eq0
+members_at-returns-then-depth_left-eq0 t c = malformed _ _ c.broken.ensures (object_deep c.args.depth_left c.args.bytes.now _ c.in-Some.ensures c.if-depth_left-eq0.true)
 
-pub any_geometry_at-returns-in-Err-shape_of : goal.any_geometry_at-returns-in-Err-shape_of
-any_geometry_at-returns-in-Err-shape_of t c =
-    let object = rw c.in-Ok-Some.field-0-is at c.in-Ok-Some.ensures in
-    part.object_stops c.args.exact (prefix_value c.args.depth_left c.args.bytes.now) object.members _ c.args.counts.now object.prefix c.shape_of.new.counts c.in-Err-shape_of.stop
-    (c.in-Err-shape_of.ensures object.members (object.holds (c.none-parts.ensures _ (c.args.depth_left - 1))))
+pub members_at-returns-in-Some-after_byte : goal.members_at-returns-in-Some-after_byte
+members_at-returns-in-Some-after_byte t c = record {
+  depth_left = omega (arith, c.if-depth_left-eq0.false);
+  members = [];
+  prefix = no_members c.args.depth_left c.args.bytes.now _ c.in-Some.ensures c.if-depth_left-eq0.false _ (rw c.skip.ensures at c.in-Some-after_byte.ensures);
+  holds = λ h. h;
+}
+
+pub members_at-returns-in_err-rest : goal.members_at-returns-in_err-rest
+members_at-returns-in_err-rest t c =
+    let p = err_from_is_err_and c.from_residual.result c.from_residual.ensures.1 in
+    rw (p.1, p.2)
+    (members_fail c.args.depth_left c.args.bytes.now _ c.in-Some.ensures c.if-depth_left-eq0.false (rw c.skip.ensures at c.in_default-after_byte.ensures) _ c.in_err-rest.ensures)
+
+pub members_at-returns : goal.members_at-returns
+members_at-returns t c =
+    let made = c.in_ok-rest.ensures in
+    record {
+      depth_left = omega (arith, c.if-depth_left-eq0.false);
+      members = made.members;
+      prefix = some_members c.args.depth_left c.args.bytes.now _ c.in-Some.ensures c.if-depth_left-eq0.false (rw c.skip.ensures at c.in_default-after_byte.ensures) made.members _ made.prefix;
+      holds = made.holds;
+    }
+
+pub any_geometry_at-returns-in_ok-rest-in-Ok-None : goal.any_geometry_at-returns-in_ok-rest-in-Ok-None
+any_geometry_at-returns-in_ok-rest-in-Ok-None t c =
+    let found = c.in_ok-rest-in-Ok-None.ensures in
+    (found.0, found.1, part.no_object c.args.exact found.0 c.args.counts.now ((rw c.in-Ok-None.field-0-is at c.in-Ok-None.ensures) found.0 _ found.1))
 
 pub any_geometry_at-returns-in-Ok : goal.any_geometry_at-returns-in-Ok
 any_geometry_at-returns-in-Ok t c =
     let object = rw c.in-Ok-Some.field-0-is at c.in-Ok-Some.ensures in
-    part.object_reads c.args.exact (prefix_value c.args.depth_left c.args.bytes.now) object.members _ c.args.counts.now object.prefix _ c.shape_of.new.counts
-    (c.in-Ok.ensures object.members (object.holds (c.none-parts.ensures _ (c.args.depth_left - 1))))
+    (j.Object object.members, object.prefix, part.object_shape c.args.exact object.members c.args.counts.now ∙ c.in-Ok.ensures object.members (object.holds (c.none-parts.ensures _ (c.args.depth_left - 1))))
+
+pub any_geometry_at-returns-in-Err-Fault : goal.any_geometry_at-returns-in-Err-Fault
+any_geometry_at-returns-in-Err-Fault t c =
+    let object = rw c.in-Ok-Some.field-0-is at c.in-Ok-Some.ensures in
+    (j.Object object.members, object.prefix, part.object_shape c.args.exact object.members c.args.counts.now ∙ (rw c.in-Err-Fault.field-0-is at c.in-Err-Fault.ensures) object.members (object.holds (c.none-parts.ensures _ (c.args.depth_left - 1))))
+
+pub any_geometry_at-returns-in-Err-NoValue : goal.any_geometry_at-returns-in-Err-NoValue
+any_geometry_at-returns-in-Err-NoValue t c =
+    let object = rw c.in-Ok-Some.field-0-is at c.in-Ok-Some.ensures in
+    absurd ((rw c.in-Err-NoValue.field-0-is at c.in-Err-NoValue.ensures) object.members (object.holds (c.none-parts.ensures _ (c.args.depth_left - 1))))
+
+pub held_geometry_at-returns-in-Ok : goal.held_geometry_at-returns-in-Ok
+held_geometry_at-returns-in-Ok t c =
+    let r = c.in-Ok.ensures in
+    (r.value, r.prefix_is, r.means)
+
+pub held_geometry_at-returns-in_ok-rest-in-Err-Fault : goal.held_geometry_at-returns-in_ok-rest-in-Err-Fault
+held_geometry_at-returns-in_ok-rest-in-Err-Fault t c =
+    let found = c.in_ok-rest-in-Err-Fault.ensures in
+    (found.0, found.1, (rw c.in-Err-Fault.field-0-is at c.in-Err-Fault.ensures) found.0 _ found.1)
+
+pub held_geometry_at-returns-in-Err-NoValue : goal.held_geometry_at-returns-in-Err-NoValue
+held_geometry_at-returns-in-Err-NoValue t c = malformed _ _ c.broken.ensures (rw c.in-Err-NoValue.field-0-is at c.in-Err-NoValue.ensures)
 
 pub geometries_at-returns-in_default : goal.geometries_at-returns-in_default
-geometries_at-returns-in_default t c = λ v rest found. part.no_array c.args.exact v c.args.counts.now (is_no_array c.args.depth_left c.args.bytes.now c.in_default.ensures v rest found)
+geometries_at-returns-in_default t c =
+    let found = c.in_ok-rest.ensures in
+    (found.0, found.1, part.no_array c.args.exact found.0 c.args.counts.now (is_no_array c.args.depth_left c.args.bytes.now c.in_default.ensures found.0 _ found.1))
 
 pub geometries_at-returns-then-depth_left-eq0 : goal.geometries_at-returns-then-depth_left-eq0
-geometries_at-returns-then-depth_left-eq0 t c = too_deep c.args.depth_left c.args.bytes.now _ c.in-Some.ensures c.if-depth_left-eq0.true
+geometries_at-returns-then-depth_left-eq0 t c = malformed _ _ c.broken.ensures (too_deep c.args.depth_left c.args.bytes.now _ c.in-Some.ensures c.if-depth_left-eq0.true)
 
 pub geometries_at-returns-in-Some-after_byte : goal.geometries_at-returns-in-Some-after_byte
 geometries_at-returns-in-Some-after_byte t c =
-    subst (λ (ss : List Shape). Reads (shapes c.args.exact) (prefix_value c.args.depth_left c.args.bytes.now) ss c.in-Some-after_byte.rest.now c.args.counts.now c.args.counts.now) (sym (c.of.ensures ∙ c.new.ensures.items))
-    (part.no_elements c.args.exact (prefix_value c.args.depth_left c.args.bytes.now) _ c.args.counts.now
-    (is_empty c.args.depth_left c.args.bytes.now _ c.in-Some.ensures c.if-depth_left-eq0.false _ (rw c.skip.ensures at c.in-Some-after_byte.ensures)))
+    let r = part.no_elements c.args.exact (prefix_value c.args.depth_left c.args.bytes.now) _ c.args.counts.now
+    (is_empty c.args.depth_left c.args.bytes.now _ c.in-Some.ensures c.if-depth_left-eq0.false _ (rw c.skip.ensures at c.in-Some-after_byte.ensures)) in
+    (r.value, r.prefix_is, r.means ∙ ap (λ (ss : List Shape). Ok (ss, c.args.counts.now)) (sym (c.of.ensures ∙ c.new.ensures.items)))
 
-pub geometries_at-returns-in-Err : goal.geometries_at-returns-in-Err
-geometries_at-returns-in-Err t c =
-    part.elements_stop c.args.exact (prefix_value c.args.depth_left c.args.bytes.now) (prefix_elements (c.args.depth_left - 1) (length c.in-Some.inside.now) c.in-Some.inside.now) c.args.counts.now
-    (is_filled c.args.depth_left c.args.bytes.now _ c.in-Some.ensures c.if-depth_left-eq0.false (rw c.skip.ensures at c.in_default-after_byte.ensures)) c.in-Err.stop c.in-Err.ensures
-
-pub geometries_at-returns-in-Ok : goal.geometries_at-returns-in-Ok
-geometries_at-returns-in-Ok t c =
-    rw c.of-in-Ok.ensures
-    (part.elements_read c.args.exact (prefix_value c.args.depth_left c.args.bytes.now) (prefix_elements (c.args.depth_left - 1) (length c.in-Some.inside.now) c.in-Some.inside.now) c.args.counts.now
-    (is_filled c.args.depth_left c.args.bytes.now _ c.in-Some.ensures c.if-depth_left-eq0.false (rw c.skip.ensures at c.in_default-after_byte.ensures)) _ _ _ c.in-Ok.ensures)
+pub geometries_at-returns : goal.geometries_at-returns
+geometries_at-returns t c =
+    part.array_held c.args.exact (prefix_elements (c.args.depth_left - 1) (length c.in-Some.inside.now) c.in-Some.inside.now) c.args.counts.now _ c.args.depth_left c.args.bytes.now
+    (is_filled c.args.depth_left c.args.bytes.now _ c.in-Some.ensures c.if-depth_left-eq0.false (rw c.skip.ensures at c.in_default-after_byte.ensures)) c.geometries_after.result c.geometries_after.ensures
 
 pub geometries_after-geometries-init : goal.geometries_after-geometries-init
 geometries_after-geometries-init t c =
-    rw c.new-read.ensures.items (so_far.starts (with_read (some_one (shape c.args.exact))) (value_at is_utf8 c.args.depth_left) (length c.args.inside.now) (prefix_elements c.args.depth_left (length c.args.inside.now) c.args.inside.now) [] c.args.counts.now c.args.inside.now refl)
+    rw c.new-read.ensures.items (held.starts (shape c.args.exact) c.args.depth_left (length c.args.inside.now) c.args.inside.now c.args.counts.now)
+
+pub geometries_after-returns-in_err-one : goal.geometries_after-returns-in_err-one
+geometries_after-returns-in_err-one t c =
+    let p = err_from_is_err_and c.from_residual.result c.from_residual.ensures.1 in
+    rw (p.1, p.2)
+    (held.no_element (shape c.args.exact) c.args.depth_left (length c.args.inside.now) c.args.inside.now c.args.counts.now _ _ _ _ c.geometries.invariant c.geometries-test.true _ (rw c.skip.ensures at c.in_err-one.ensures))
+
+pub geometries_after-returns-in_err-end-in-Err : goal.geometries_after-returns-in_err-end-in-Err
+geometries_after-returns-in_err-end-in-Err t c =
+    let p = err_from_is_err_and c.from_residual-in_err-end-in-Err.result c.from_residual-in_err-end-in-Err.ensures.1 in
+    let found = rw c.skip.ensures at c.in_ok-one.ensures in
+    rw (p.1, p.2)
+    (held.others_fail (shape c.args.exact) c.args.depth_left (length c.args.inside.now) c.args.inside.now c.args.counts.now _ _ _ _ c.geometries.invariant c.geometries-test.true found.0 _ found.1 _ c.in_err-end-in-Err.ensures)
 
 pub geometries_after-returns-in-Err : goal.geometries_after-returns-in-Err
 geometries_after-returns-in-Err t c =
-    let read = some_one (shape c.args.exact) in
-    same_stops (fold (with_read read) []) (kept (shape c.args.exact)) (prefix_elements c.args.depth_left (length c.args.inside.now) c.args.inside.now) c.args.counts.now (λ vs. as_list read vs c.args.counts.now) c.in-Err.stop
-    (so_far.stops (with_read read) (value_at is_utf8 c.args.depth_left) _ _ _ _ _ _ _ _ c.geometries.invariant c.geometries-test.true c.in-Err.stop
-    (part.taken_stops c.args.exact _ _ _ c.in-Err.stop (rw c.skip.ensures at c.in-Err.ensures)))
+    let found = rw (c.skip.ensures, c.in-Err.is) at c.in_ok-one.ensures in
+    held.faulty (shape c.args.exact) c.args.depth_left (length c.args.inside.now) c.args.inside.now c.args.counts.now _ _ _ _ c.geometries.invariant c.geometries-test.true found.0 _ found.1 _ found.2 _ c.in_ok-end-in-Err.ensures
 
 pub geometries_after-returns-in-Neither : goal.geometries_after-returns-in-Neither
 geometries_after-returns-in-Neither t c =
-    so_far.breaks (with_read (some_one (shape c.args.exact))) (value_at is_utf8 c.args.depth_left) _ _ _ _ _ _ _ _ c.geometries.invariant c.geometries-test.true _ _ _
-    (part.taken_reads c.args.exact _ _ _ _ _ _ (rw c.skip.ensures at c.in-Ok.ensures)) (rw c.in-Neither.is at c.mark_at-mark.ensures)
+    let found = rw (c.skip.ensures, c.in-Ok.is) at c.in_ok-one.ensures in
+    malformed _ _ c.broken.ensures
+    (held.breaks (shape c.args.exact) c.args.depth_left (length c.args.inside.now) c.args.inside.now c.args.counts.now _ _ _ _ c.geometries.invariant c.geometries-test.true found.0 _ found.1 _ _ found.2 (rw c.in-Neither.is at c.mark_at-mark.ensures))
 
 pub geometries_after-returns-in-Close : goal.geometries_after-returns-in-Close
 geometries_after-returns-in-Close t c =
-    let read = some_one (shape c.args.exact) in
-    same_reads (fold (with_read read) []) (kept (shape c.args.exact)) (prefix_elements c.args.depth_left (length c.args.inside.now) c.args.inside.now) c.args.counts.now (λ vs. as_list read vs c.args.counts.now) _ _ _
-    (rw (sym c.in_ok-push_some-in-Ok.ensures) at (so_far.ends (with_read read) (value_at is_utf8 c.args.depth_left) _ _ _ _ _ _ _ _ c.geometries.invariant c.geometries-test.true _ _ _
-    (part.taken_reads c.args.exact _ _ _ _ _ _ (rw c.skip.ensures at c.in-Ok.ensures)) _ (rw c.in-Close.is at c.mark_at-mark.ensures)))
+    let found = rw (c.skip.ensures, c.in-Ok.is) at c.in_ok-one.ensures in
+    rw (c.of.ensures, c.in_ok-push_some-in-Ok.ensures)
+    (held.ends (shape c.args.exact) c.args.depth_left (length c.args.inside.now) c.args.inside.now c.args.counts.now _ _ _ _ c.geometries.invariant c.geometries-test.true found.0 _ found.1 _ _ found.2 _ (rw c.in-Close.is at c.mark_at-mark.ensures))
 
 pub geometries_after-geometries-preserved : goal.geometries_after-geometries-preserved
 geometries_after-geometries-preserved t c =
-    rw (sym c.in_ok-push_some-in-Ok.ensures) at (so_far.goes_on (with_read (some_one (shape c.args.exact))) (value_at is_utf8 c.args.depth_left) _ _ _ _ _ _ _ _ c.geometries.invariant c.geometries-test.true _ _ _
-    (part.taken_reads c.args.exact _ _ _ _ _ _ (rw c.skip.ensures at c.in-Ok.ensures)) _ (rw c.in-Comma.is at c.mark_at-mark.ensures))
+    let found = rw (c.skip.ensures, c.in-Ok.is) at c.in_ok-one.ensures in
+    rw c.in_ok-push_some-in-Ok.ensures
+    (held.goes_on (shape c.args.exact) c.args.depth_left (length c.args.inside.now) c.args.inside.now c.args.counts.now _ _ _ _ c.geometries.invariant c.geometries-test.true found.0 _ found.1 _ _ found.2 _ (rw c.in-Comma.is at c.mark_at-mark.ensures))
 
 pub geometries_after-returns : goal.geometries_after-returns
-geometries_after-returns t c = so_far.turns_over (with_read (some_one (shape c.args.exact))) (value_at is_utf8 c.args.depth_left) _ _ _ _ _ _ _ _ c.geometries.invariant c.geometries-test.false
-
-pub part_at-returns-in-Coordinates : goal.part_at-returns-in-Coordinates
-part_at-returns-in-Coordinates t c = rw c.in-Coordinates.is c.coordinates_at.ensures
-
-pub part_at-returns-in-Err : goal.part_at-returns-in-Err
-part_at-returns-in-Err t c = rw c.in-Collection.is (part.group_stops c.args.exact (prefix_value c.args.depth_left c.args.bytes.now) c.args.counts.now c.in-Err.stop c.in-Err.ensures)
-
-pub led_geometry_at-returns-in-Err-NoValue : goal.led_geometry_at-returns-in-Err-NoValue
-led_geometry_at-returns-in-Err-NoValue t c = led_nothing c.args.exact c.args.kind c.args.depth_left c.args.bytes.now c.args.prefix.now c.args.counts.now c.requires.leads (rw c.in-Err-NoValue.field-0-is at c.in-Err-NoValue.ensures)
-
-pub led_geometry_at-returns-in-None : goal.led_geometry_at-returns-in-None
-led_geometry_at-returns-in-None t c = λ v rest found. part.no_object c.args.exact v c.args.counts.now ((rw c.in-None.is at c.in_ok-found-in-Err-Fault.ensures) v rest found)
-
-pub led_geometry_at-returns-in-Some : goal.led_geometry_at-returns-in-Some
-led_geometry_at-returns-in-Some t c =
-    rw c.first_fault.ensures (led_faulty c.args.exact c.args.kind c.args.depth_left c.args.bytes.now c.args.prefix.now c.args.counts.now c.requires.leads c.in-Some.twice _ (rw c.in-Some.is at c.in_ok-found-in-Err-Fault.ensures) c.in-Err-Fault.fault (rw c.in-Err-Fault.field-0-is at c.in-Err-Fault.ensures))
-
-pub led_geometry_at-returns-in-Some-after_byte : goal.led_geometry_at-returns-in-Some-after_byte
-led_geometry_at-returns-in-Some-after_byte t c =
-    let r = c.in-Ok.ensures in
-    let begins = c.requires.begins r.value _ c.in-Some-after_byte.rest.now r.prefix_is (one_byte 125 _ _ (rw c.skip.ensures at c.in-Some-after_byte.ensures)) in
-    is_usual c.args.exact r.value begins.0 c.args.counts.now c.args.kind begins.1 _ c.part_at.new.counts r.means (prefix_value c.args.depth_left c.args.bytes.now) c.in-Some-after_byte.rest.now begins.2
-
-pub led_geometry_at-returns-in-Ok-None : goal.led_geometry_at-returns-in-Ok-None
-led_geometry_at-returns-in-Ok-None t c = λ v rest found. part.no_object c.args.exact v c.args.counts.now ((rw c.in-Ok-None.field-0-is at c.in-Ok-None.ensures) v rest found)
-
-pub led_geometry_at-returns-then-twice : goal.led_geometry_at-returns-then-twice
-led_geometry_at-returns-then-twice t c = led_twice c.args.exact c.args.kind c.args.depth_left c.args.bytes.now c.args.prefix.now c.args.counts.now c.requires.leads c.in-Ok-Some.twice _ (rw c.in-Ok-Some.field-0-is at c.in-Ok-Some.ensures) c.if-twice.true
-
-pub led_geometry_at-returns-else-twice : goal.led_geometry_at-returns-else-twice
-led_geometry_at-returns-else-twice t c = led_read c.args.exact c.args.kind c.args.depth_left c.args.bytes.now c.args.prefix.now c.args.counts.now c.requires.leads c.in-Ok-Some.twice _ (rw c.in-Ok-Some.field-0-is at c.in-Ok-Some.ensures) c.if-twice.false _ _ _ c.in-Ok.ensures
+geometries_after-returns t c =
+    malformed _ _ c.broken-2.ensures
+    (held.turns_over (shape c.args.exact) c.args.depth_left (length c.args.inside.now) c.args.inside.now c.args.counts.now _ _ _ _ c.geometries.invariant c.geometries-test.false)

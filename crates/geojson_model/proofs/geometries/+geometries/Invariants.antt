@@ -1,36 +1,38 @@
-use Rattle.std.proofs.Common.{◌+◌, ◌*◌, [], length}
-use Rattle.std.specs.Str.{is_utf8}
-use Rattle.json_value.specs.Reading.{value_at}
-use Rattle.json_cursor.specs.Arrays.{prefix_elements}
-use Rattle.json_cursor.specs.Folds.{some_one, with_read}
-use Rattle.json_cursor.proofs.FoldedSoFar.{FoldedSoFar}
+use Rattle.std.proofs.Common.{◌+◌, ◌*◌, length}
+use Rattle.json_cursor.specs.Members.{prefix_members}
+use Rattle.json_cursor.proofs.KeptSoFar.{ReadSoFar}
+use Rattle.json_cursor.proofs.MemberParts.{MembersSoFar}
 use Rattle.geojson_meaning.specs.Geometries.{shape}
+use Rattle.geojson_model.specs.Members.{IsParts}
 use Rattle.geojson_model.proofs.geometries.+geometries.Given as goal
-
-abbrev pub decreases-geometry_at : goal.decreases-geometry_at
-decreases-geometry_at l = 8 * l.depth_left + 6
-
-abbrev pub decreases-any_geometry_at : goal.decreases-any_geometry_at
-decreases-any_geometry_at l = 8 * l.depth_left + 5
-
-abbrev pub decreases-led_geometry_at : goal.decreases-led_geometry_at
-decreases-led_geometry_at l = 8 * l.depth_left + 5
-
-abbrev pub decreases-part_at : goal.decreases-part_at
-decreases-part_at l = 8 * l.depth_left + 1
-
-abbrev pub decreases-geometries_after : goal.decreases-geometries_after
-decreases-geometries_after l = 8 * l.depth_left + 7
 
 abbrev pub decreases-geometries_at : goal.decreases-geometries_at
 decreases-geometries_at l = 8 * l.depth_left
 
-abbrev pub decreases-group_of : goal.decreases-group_of
-decreases-group_of l = 8 * l.depth_left + 1
+abbrev pub decreases-member_value : goal.decreases-member_value
+decreases-member_value l = 8 * l.depth_left + 1
 
-abbrev pub decreases-shape_of : goal.decreases-shape_of
-decreases-shape_of l = 8 * l.depth_left + 2
+abbrev pub decreases-member_at : goal.decreases-member_at
+decreases-member_at l = 8 * l.depth_left + 2
+
+abbrev pub decreases-members_after : goal.decreases-members_after
+decreases-members_after l = 8 * l.depth_left + 3
+
+abbrev pub decreases-members_at : goal.decreases-members_at
+decreases-members_at l = 8 * l.depth_left + 4
+
+abbrev pub decreases-any_geometry_at : goal.decreases-any_geometry_at
+decreases-any_geometry_at l = 8 * l.depth_left + 5
+
+abbrev pub decreases-held_geometry_at : goal.decreases-held_geometry_at
+decreases-held_geometry_at l = 8 * l.depth_left + 6
+
+abbrev pub decreases-geometries_after : goal.decreases-geometries_after
+decreases-geometries_after l = 8 * l.depth_left + 7
+
+abbrev pub invariant-members_after-members : goal.invariant-members_after-members
+invariant-members_after-members l =
+    MembersSoFar (IsParts l.start l.depth_left) l.depth_left (length l.inside) (prefix_members l.depth_left (length l.inside) l.inside) l.fn.parts l.counter l.rest l.parts
 
 abbrev pub invariant-geometries_after-geometries : goal.invariant-geometries_after-geometries
-invariant-geometries_after-geometries l =
-    FoldedSoFar (with_read (some_one (shape l.exact))) (value_at is_utf8 l.depth_left) (length l.inside) (prefix_elements l.depth_left (length l.inside) l.inside) [] l.fn.counts l.counter l.rest l.read.items l.counts
+invariant-geometries_after-geometries l = ReadSoFar (shape l.exact) l.depth_left (length l.inside) l.inside l.fn.counts l.turn l.rest l.read.items l.counts

@@ -1,17 +1,17 @@
-use Rattle.std.proofs.Common.{[], ◌-◌, List, Ok, ap, length, refl, subst, sym, ◌∙◌, arith}
+use Rattle.std.proofs.Common.{[], ◌-◌, List, Ok, ap, length, sym, ◌∙◌, arith}
 use Rattle.std.specs.Option.{option_copied}
 use Rattle.std.proofs.lemmas.Result.{err_from_is_err_and}
 use Rattle.json_value.specs.declared.json.Json.TheVariants as j
 use Rattle.topojson_types.specs.Topologies.{TopoShape}
 use Rattle.json_cursor.specs.Arrays.{prefix_elements, prefix_value}
 use Rattle.json_cursor.specs.Names.{name_of}
+use Rattle.json_cursor.proofs.KeptSoFar as held
 use Rattle.json_cursor.proofs.MemberParts as members
 use Rattle.json_cursor.proofs.MemberParts.{malformed}
 use Rattle.json_cursor.proofs.Openings.{is_empty, is_filled, is_no_array, is_no_object, members_fail, no_members, object_deep, some_members, too_deep}
-use Rattle.topojson_meaning.specs.Shapes.{shapes}
+use Rattle.topojson_meaning.specs.Shapes.{shape}
 use Rattle.topojson_decoder.specs.Geometries.{IsParts}
 use Rattle.topojson_decoder.proofs.GeometryParts as part
-use Rattle.topojson_decoder.proofs.HeldGeometries as held
 use Rattle.topojson_decoder.proofs.MemberOccurrences.{member_goes_on}
 use Rattle.topojson_decoder.proofs.PartsSeen as occurrence
 use Rattle.topojson_decoder.proofs.geometries.+geometries.Goals as goal
@@ -123,50 +123,50 @@ geometries_at-returns-in-Some-after_byte t c =
 
 pub geometries_at-returns : goal.geometries_at-returns
 geometries_at-returns t c =
-    held.array_held (option_copied c.args.by.transform) c.args.by.arcs.now (prefix_elements (c.args.depth_left - 1) (length c.in-Some.inside.now) c.in-Some.inside.now) c.args.counts.now _ c.args.depth_left c.args.bytes.now
+    part.array_held (option_copied c.args.by.transform) c.args.by.arcs.now (prefix_elements (c.args.depth_left - 1) (length c.in-Some.inside.now) c.in-Some.inside.now) c.args.counts.now _ c.args.depth_left c.args.bytes.now
     (is_filled c.args.depth_left c.args.bytes.now _ c.in-Some.ensures c.if-depth_left-eq0.false (rw c.skip.ensures at c.in_default-after_byte.ensures)) c.geometries_after.result c.geometries_after.ensures
 
 pub geometries_after-geometries-init : goal.geometries_after-geometries-init
 geometries_after-geometries-init t c =
-    rw c.new-read.ensures.items (held.starts (option_copied c.args.by.transform) c.args.by.arcs.now c.args.depth_left (length c.args.inside.now) c.args.inside.now c.args.counts.now)
+    rw c.new-read.ensures.items (held.starts (shape (option_copied c.args.by.transform) c.args.by.arcs.now) c.args.depth_left (length c.args.inside.now) c.args.inside.now c.args.counts.now)
 
 pub geometries_after-returns-in_err-one : goal.geometries_after-returns-in_err-one
 geometries_after-returns-in_err-one t c =
     let p = err_from_is_err_and c.from_residual.result c.from_residual.ensures.1 in
     rw (p.1, p.2)
-    (held.no_geometry (option_copied c.args.by.transform) c.args.by.arcs.now c.args.depth_left (length c.args.inside.now) c.args.inside.now c.args.counts.now _ _ _ _ c.geometries.invariant c.geometries-test.true _ (rw c.skip.ensures at c.in_err-one.ensures))
+    (held.no_element (shape (option_copied c.args.by.transform) c.args.by.arcs.now) c.args.depth_left (length c.args.inside.now) c.args.inside.now c.args.counts.now _ _ _ _ c.geometries.invariant c.geometries-test.true _ (rw c.skip.ensures at c.in_err-one.ensures))
 
 pub geometries_after-returns-in_err-end-in-Err : goal.geometries_after-returns-in_err-end-in-Err
 geometries_after-returns-in_err-end-in-Err t c =
     let p = err_from_is_err_and c.from_residual-in_err-end-in-Err.result c.from_residual-in_err-end-in-Err.ensures.1 in
     let found = rw c.skip.ensures at c.in_ok-one.ensures in
     rw (p.1, p.2)
-    (held.others_fail (option_copied c.args.by.transform) c.args.by.arcs.now c.args.depth_left (length c.args.inside.now) c.args.inside.now c.args.counts.now _ _ _ _ c.geometries.invariant c.geometries-test.true found.0 _ found.1 _ c.in_err-end-in-Err.ensures)
+    (held.others_fail (shape (option_copied c.args.by.transform) c.args.by.arcs.now) c.args.depth_left (length c.args.inside.now) c.args.inside.now c.args.counts.now _ _ _ _ c.geometries.invariant c.geometries-test.true found.0 _ found.1 _ c.in_err-end-in-Err.ensures)
 
 pub geometries_after-returns-in-Err : goal.geometries_after-returns-in-Err
 geometries_after-returns-in-Err t c =
     let found = rw (c.skip.ensures, c.in-Err.is) at c.in_ok-one.ensures in
-    held.faulty (option_copied c.args.by.transform) c.args.by.arcs.now c.args.depth_left (length c.args.inside.now) c.args.inside.now c.args.counts.now _ _ _ _ c.geometries.invariant c.geometries-test.true found.0 _ found.1 _ found.2 _ c.in_ok-end-in-Err.ensures
+    held.faulty (shape (option_copied c.args.by.transform) c.args.by.arcs.now) c.args.depth_left (length c.args.inside.now) c.args.inside.now c.args.counts.now _ _ _ _ c.geometries.invariant c.geometries-test.true found.0 _ found.1 _ found.2 _ c.in_ok-end-in-Err.ensures
 
 pub geometries_after-returns-in-Neither : goal.geometries_after-returns-in-Neither
 geometries_after-returns-in-Neither t c =
     let found = rw (c.skip.ensures, c.in-Ok.is) at c.in_ok-one.ensures in
     malformed _ _ c.broken.ensures
-    (held.breaks (option_copied c.args.by.transform) c.args.by.arcs.now c.args.depth_left (length c.args.inside.now) c.args.inside.now c.args.counts.now _ _ _ _ c.geometries.invariant c.geometries-test.true found.0 _ found.1 _ _ found.2 (rw c.in-Neither.is at c.mark_at-mark.ensures))
+    (held.breaks (shape (option_copied c.args.by.transform) c.args.by.arcs.now) c.args.depth_left (length c.args.inside.now) c.args.inside.now c.args.counts.now _ _ _ _ c.geometries.invariant c.geometries-test.true found.0 _ found.1 _ _ found.2 (rw c.in-Neither.is at c.mark_at-mark.ensures))
 
 pub geometries_after-returns-in-Close : goal.geometries_after-returns-in-Close
 geometries_after-returns-in-Close t c =
     let found = rw (c.skip.ensures, c.in-Ok.is) at c.in_ok-one.ensures in
     rw (c.of.ensures, c.in_ok-push_some-in-Ok.ensures)
-    (held.ends (option_copied c.args.by.transform) c.args.by.arcs.now c.args.depth_left (length c.args.inside.now) c.args.inside.now c.args.counts.now _ _ _ _ c.geometries.invariant c.geometries-test.true found.0 _ found.1 _ _ found.2 _ (rw c.in-Close.is at c.mark_at-mark.ensures))
+    (held.ends (shape (option_copied c.args.by.transform) c.args.by.arcs.now) c.args.depth_left (length c.args.inside.now) c.args.inside.now c.args.counts.now _ _ _ _ c.geometries.invariant c.geometries-test.true found.0 _ found.1 _ _ found.2 _ (rw c.in-Close.is at c.mark_at-mark.ensures))
 
 pub geometries_after-geometries-preserved : goal.geometries_after-geometries-preserved
 geometries_after-geometries-preserved t c =
     let found = rw (c.skip.ensures, c.in-Ok.is) at c.in_ok-one.ensures in
     rw c.in_ok-push_some-in-Ok.ensures
-    (held.goes_on (option_copied c.args.by.transform) c.args.by.arcs.now c.args.depth_left (length c.args.inside.now) c.args.inside.now c.args.counts.now _ _ _ _ c.geometries.invariant c.geometries-test.true found.0 _ found.1 _ _ found.2 _ (rw c.in-Comma.is at c.mark_at-mark.ensures))
+    (held.goes_on (shape (option_copied c.args.by.transform) c.args.by.arcs.now) c.args.depth_left (length c.args.inside.now) c.args.inside.now c.args.counts.now _ _ _ _ c.geometries.invariant c.geometries-test.true found.0 _ found.1 _ _ found.2 _ (rw c.in-Comma.is at c.mark_at-mark.ensures))
 
 pub geometries_after-returns : goal.geometries_after-returns
 geometries_after-returns t c =
     malformed _ _ c.broken-2.ensures
-    (held.turns_over (option_copied c.args.by.transform) c.args.by.arcs.now c.args.depth_left (length c.args.inside.now) c.args.inside.now c.args.counts.now _ _ _ _ c.geometries.invariant c.geometries-test.false)
+    (held.turns_over (shape (option_copied c.args.by.transform) c.args.by.arcs.now) c.args.depth_left (length c.args.inside.now) c.args.inside.now c.args.counts.now _ _ _ _ c.geometries.invariant c.geometries-test.false)

@@ -1,9 +1,10 @@
 use Rattle.std.proofs.Common.{◌+◌, ◌*◌, length}
 use Rattle.std.specs.Option.{option_copied}
 use Rattle.json_cursor.specs.Members.{prefix_members}
+use Rattle.json_cursor.proofs.KeptSoFar.{ReadSoFar}
 use Rattle.json_cursor.proofs.MemberParts.{MembersSoFar}
+use Rattle.topojson_meaning.specs.Shapes.{shape}
 use Rattle.topojson_decoder.specs.Geometries.{IsParts}
-use Rattle.topojson_decoder.proofs.HeldGeometries.{ReadSoFar}
 use Rattle.topojson_decoder.proofs.geometries.+geometries.Given as goal
 
 abbrev pub decreases-geometries_at : goal.decreases-geometries_at
@@ -35,4 +36,4 @@ invariant-members_after-members l =
     MembersSoFar (IsParts l.start l.depth_left) l.depth_left (length l.inside) (prefix_members l.depth_left (length l.inside) l.inside) l.fn.parts l.counter l.rest l.parts
 
 abbrev pub invariant-geometries_after-geometries : goal.invariant-geometries_after-geometries
-invariant-geometries_after-geometries l = ReadSoFar (option_copied l.by.transform) l.by.arcs.now l.depth_left (length l.inside) l.inside l.fn.counts l.turn l.rest l.read.items l.counts
+invariant-geometries_after-geometries l = ReadSoFar (shape (option_copied l.by.transform) l.by.arcs.now) l.depth_left (length l.inside) l.inside l.fn.counts l.turn l.rest l.read.items l.counts

@@ -1,12 +1,10 @@
 use Rattle.std.proofs.Common.{[], ◌++◌, ◌∷◌, refl, subst, sym}
-use Rattle.std.specs.Prelude.{codes, Ok}
+use Rattle.std.specs.Prelude.{codes}
 use Rattle.json_cursor.specs.Names.{name_of}
 use Rattle.geojson_meaning.specs.Members.{named}
-use Rattle.geojson_model.specs.Members.{IsCoordinates, BeginsAt, IsParts, IsOccurrence, IsType, Sees}
-use Rattle.geojson_model.specs.declared.geometries.Parts.{Parts}
-use Rattle.geojson_model.proofs.MemberOccurrences.{not_other, passes, sees}
+use Rattle.geojson_model.specs.Members.{IsCoordinates, IsGroup, IsParts, IsOccurrence, IsType}
+use Rattle.geojson_model.proofs.MemberOccurrences.{not_other, passed_over, passes, sees}
 use Rattle.geojson_model.proofs.geometries.Parts.see.Goals as goal
-use Rattle.geojson_model.proofs.geometries.Parts.see.Goals.{then-is-3, else-is-3}
 
 pub returns-then-is : goal.returns-then-is
 returns-then-is c =
@@ -19,7 +17,7 @@ returns-then-is c =
       λ ms h. record {
         kind = subst (λ s. IsOccurrence IsType (named (codes "type") (ms ++ (name, found.0) ∷ [])) s) (sym c.see.ensures) (sees IsType (codes "type") ms name found.0 c.args.self.now.kind h.kind c.in_ok-kind.kind same found.2);
         coordinates = passes (IsCoordinates c.args.start d) (codes "coordinates") ms name found.0 c.args.self.now.coordinates h.coordinates (not_other name (codes "type") (codes "coordinates") same refl);
-        geometries = passes (BeginsAt d) (codes "geometries") ms name found.0 c.args.self.now.geometries h.geometries (not_other name (codes "type") (codes "geometries") same refl);
+        geometries = passes (IsGroup c.args.start) (codes "geometries") ms name found.0 c.args.self.now.geometries h.geometries (not_other name (codes "type") (codes "geometries") same refl);
       },
     )
 
@@ -35,7 +33,7 @@ returns-then-is-2 c =
         kind = passes IsType (codes "type") ms name found.0 c.args.self.now.kind h.kind (not_other name (codes "coordinates") (codes "type") same refl);
         coordinates = subst (λ s. IsOccurrence (IsCoordinates c.args.start d) (named (codes "coordinates") (ms ++ (name, found.0) ∷ [])) s) (sym c.see-then-is-2.ensures)
             (sees (IsCoordinates c.args.start d) (codes "coordinates") ms name found.0 c.args.self.now.coordinates h.coordinates c.in_ok-found.found same found.2);
-        geometries = passes (BeginsAt d) (codes "geometries") ms name found.0 c.args.self.now.geometries h.geometries (not_other name (codes "coordinates") (codes "geometries") same refl);
+        geometries = passes (IsGroup c.args.start) (codes "geometries") ms name found.0 c.args.self.now.geometries h.geometries (not_other name (codes "coordinates") (codes "geometries") same refl);
       },
     )
 
@@ -43,27 +41,9 @@ pub returns : goal.returns
 returns c =
     let d = c.args.depth_left in
     let name = name_of c.args.name.now in
-    let found = c.in_ok-rest.ensures in
-    let no_type = sym c.if-is.ensures in
-    let no_coordinates = sym c.if-is-2.ensures in
-    elim c.if-is-3.branch [
-      | then-is-3 w ↦ subst (λ (s : Parts). Sees (IsParts c.args.start d) d name c.args.value.now c.args.self.now s (Ok c.in_ok-rest.rest)) (sym w.self-is) (
-        found.0,
-        found.1,
-        λ ms h. record {
-          kind = passes IsType (codes "type") ms name found.0 c.args.self.now.kind h.kind no_type;
-          coordinates = passes (IsCoordinates c.args.start d) (codes "coordinates") ms name found.0 c.args.self.now.coordinates h.coordinates no_coordinates;
-          geometries = subst (λ s. IsOccurrence (BeginsAt d) (named (codes "geometries") (ms ++ (name, found.0) ∷ [])) s) (sym w.see-then-is-3.ensures)
-              (sees (BeginsAt d) (codes "geometries") ms name found.0 c.args.self.now.geometries h.geometries c.args.value (sym w.if-is-3.ensures) (_, found.1));
-        },
-      )
-      | else-is-3 w ↦ subst (λ (s : Parts). Sees (IsParts c.args.start d) d name c.args.value.now c.args.self.now s (Ok c.in_ok-rest.rest)) (sym w.self-is) (
-        found.0,
-        found.1,
-        λ ms h. record {
-          kind = passes IsType (codes "type") ms name found.0 c.args.self.now.kind h.kind no_type;
-          coordinates = passes (IsCoordinates c.args.start d) (codes "coordinates") ms name found.0 c.args.self.now.coordinates h.coordinates no_coordinates;
-          geometries = passes (BeginsAt d) (codes "geometries") ms name found.0 c.args.self.now.geometries h.geometries (sym w.if-is-3.ensures);
-        },
-      )
-    ]
+    passed_over (IsParts c.args.start d) d name c.args.value.now c.args.self.now c.args.self.now
+    (λ v ms h. record {
+      kind = passes IsType (codes "type") ms name v c.args.self.now.kind h.kind (sym c.if-is.ensures);
+      coordinates = passes (IsCoordinates c.args.start d) (codes "coordinates") ms name v c.args.self.now.coordinates h.coordinates (sym c.if-is-2.ensures);
+      geometries = passes (IsGroup c.args.start) (codes "geometries") ms name v c.args.self.now.geometries h.geometries c.requires;
+    }) c.after_value.result c.after_value.ensures

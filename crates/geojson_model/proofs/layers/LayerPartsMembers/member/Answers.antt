@@ -36,5 +36,5 @@ pub returns : goal.returns
 returns c =
     let d = c.args.depth_left in
     let name = name_of c.in_ok-name.name in
-    member_sees (IsLayerParts c.args.with d) d c.args.bytes.now name c.in_ok-name.value.now _ _ (c.in_ok-name.ensures d) c.see-2.result
-    (with_bare c.args.with d name c.in_ok-name.value.now c.args.self.now.features c.args.self.now.bare _ c.args.self.now.fields (sym c.if-is.ensures) (sym c.if-is_field.ensures) c.see-2.result c.see-2.ensures)
+    member_sees (IsLayerParts c.args.with d) d c.args.bytes.now name c.in_ok-name.value.now _ _ (c.in_ok-name.ensures d) c.member_value.result
+    (with_bare c.args.with d name c.in_ok-name.value.now c.args.self.now.features c.args.self.now.bare _ c.args.self.now.fields (sym c.if-is.ensures) (sym c.if-is_field.ensures) c.member_value.result c.member_value.ensures)

@@ -1,7 +1,7 @@
 use Rattle.geojson_meaning.specs.Geometries.{coordinates_shape}
 use Rattle.json_cursor.specs.Arrays.{prefix_value}
 use Rattle.geojson_model.proofs.MemberOccurrences.{judged}
-use Rattle.geojson_model.proofs.geometries.shape_by.Goals as goal
+use Rattle.geojson_model.proofs.coordinate_members.shape_by.Goals as goal
 
 pub returns-in-Ok : goal.returns-in-Ok
 returns-in-Ok c = λ v is. rw c.in-Ok.is at (c.in-Some.ensures c.args.start v is.read)

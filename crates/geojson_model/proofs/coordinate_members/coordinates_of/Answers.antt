@@ -1,7 +1,7 @@
 use Rattle.geojson_meaning.specs.Geometries.{coordinates_shape, typed_geometry}
 use Rattle.geojson_meaning.specs.declared.types.GeometryType.TheVariants.{Coordinates}
 use Rattle.geojson_model.proofs.GeometryParts as part
-use Rattle.geojson_model.proofs.geometries.coordinates_of.Goals as goal
+use Rattle.geojson_model.proofs.coordinate_members.coordinates_of.Goals as goal
 
 pub returns-in-Never : goal.returns-in-Never
 returns-in-Never c = λ ms occurrence. part.no_coordinates c.args.start.exact c.args.kind ms c.args.start.counts (rw c.in-Never.is at occurrence)

@@ -1,4 +1,4 @@
-use Rattle.geojson_model.proofs.geometries.read_at.Goals as goal
+use Rattle.geojson_model.proofs.coordinate_members.read_at.Goals as goal
 
 pub returns-in_ok-rest-in-Err-Fault : goal.returns-in_ok-rest-in-Err-Fault
 returns-in_ok-rest-in-Err-Fault c =

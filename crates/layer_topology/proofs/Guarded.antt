@@ -5,6 +5,7 @@ use Rattle.build_meaning.specs.Built.{built}
 use Rattle.build_meaning.specs.Layers.{Named}
 use Rattle.geojson_types.specs.declared.id.Id.{Id}
 use Rattle.geojson_types.proofs.Nestings.{option_pruned_nests}
+use Rattle.guarded_meaning.specs.Laws.{NoCrossingsLaw}
 use Rattle.json_value.specs.declared.json.Json.{Json}
 use Rattle.layer_topology.specs.Guarded.{CrossesNoMore, KeepsShapes}
 use Rattle.layer_topology.specs.GuardedLaws.{SimplifiedUnderLaw, WrittenIsMade, WrittenUnderLaw}
@@ -12,13 +13,14 @@ use Rattle.layer_topology.specs.GuardedWritten.{written_under}
 use Rattle.layer_topology.specs.Laws.{HasNames, IsValid, NestsNoDeeper, SimplifiesToWritten}
 use Rattle.layer_topology.specs.Written.{snapped_to, written, AreTaken}
 use Rattle.layer_topology.proofs.Laid.{snapped}
+use Rattle.layer_topology.proofs.Origins.{guarded_origins, protecting_origins}
 use Rattle.simplified_topology.specs.GridLaws.{SnappedAreOn}
 use Rattle.simplified_topology.specs.Assembled.{assembled}
 use Rattle.simplified_topology.specs.Guarded.{arc_positions, guarded_arc_indexes, guarded_contents, guarded_indexes}
-use Rattle.simplified_topology.specs.GuardedLaws.{GuardedCrossingsNeverRise, GuardedIsAssembled, GuardedIsValid, GuardedKeeps, GuardedNoneStaysNone}
+use Rattle.simplified_topology.specs.GuardedLaws.{GuardedArcsAreReduced, GuardedCrossingsNeverRise, GuardedIsAssembled, GuardedIsValid, GuardedKeeps, GuardedNoneStaysNone}
 use Rattle.simplified_topology.specs.Laws.{labels, ReducedIsValid, SimplifiedKeeps}
 use Rattle.simplified_topology.specs.Protected.{Protection, greatest_ring, protecting_contents, protecting_indexes}
-use Rattle.simplified_topology.specs.ProtectedLaws.{ProtectingCrossingsNeverRise, ProtectingIsValid, ProtectingKeeps, ProtectingNoneStaysNone, ShapesStay}
+use Rattle.simplified_topology.specs.ProtectedLaws.{ProtectingArcsAreReduced, ProtectingCrossingsNeverRise, ProtectingIsValid, ProtectingKeeps, ProtectingNoneStaysNone, ShapesStay}
 use Rattle.simplified_topology.specs.ProtectedLayers.{protecting_arc_indexes, assembled_sparing}
 use Rattle.simplified_topology.specs.ProtectedLayersLaws.{ProtectingIsAssembled, SparedNestsNoDeeper}
 use Rattle.simplified_topology.specs.Quantized.{named_grid, quantized}
@@ -69,11 +71,12 @@ module _ (t limit : ℕ) (y : Contents) where
   nests_under spared n false true h = left_features (NestsTo n) (nests_pruned n) (guarded_indexes true t y) limit y h
   nests_under spared n false false h = left_features (NestsTo n) (nests_pruned n) (reduced_indexes t y) limit y h
 
-  crosses_under : GuardedCrossingsNeverRise → GuardedNoneStaysNone → ProtectingCrossingsNeverRise → ProtectingNoneStaysNone → (s b : Bool) → b ≡ true → CrossesNoMore y (under s b)
-  crosses_under never none fewer nothing true true e = record { fewer = fewer protects t limit y; none = nothing protects t limit y }
-  crosses_under never none fewer nothing false true e = record { fewer = never t limit y; none = none t limit y }
-  crosses_under never none fewer nothing true false e = absurd cc
-  crosses_under never none fewer nothing false false e = absurd cc
+  crosses_under : GuardedCrossingsNeverRise → GuardedNoneStaysNone → ProtectingCrossingsNeverRise → ProtectingNoneStaysNone → NoCrossingsLaw → GuardedArcsAreReduced → ProtectingArcsAreReduced
+      → (s b : Bool) → b ≡ true → CrossesNoMore y (under s b)
+  crosses_under never none fewer nothing met some spared true true e = record { fewer = fewer protects t limit y; none = nothing protects t limit y; origins = protecting_origins met spared protects t limit y }
+  crosses_under never none fewer nothing met some spared false true e = record { fewer = never t limit y; none = none t limit y; origins = guarded_origins met some t limit y }
+  crosses_under never none fewer nothing met some spared true false e = absurd cc
+  crosses_under never none fewer nothing met some spared false false e = absurd cc
 
   stays_under : ShapesStay → (s b : Bool) → s ≡ true → KeepsShapes b t y (under s b)
   stays_under stay true b e = stay b t limit y
@@ -87,10 +90,13 @@ pub record LawsUnder : Type 0 where
   pub keeps : GuardedKeeps
   pub never : GuardedCrossingsNeverRise
   pub none : GuardedNoneStaysNone
+  pub met : NoCrossingsLaw
+  pub arcs : GuardedArcsAreReduced
   pub sparing_valid : ProtectingIsValid
   pub sparing_keeps : ProtectingKeeps
   pub sparing_never : ProtectingCrossingsNeverRise
   pub sparing_none : ProtectingNoneStaysNone
+  pub sparing_arcs : ProtectingArcsAreReduced
   pub sparing_nests : SparedNestsNoDeeper
   pub sparing_stays : ShapesStay
 
@@ -103,7 +109,7 @@ simplified_under_law l guards t limit y =
       labels_stay = labels_under t limit y l.plain_keeps l.keeps l.sparing_keeps s b;
       transform = transform_under t limit y l.plain_keeps l.keeps l.sparing_keeps s b;
       nests = λ n. nests_under t limit y l.sparing_nests n s b;
-      crosses = crosses_under t limit y l.never l.none l.sparing_never l.sparing_none s b;
+      crosses = crosses_under t limit y l.never l.none l.sparing_never l.sparing_none l.met l.arcs l.sparing_arcs s b;
       stays = stays_under t limit y l.sparing_stays s b;
     }
 

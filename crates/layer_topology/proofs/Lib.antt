@@ -13,6 +13,7 @@ pub mod Kept
 pub mod KeptNext
 pub mod Laid
 pub mod Made
+pub mod Origins
 pub mod Snapping
 pub mod SparedAtZero
 pub mod Split

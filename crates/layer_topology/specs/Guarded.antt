@@ -1,9 +1,15 @@
 -- What is left of a topology where guards are asked for.
-use Rattle.std.specs.Prelude.{◌≡◌, ℕ, ◌≤◌, ℤ, Bool, true, false, ◌||◌, List, [], Some, if◌then◌else◌}
+use Rattle.std.specs.Prelude.{◌≡◌, ◌≢◌, ℕ, ◌≤◌, ℤ, Bool, true, false, ◌||◌, List, [], map, Some, if◌then◌else◌}
+use Rattle.build_meaning.specs.Trimming.{keep_from}
+use Rattle.elimination_meaning.specs.Elimination.{Vertex, numbered}
 use Rattle.geometry.specs.declared.address.Dropped.{Dropped}
+use Rattle.geometry.specs.Lists.{In}
+use Rattle.guarded_meaning.specs.Arcs.{Neighbours, segment_of, arc_segments, points_of}
 use Rattle.guarded_meaning.specs.Elimination.{Guard}
 use Rattle.guarded_meaning.specs.Guards.{guarded_by}
-use Rattle.guarded_meaning.specs.Lists.{EachTo}
+use Rattle.guarded_meaning.specs.Lists.{EachTo, IsThinned}
+use Rattle.guarded_meaning.specs.Origins.{MetBefore}
+use Rattle.guarded_meaning.specs.Segments.{meets_badly}
 use Rattle.layer_topology.specs.Levels.{is_level}
 use Rattle.layer_topology.specs.declared.guards.Guards.{Guards}
 use Rattle.layer_topology.specs.declared.level.Level.{Level}
@@ -56,10 +62,23 @@ removed_count_under guards t limit y =
     if guards.keep_shapes then protecting_removed_count guards.no_crossings (greatest_ring (arc_positions y)) t limit y
     else (if guards.no_crossings then guarded_removed_count true t limit y else simplified_removed_count t limit y)
 
--- no more pairs of segments of the second topology meet badly than of the first, and none where none of the first do
+-- The arcs of the second topology are some of the first's, in order, each without some of the vertices between its ends. Each two of their segments
+-- that meet badly come of two of the first's that met badly: of those between the ends of the one in its arc, and those between the ends of the
+-- other in its arc, one of each meet badly. Vertices have their indexes in the first's arcs, and segments the numbers of these.
+pub record HasOrigins (before after : Contents) : Type 0 where
+  pub vertices : List (List Vertex)
+  pub thinned : EachTo IsThinned vertices (map (numbered 0) (arc_positions before))
+  pub stays : ℕ → Bool
+  pub arcs : arc_positions after ≡ keep_from stays 0 (points_of vertices)
+  pub met : (new other : Neighbours) → In new (arc_segments vertices) → In other (arc_segments vertices) → new ≢ other
+      → meets_badly (segment_of new) (segment_of other) ≡ true → MetBefore (arc_segments (map (numbered 0) (arc_positions before))) new other
+
+-- no more pairs of segments of the second topology meet badly than of the first, none where none of the first do, and each comes of one of the
+-- first's
 pub record CrossesNoMore (before after : Contents) : Type 0 where
   pub fewer : crossings_of after ≤ crossings_of before
   pub none : crossings_of before ≡ 0 → crossings_of after ≡ 0
+  pub origins : HasOrigins before after
 
 -- Each feature of the first topology with an outer ring of four positions or more has the one that encloses most, the first of equals, in the
 -- second topology: a ring of the same arcs, as they are reduced at this threshold, and with four positions or more.

@@ -2,18 +2,19 @@
 ghost use Rattle.layer_topology.specs.GuardedLaws.{GuardedAtZero, ShareStaysAtOnce, ShareStaysUnder, SimplifiedUnderLaw, WrittenIsMade, WrittenUnderLaw};
 
 use crate::laws::{simplifies_to_written, written_laws};
-use guarded_meaning::{kept_by_weight, share_stays};
+use guarded_meaning::{kept_by_weight, no_crossings_law, share_stays};
 use simplified_topology::{
-    guarded_crossings_never_rise, guarded_is_assembled, guarded_is_valid, guarded_keeps,
-    guarded_none_stays_none, protecting_crossings_never_rise, protecting_is_assembled,
-    protecting_is_valid, protecting_keeps, protecting_none_stays_none, reduced_is_valid,
-    shapes_stay, simplified_keeps, snapped_are_on, spared_nests_no_deeper, unguarded_is_simplified,
+    guarded_arcs_are_reduced, guarded_crossings_never_rise, guarded_is_assembled, guarded_is_valid,
+    guarded_keeps, guarded_none_stays_none, protecting_arcs_are_reduced,
+    protecting_crossings_never_rise, protecting_is_assembled, protecting_is_valid,
+    protecting_keeps, protecting_none_stays_none, reduced_is_valid, shapes_stay, simplified_keeps,
+    snapped_are_on, spared_nests_no_deeper, unguarded_is_simplified,
 };
 
 /// What is left of a valid topology is valid, with the same names, identifiers, properties and transform, and nests no deeper, whatever guards
 /// are asked for.
-/// Where no crossing may be made, no more pairs of its segments meet badly than of the topology, and none where none of that did. Where shapes stay,
-/// each feature keeps the outer ring that enclosed most.
+/// Where no crossing may be made, no more pairs of its segments meet badly than of the topology, none where none of that did, and each two that do
+/// come of two that did. Where shapes stay, each feature keeps the outer ring that enclosed most.
 pub fn simplified_under_law()
     ensures { SimplifiedUnderLaw }
 {
@@ -23,10 +24,13 @@ pub fn simplified_under_law()
     guarded_keeps();
     guarded_crossings_never_rise();
     guarded_none_stays_none();
+    no_crossings_law();
+    guarded_arcs_are_reduced();
     protecting_is_valid();
     protecting_keeps();
     protecting_crossings_never_rise();
     protecting_none_stays_none();
+    protecting_arcs_are_reduced();
     spared_nests_no_deeper();
     shapes_stay();
 }

@@ -86,9 +86,10 @@ pub record BuildingLaws : Type 0 where
 
 -- Where no crossing may be made or shapes stay, the topology is valid, and it is what is left of the one that is written of the layers at zero where
 -- this is simplified under the same guards. Decoding that one gives each layer's features whole; the topology has the same names, identifiers and
--- properties. Where no crossing may be made, no more of its segments cross, lie on one another, or touch but at an end of both, and none where none of
--- that one's do. Where shapes stay, each feature keeps the outer ring that encloses most in that one, of those with four positions or more. Of the
--- positions between the ends of that one's arcs at least the share that is asked for stays, before lines are dropped.
+-- properties. Where no crossing may be made, no more of its segments cross, lie on one another, or touch but at an end of both, none where none of
+-- that one's do, and each two that do come of two of that one's that do. Where shapes stay, each feature keeps the outer ring that encloses most in
+-- that one, of those with four positions or more. Of the positions between the ends of that one's arcs at least the share that is asked for stays,
+-- before lines are dropped.
 pub record IsGuarded (o : Options) (layers : Named) (contents : Contents) : Type 0 where
   pub valid : IsTopology contents
   pub whole : AllByRecursion (λ l. decoded (whole_for o layers) l.0 ≡ Some (set.Many l.1.features)) (expected 0 0 (snapped_for o layers))

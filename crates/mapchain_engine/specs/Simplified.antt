@@ -67,9 +67,9 @@ pub record CallsForTopology (guards : Guards) (level : Level) (old new : Fed) (b
   pub called : after ≡ before ++ calls_of guards level contents
 
 -- the source was read to its end, its bytes spell a topology, the text of what is left of it is UTF-8, the sink took the whole of
--- it and passed it on, and this is its report; where crossings may not be made, what is left crosses no more than the topology; where shapes
--- stay, each feature with an outer ring of four positions or more keeps the one that encloses most; and where either is asked for, at least the
--- share that is asked for stays of the positions between the ends of its arcs, before lines are dropped
+-- it and passed it on, and this is its report; where crossings may not be made, what is left crosses no more than the topology, and only where that
+-- did; where shapes stay, each feature with an outer ring of four positions or more keeps the one that encloses most; and where either is asked
+-- for, at least the share that is asked for stays of the positions between the ends of its arcs, before lines are dropped
 pub record IsSimplified (guards : Guards) (level : Level) (limit : ℕ) (old new : Fed) (sink_old sink_new : Drained) (report : Report) : Type 0 where
   pub contents : Contents
   pub counts : Counts

@@ -1,10 +1,11 @@
 // The reduction.
-ghost use Rattle.std.specs.Prelude.{◌≡◌, ◌+◌, ◌≤◌, IfOk, true, length, map};
+ghost use Rattle.std.specs.Prelude.{◌≡◌, ◌+◌, ◌≤◌, IfOk, OnOk, true, length, map};
 ghost use Rattle.std.specs.List.{AllByRecursion};
 ghost use Rattle.geometry.specs.Joins.{AreInRange, Meet, arc_at};
 ghost use Rattle.geometry.specs.Lists.{joined};
 ghost use Rattle.guarded_meaning.specs.Elimination.{reduce_arcs, remaining_arcs};
 ghost use Rattle.guarded_meaning.specs.Guards.{guarded_by, is_long};
+ghost use Rattle.guarded_reduction.specs.First.{first_linked};
 ghost use Rattle.guarded_reduction.specs.Numbers.{all_kept_indexes, kept_indexes, left_arcs};
 
 use crate::kept_rings::KeptRings;
@@ -16,6 +17,45 @@ use geometry::{ArcRef, Position};
 use owned_values::{Items, Memory};
 use std::alloc::Global;
 use std::collections::BinaryHeap;
+
+/// The places go that are reduced at a threshold.
+fn reduce_places(
+    alloc: Global,
+    arcs: &[Items<Position>],
+    rings: &[Items<ArcRef>],
+    threshold: u128,
+    places: &mut LinkedPlaces,
+) -> Result<(), Memory>
+    requires in_range { AllByRecursion (AreInRange (length arcs.now)) rings.now }
+    requires meet { AllByRecursion (λ refs. Meet (map (arc_at arcs.now) refs)) rings.now }
+    requires long { AllByRecursion (λ refs. is_long arcs.now refs ≡ true) rings.now }
+    requires first { places.old ≡ first_linked places.old.no_crossings arcs.now }
+    ensures positions { OnOk result (length places.new.positions ≡ length (joined arcs.now)) }
+    ensures left { OnOk result (left_arcs arcs.now places.new.left ≡ remaining_arcs (guarded_by places.old.no_crossings rings.now) threshold arcs.now) }
+{
+    let mut kept = KeptRings::of(alloc, arcs, rings)?;
+    let n = places.len();
+    let mut waiting = WaitingLists::none(alloc, n)?;
+    let mut heap = BinaryHeap::new(alloc);
+    let mut round = next_threshold(places, 0, threshold);
+    begin_round(&mut heap, &waiting, places, 0, round)?;
+    'corners: for _step in 0..n {
+        let next = next_in_rounds(
+            &mut heap,
+            &mut waiting,
+            places,
+            &mut kept,
+            &mut round,
+            threshold,
+        )?;
+        places.law();
+        let Some(entry) = next else {
+            return Ok(());
+        };
+        take_out(&mut heap, places, &waiting, round, entry)?;
+    }
+    Ok(())
+}
 
 /// The places that stay.
 fn reduced_places(
@@ -32,27 +72,7 @@ fn reduced_places(
     ensures left { IfOk result (λ s. left_arcs arcs.now s.left ≡ remaining_arcs (guarded_by no_crossings rings.now) threshold arcs.now) }
 {
     let mut places = LinkedPlaces::of(alloc, arcs, no_crossings)?;
-    let mut kept = KeptRings::of(alloc, arcs, rings)?;
-    let n = places.len();
-    let mut waiting = WaitingLists::none(alloc, n)?;
-    let mut heap = BinaryHeap::new(alloc);
-    let mut round = next_threshold(&places, 0, threshold);
-    begin_round(&mut heap, &waiting, &places, 0, round)?;
-    'corners: for _step in 0..n {
-        let next = next_in_rounds(
-            &mut heap,
-            &mut waiting,
-            &mut places,
-            &mut kept,
-            &mut round,
-            threshold,
-        )?;
-        places.law();
-        let Some(entry) = next else {
-            return Ok(places);
-        };
-        take_out(&mut heap, &mut places, &waiting, round, entry)?;
-    }
+    reduce_places(alloc, arcs, rings, threshold, &mut places)?;
     Ok(places)
 }
 

@@ -5,6 +5,7 @@ ghost use Rattle.geometry.specs.Joins.{AreInRange, Meet, arc_at};
 ghost use Rattle.geometry.specs.Lists.{joined};
 ghost use Rattle.guarded_meaning.specs.Guards.{guarded_by, is_long};
 ghost use Rattle.guarded_meaning.specs.Weights.{interior_weights};
+ghost use Rattle.guarded_reduction.specs.First.{first_linked};
 ghost use Rattle.guarded_reduction.specs.Weighing.{AreWeights, all_inner_levels, inner_levels, level_at};
 
 use crate::kept_rings::KeptRings;
@@ -24,6 +25,50 @@ fn greater(x: u128, y: u128) -> u128
     if x < y { y } else { x }
 }
 
+/// The places go whatever their areas, and each gets the greatest area of those that went until it did.
+fn weigh_places(
+    alloc: Global,
+    arcs: &[Items<Position>],
+    rings: &[Items<ArcRef>],
+    places: &mut LinkedPlaces,
+    levels: &mut [u128],
+) -> Result<(), Memory>
+    requires in_range { AllByRecursion (AreInRange (length arcs.now)) rings.now }
+    requires meet { AllByRecursion (λ refs. Meet (map (arc_at arcs.now) refs)) rings.now }
+    requires long { AllByRecursion (λ refs. is_long arcs.now refs ≡ true) rings.now }
+    requires first { places.old ≡ first_linked places.old.no_crossings arcs.now }
+    requires many { length levels.old ≡ length places.old.positions }
+    ensures positions { OnOk result (length places.new.positions ≡ length (joined arcs.now)) }
+    ensures levels { OnOk result (length levels.new ≡ length (joined arcs.now)) }
+    ensures weights { OnOk result (AreWeights (guarded_by places.old.no_crossings rings.now) arcs.now places.new.left levels.new) }
+{
+    let mut kept = KeptRings::of(alloc, arcs, rings)?;
+    let n = places.len();
+    let mut waiting = WaitingLists::none(alloc, n)?;
+    let mut heap = BinaryHeap::new(alloc);
+    let mut round = next_threshold(places, 0, AREA_LIMIT);
+    begin_round(&mut heap, &waiting, places, 0, round)?;
+    let mut level = 0u128;
+    'corners: for _step in 0..n {
+        let next = next_in_rounds(
+            &mut heap,
+            &mut waiting,
+            places,
+            &mut kept,
+            &mut round,
+            AREA_LIMIT,
+        )?;
+        places.law();
+        let Some(entry) = next else {
+            return Ok(());
+        };
+        level = greater(level, entry.area);
+        levels[entry.place] = level;
+        take_out(&mut heap, places, &waiting, round, entry)?;
+    }
+    Ok(())
+}
+
 /// The places that are left where corners go whatever their areas, and for each place the greatest area of those that went until it did.
 fn weighed_places(
     alloc: Global,
@@ -39,31 +84,8 @@ fn weighed_places(
     ensures weights { IfOk result (λ r. AreWeights (guarded_by no_crossings rings.now) arcs.now r.0.left r.1.items) }
 {
     let mut places = LinkedPlaces::of(alloc, arcs, no_crossings)?;
-    let mut kept = KeptRings::of(alloc, arcs, rings)?;
-    let n = places.len();
-    let mut levels = vec![in alloc; 0u128; n]?;
-    let mut waiting = WaitingLists::none(alloc, n)?;
-    let mut heap = BinaryHeap::new(alloc);
-    let mut round = next_threshold(&places, 0, AREA_LIMIT);
-    begin_round(&mut heap, &waiting, &places, 0, round)?;
-    let mut level = 0u128;
-    'corners: for _step in 0..n {
-        let next = next_in_rounds(
-            &mut heap,
-            &mut waiting,
-            &mut places,
-            &mut kept,
-            &mut round,
-            AREA_LIMIT,
-        )?;
-        places.law();
-        let Some(entry) = next else {
-            return Ok((places, levels));
-        };
-        level = greater(level, entry.area);
-        levels[entry.place] = level;
-        take_out(&mut heap, &mut places, &waiting, round, entry)?;
-    }
+    let mut levels = vec![in alloc; 0u128; places.len()]?;
+    weigh_places(alloc, arcs, rings, &mut places, levels.as_mut_slice())?;
     Ok((places, levels))
 }
 

@@ -10,21 +10,21 @@ use Rattle.guarded_reduction.proofs.Keeping.{IsGoing, first_keeping, fixed_still
 use Rattle.guarded_reduction.proofs.Next.{all_steps, goes_next, no_step, none_next, one_step, showing_next}
 use Rattle.guarded_reduction.proofs.Showing.{chained}
 use Rattle.guarded_reduction.proofs.Starts.{begins, first_showing}
-use Rattle.guarded_reduction.proofs.reducing.reduced_places.Goals as goal
+use Rattle.guarded_reduction.proofs.reducing.reduce_places.Goals as goal
 
 pub corners-init : goal.corners-init
 corners-init c = record {
   order = c.in_ok-begin_round.ensures.order;
   queued = c.in_ok-begin_round.ensures.queued;
   round = c.next_threshold-round.ensures.within;
-  showing = subst (IsShowing c.args.arcs.now) (sym c.in_ok-places.ensures) (first_showing c.args.no_crossings c.args.arcs.now);
-  flag = ap (λ (s : Linked). s.no_crossings) c.in_ok-places.ensures;
-  keeping = first_keeping c.args.no_crossings c.args.arcs.now c.args.rings.now c.in_ok-places.places c.in_ok-kept.kept c.in_ok-places.ensures c.in_ok-kept.ensures.rings c.in_ok-kept.ensures.counted c.requires.meet;
-  rest = begins (guarded_by c.args.no_crossings c.args.rings.now) c.args.threshold c.args.no_crossings c.args.arcs.now c.in_ok-places.places c.len-n.result c.in_ok-places.ensures c.len-n.ensures;
+  showing = subst (IsShowing c.args.arcs.now) (sym c.requires.first) (first_showing c.args.places.now.no_crossings c.args.arcs.now);
+  flag = ap (λ (s : Linked). s.no_crossings) c.requires.first;
+  keeping = first_keeping c.args.places.now.no_crossings c.args.arcs.now c.args.rings.now c.args.places.now c.in_ok-kept.kept c.requires.first c.in_ok-kept.ensures.rings c.in_ok-kept.ensures.counted c.requires.meet;
+  rest = begins (guarded_by c.args.places.now.no_crossings c.args.rings.now) c.args.threshold c.args.places.now.no_crossings c.args.arcs.now c.args.places.now c.len-n.result c.requires.first c.len-n.ensures;
 }
 
 pub begin_round-requires : goal.begin_round-requires
-begin_round-requires c = none_at_zero c.in_ok-places.places c.in_ok-waiting.waiting (c.in_ok-waiting.ensures ∙ c.len-n.ensures)
+begin_round-requires c = none_at_zero c.args.places.now c.in_ok-waiting.waiting (c.in_ok-waiting.ensures ∙ c.len-n.ensures)
 
 pub next_in_rounds-requires-clause-chained : goal.next_in_rounds-requires-clause-chained
 next_in_rounds-requires-clause-chained c = chained c.args.arcs.now c.corners.places c.corners.invariant.showing
@@ -40,7 +40,7 @@ pub corners-preserved : goal.corners-preserved
 corners-preserved c =
     let arcs = c.args.arcs.now in
     let rings = c.args.rings.now in
-    let b = c.args.no_crossings in
+    let b = c.args.places.now.no_crossings in
     let s = c.next_in_rounds.new.places in
     let n = rw c.in-Some.is at c.in_ok-next.ensures.next in
     let f = fixed_still arcs rings c.corners.places c.corners.invariant.showing c.corners.kept c.corners.invariant.keeping s c.in_ok-next.ensures.fixing in
@@ -66,7 +66,7 @@ pub returns-in_default-clause-left : goal.returns-in_default-clause-left
 returns-in_default-clause-left c =
     let arcs = c.args.arcs.now in
     let rings = c.args.rings.now in
-    let b = c.args.no_crossings in
+    let b = c.args.places.now.no_crossings in
     let s = c.next_in_rounds.new.places in
     let n = rw c.in_default.is at c.in_ok-next.ensures.none in
     let f = fixed_still arcs rings c.corners.places c.corners.invariant.showing c.corners.kept c.corners.invariant.keeping s c.in_ok-next.ensures.fixing in
@@ -77,5 +77,5 @@ returns-in_default-clause-left c =
 pub returns-clause-left : goal.returns-clause-left
 returns-clause-left c =
     let none : c.len-n.result - c.corners._step ≡ 0 = omega (arith, c.corners-test.false) in
-    all_steps (guarded_by c.args.no_crossings c.args.rings.now) (c.len-n.result - c.corners._step) c.args.threshold (left_arcs c.args.arcs.now c.corners.places.left)
-    (remaining_arcs (guarded_by c.args.no_crossings c.args.rings.now) c.args.threshold c.args.arcs.now) none c.corners.invariant.rest
+    all_steps (guarded_by c.args.places.now.no_crossings c.args.rings.now) (c.len-n.result - c.corners._step) c.args.threshold (left_arcs c.args.arcs.now c.corners.places.left)
+    (remaining_arcs (guarded_by c.args.places.now.no_crossings c.args.rings.now) c.args.threshold c.args.arcs.now) none c.corners.invariant.rest

@@ -7,7 +7,7 @@ use Rattle.guarded_reduction.specs.Keeping.{IsKeeping}
 use Rattle.guarded_reduction.specs.Linking.{IsShowing}
 use Rattle.guarded_reduction.specs.States.{IsQueued}
 use Rattle.guarded_reduction.specs.Weighing.{IsWeighing}
-use Rattle.guarded_reduction.proofs.weighing.weighed_places.Given as goal
+use Rattle.guarded_reduction.proofs.weighing.weigh_places.Given as goal
 
 -- what is gone has its weight, and what is left gets it in the steps that are ahead
 abbrev pub invariant-corners : goal.invariant-corners
@@ -16,9 +16,9 @@ invariant-corners l = record {
   queued : IsQueued l.round l.places (heap_items l.heap) l.waiting;
   round : l.round ≤ area_limit;
   showing : IsShowing l.arcs l.places;
-  flag : l.places.no_crossings ≡ l.no_crossings;
+  flag : l.places.no_crossings ≡ l.fn.places.no_crossings;
   keeping : IsKeeping l.arcs l.rings l.places l.kept;
   below : AreBelow l.places;
-  many : length l.levels.items ≡ length l.places.positions;
-  weighing : IsWeighing (guarded_by l.no_crossings l.rings) l.arcs (l.n - l._step) l.level l.places.left l.levels.items;
+  many : length l.levels ≡ length l.places.positions;
+  weighing : IsWeighing (guarded_by l.fn.places.no_crossings l.rings) l.arcs (l.n - l._step) l.level l.places.left l.levels;
 }

@@ -7,7 +7,7 @@ use Rattle.guarded_reduction.specs.Keeping.{IsKeeping}
 use Rattle.guarded_reduction.specs.Linking.{IsShowing}
 use Rattle.guarded_reduction.specs.Numbers.{left_arcs}
 use Rattle.guarded_reduction.specs.States.{IsQueued}
-use Rattle.guarded_reduction.proofs.reducing.reduced_places.Given as goal
+use Rattle.guarded_reduction.proofs.reducing.reduce_places.Given as goal
 
 -- what is left is reduced to the same
 abbrev pub invariant-corners : goal.invariant-corners
@@ -16,7 +16,7 @@ invariant-corners l = record {
   queued : IsQueued l.round l.places (heap_items l.heap) l.waiting;
   round : l.round ≤ l.threshold;
   showing : IsShowing l.arcs l.places;
-  flag : l.places.no_crossings ≡ l.no_crossings;
+  flag : l.places.no_crossings ≡ l.fn.places.no_crossings;
   keeping : IsKeeping l.arcs l.rings l.places l.kept;
-  rest : eliminate_arcs (guarded_by l.no_crossings l.rings) (l.n - l._step) l.threshold (left_arcs l.arcs l.places.left) ≡ remaining_arcs (guarded_by l.no_crossings l.rings) l.threshold l.arcs;
+  rest : eliminate_arcs (guarded_by l.fn.places.no_crossings l.rings) (l.n - l._step) l.threshold (left_arcs l.arcs l.places.left) ≡ remaining_arcs (guarded_by l.fn.places.no_crossings l.rings) l.threshold l.arcs;
 }

@@ -1,8 +1,8 @@
 -- A number of more decimals than are kept, rounded.
 use Rattle.std.proofs.Common.{◌≡◌, ℕ, ◌+◌, ◌-◌, ◌*◌, ◌^◌, ◌<◌, ◌≤◌, Bool, true, Ok, sym, ap, ◌∙◌, arith}
-use Rattle.std.specs.Prelude.{◌%◌, ◌==◌, IsTrue, ◌↔◌}
+use Rattle.std.specs.Prelude.{◌/◌, ◌%◌, ◌==◌, IsTrue, ◌↔◌}
 use Rattle.std.proofs.Math.Nat.{one-le-pow}
-use Rattle.std.proofs.lemmas.Nat.{pow-add}
+use Rattle.std.proofs.lemmas.Nat.{div-add-mod', pow-add}
 use Rattle.decimal_text.specs.declared.rounding.Magnitude.{Magnitude}
 use Rattle.decimal_text.specs.Rounding.{IsRounded, ScalesTo, nearest, signed, rounded_of}
 use Rattle.decimal_text.proofs.Nearest.{rounded_of-magnitude, rounded_of-nearest, rounded_of-whole, rounded_of-within}
@@ -46,3 +46,11 @@ rounded_units negative v places step size more is near small =
 
 pub step_some : (step zeros : ℕ) → step ≡ 1 * 10 ^ zeros → 0 < step
 step_some step zeros is = let p = one-le-pow zeros 10 (omega arith) in omega (arith, is, p)
+
+-- decimals that are all zeros
+pub zero_decimals : (negative : Bool) (v places one limit : ℕ) → one ≡ 1 * 10 ^ places → v % one ≡ 0 → v / one ≤ limit
+    → rounded_of negative (v * 10 ^ 0) (10 ^ places) limit ≡ Ok (record { value = signed negative (v / one); exact = true })
+zero_decimals negative v places one limit is none small =
+    let tens : one ≡ 10 ^ places = omega (arith, is) in
+    let num : v * 10 ^ 0 ≡ v / one * 10 ^ places = (let e = div-add-mod' v one in let f = ap (λ m. v / one * m) tens in omega (arith, e, f, none)) in
+    rw num (rounded_of-whole negative (10 ^ places) (v / one) limit (one-le-pow places 10 (omega arith)) small)

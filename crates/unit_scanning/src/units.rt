@@ -96,7 +96,33 @@ pub fn units_at(bytes: &[u8]) -> Option<(Units, &[u8])>
     Some((units, rest))
 }
 
-/// The whole number at the front, no farther from zero than the limit, and what follows it. None where it has a fraction or an
+/// The whole number at the front whose decimals are all zeros, no farther from zero than the limit, and what follows it. None where one is
+/// another digit, where it has an exponent, and where it isn't read this way for its size.
+#[cold]
+#[inline(never)]
+fn whole_decimals_at(limit: u64, bytes: &[u8]) -> Option<(i64, &[u8])>
+    requires { limit ≤ 10 ^ 18 }
+    ensures whole { IfSome result (λ x. IsWholeNumber limit bytes.now x.0 x.1.now) }
+    ensures within { IfSome result (λ x. unsigned_abs x.0 ≤ limit) }
+{
+    let (negative, prefix) = sign_at(bytes);
+    if !is_whole(prefix) {
+        return None;
+    }
+    let (whole, following) = digits_at(0, prefix)?;
+    let (value, places, rest) = fraction_at(whole, following)?;
+    if !is_end(rest) {
+        return None;
+    }
+    let one = with_zeros(1, places)?;
+    let size = value / one;
+    if value % one != 0 || size > limit {
+        return None;
+    }
+    Some((with_sign(negative, size), rest))
+}
+
+/// The whole number at the front, no farther from zero than the limit, and what follows it. None where a decimal is no zero, where it has an
 /// exponent, and where it isn't read this way for its size.
 #[inline(always)]
 pub fn whole_number_at(limit: u64, bytes: &[u8]) -> Option<(i64, &[u8])>
@@ -109,7 +135,10 @@ pub fn whole_number_at(limit: u64, bytes: &[u8]) -> Option<(i64, &[u8])>
         return None;
     }
     let (size, rest) = whole_digits_at(prefix)?;
-    if !is_end(rest) || size > limit {
+    if !is_end(rest) {
+        return whole_decimals_at(limit, bytes);
+    }
+    if size > limit {
         return None;
     }
     Some((with_sign(negative, size), rest))

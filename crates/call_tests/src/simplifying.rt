@@ -41,7 +41,7 @@ fn kept_ends(alloc: Global, topology: &Topology) -> Result<Vec<Vec<usize>>, Memo
 }
 
 /// The topology of a text.
-fn topology_of(alloc: Global, text: &[u8]) -> Option<Topology> {
+pub fn topology_of(alloc: Global, text: &[u8]) -> Option<Topology> {
     let value = parse(alloc, text, TOPOLOGY_DEPTH).ok()?;
     let (topology, _counts) = read_topology(alloc, value).ok()?;
     Some(topology)

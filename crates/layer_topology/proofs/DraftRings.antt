@@ -24,6 +24,7 @@ use Rattle.simplified_topology.specs.ProtectedLayers.{drafted_refs, greatest_of_
 use Rattle.simplified_topology.specs.ProtectedLayersLaws.{greatest_rings, BuiltRingsAreOfLayers}
 use Rattle.simplified_topology.specs.ProtectedRings.{CanStay, ProtectedRingsCanStay}
 use Rattle.simplified_topology.proofs.Again.{all_hold}
+use Rattle.simplified_topology.proofs.GreatestLeft.{put, ring_among, ring_made}
 use Rattle.simplified_topology.proofs.ProtectedLayers.{rings_of_layers}
 use Rattle.simplified_topology.proofs.RingsAlike.{as_they_are, as_it_is, rings_made}
 use Rattle.topojson_types.specs.declared.object.TopoObject.{TopoObject}
@@ -32,7 +33,6 @@ use Rattle.topojson_types.specs.Validity.{AreDistinct, IsArc, IsTopology}
 use Rattle.topo_model.specs.Drafts.{RefsOf, draft_refs, relined, feature_drafted, objects_drafted}
 use Rattle.topo_model.specs.Renumbering.{renumbered_by}
 use Rattle.topo_model.specs.Uses.{answers}
-use Rattle.topo_model.proofs.GreatestMade.{put, ring_among, ring_made}
 use Rattle.topo_model.proofs.RelinedMarks.{rings_relined}
 use Rattle.topo_model.proofs.Renumbered.{NewIndexesOf, all_renumbered}
 

@@ -1,92 +1,49 @@
 -- What holds of the rings of a topology holds of those of them that are protected.
-use Rattle.std.proofs.Common.{◌≡◌, ℕ, suc, ℤ, Bool, true, List, [], ◌∷◌, map, length, Option, None, Some, inl, refl, sym, ap, ◌∙◌, subst}
+use Rattle.std.proofs.Common.{◌≡◌, ℕ, ℤ, Bool, true, List, ◌∷◌, map, length, Option, None, Some, inl, refl, sym, subst}
 use Rattle.std.specs.List.{AllByRecursion}
 use Rattle.std.proofs.lemmas.List.{length-map}
 use Rattle.geometry.specs.Joins.{AreInRange, Meet, arc_at}
 use Rattle.geometry.specs.Lists.{In, joined}
-use Rattle.geometry.specs.Paths.{Placed, inside_part, of_parts}
 use Rattle.geometry.specs.Points.{Point}
-use Rattle.geometry.specs.Pruning.{lines_and_rings, option_lines_and_rings}
-use Rattle.geometry.proofs.Cases.{lines_and_rings-area, lines_and_rings-areas, lines_and_rings-group}
-use Rattle.geometry.proofs.Induction.{by_kinds}
+use Rattle.geometry.specs.Pruning.{option_lines_and_rings}
 use Rattle.guarded_meaning.specs.Guards.{is_long}
-use Rattle.owned_values.proofs.Elements.{all_append, all_left, all_right, all_map, all_weaker, each_of}
+use Rattle.owned_values.proofs.Elements.{all_weaker, each_of}
 use Rattle.owned_values.proofs.Members.{in_right}
 use Rattle.topojson_types.specs.declared.feature.TopoFeature.{TopoFeature}
 use Rattle.topojson_types.specs.declared.object.TopoObject.{TopoObject}
 use Rattle.topojson_types.specs.declared.transform.Transform.{Transform}
 use Rattle.topojson_types.specs.Decoding.{placed_arcs}
-use Rattle.topojson_types.specs.Topologies.{TopoShape, Contents, object_features, objects_lines_and_rings}
+use Rattle.topojson_types.specs.Topologies.{object_features, objects_lines_and_rings}
 use Rattle.topojson_types.specs.Transforms.{place_on}
-use Rattle.topojson_types.specs.Validity.{IsJoined, IsTopology}
+use Rattle.topojson_types.specs.Validity.{IsJoined}
 use Rattle.simplified_topology.specs.Guarded.{arc_positions}
-use Rattle.simplified_topology.specs.OuterRings.{outer_ring, outer_rings}
-use Rattle.simplified_topology.specs.Protected.{Protection, greatest_ring, protected_of, protected_rings}
-use Rattle.simplified_topology.specs.ProtectedRings.{CanStay, ProtectedRingsCanStay}
+use Rattle.simplified_topology.specs.OuterRings.{outer_rings}
+use Rattle.simplified_topology.specs.Protected.{greatest_ring, protected_of, protected_rings}
+use Rattle.simplified_topology.specs.ProtectedRings.{ProtectedRingsCanStay}
 use Rattle.simplified_topology.proofs.Again.{all_hold}
 use Rattle.simplified_topology.proofs.Greatest.{greatest_is}
-use Rattle.simplified_topology.proofs.Marks.{outer_rings_at}
+use Rattle.simplified_topology.proofs.GreatestLeft.{rings_within}
 use Rattle.simplified_topology.proofs.Protected.{OfFeature, Protects, all_given, each_of_objects, protected_parts}
 use Rattle.simplified_topology.proofs.ValidCelled.{line_map, meet_map}
 
-module _ (X : Bool × List ℤ → Type 0) where
-  -- ---- the outer rings of a shape
+-- ---- the protected ring of a feature
 
-  abbrev OfRing : Placed (List ℤ) → Type 0
-  OfRing x = X (true, x.part)
+module _ (X : Bool × List ℤ → Type 0) (arcs : List (List Point)) where
+  abbrev Given : TopoFeature → Type 0
+  Given f = (refs : List ℤ) → protected_of (greatest_ring arcs) f ≡ Some refs → X (true, refs)
 
-  abbrev OfOuter : TopoShape → Type 0
-  OfOuter s = AllByRecursion X (lines_and_rings s) → AllByRecursion OfRing (outer_rings s)
+  of_protected : (f : TopoFeature) → OfFeature X f → Given f
+  of_protected f h refs e =
+      let p : Protects (greatest_ring arcs) f.shape refs = protected_parts (greatest_ring arcs) f.shape refs e in
+      let g = greatest_is arcs p.shape p.ring p.is_ring in
+      let among : In p.ring (outer_rings p.shape) = subst (In p.ring) (sym g.outer) (in_right p.ring g.before (p.ring ∷ g.after) (inl refl)) in
+      let all : AllByRecursion (λ x. X (true, x.part)) (outer_rings p.shape) = rings_within X p.shape (subst (λ o. AllByRecursion X (option_lines_and_rings o)) p.has_shape h) in
+      subst (λ rs. X (true, rs)) p.refs_are (each_of (λ x. X (true, x.part)) (outer_rings p.shape) p.ring all among)
 
-  abbrev tagged : List (List ℤ) → List (Bool × List ℤ)
-  tagged rs = map (λ l. (true, l)) rs
-
-  of_all_parts : (i : ℕ) (xss : List (List (Placed (List ℤ)))) → AllByRecursion (AllByRecursion OfRing) xss → AllByRecursion OfRing (of_parts i xss)
-  of_all_parts i [] h = tt
-  of_all_parts i (xs ∷ xss) h =
-      all_append OfRing (inside_part i xs) (of_parts (suc i) xss) (all_map OfRing (λ (x : Placed (List ℤ)). record { path = i ∷ x.path; part = x.part }) xs h.0) (of_all_parts (suc i) xss h.1)
-
-  of_area : (rs : List (List ℤ)) → AllByRecursion X (tagged rs) → AllByRecursion OfRing (outer_ring rs)
-  of_area [] h = tt
-  of_area (outer ∷ holes) h = (h.0, tt)
-
-  of_areas : (areas : List (List (List ℤ))) → AllByRecursion X (joined (map tagged areas)) → AllByRecursion (AllByRecursion OfRing) (map outer_ring areas)
-  of_areas [] h = tt
-  of_areas (rs ∷ areas) h = (of_area rs (all_left X (tagged rs) (joined (map tagged areas)) h), of_areas areas (all_right X (tagged rs) (joined (map tagged areas)) h))
-
-  of_group : (ss : List TopoShape) → AllByRecursion OfOuter ss → AllByRecursion X (joined (map lines_and_rings ss)) → AllByRecursion (AllByRecursion OfRing) (map outer_rings ss)
-  of_group [] all h = tt
-  of_group (s ∷ ss) all h = (all.0 (all_left X (lines_and_rings s) (joined (map lines_and_rings ss)) h), of_group ss all.1 (all_right X (lines_and_rings s) (joined (map lines_and_rings ss)) h))
-
-  of_outer : (s : TopoShape) → OfOuter s
-  of_outer = by_kinds OfOuter (record {
-    point = λ p h. subst (AllByRecursion OfRing) (sym ((outer_rings_at Point (List ℤ)).point p)) tt;
-    points = λ ps h. subst (AllByRecursion OfRing) (sym ((outer_rings_at Point (List ℤ)).points ps)) tt;
-    line = λ l h. subst (AllByRecursion OfRing) (sym ((outer_rings_at Point (List ℤ)).line l)) tt;
-    lines = λ ls h. subst (AllByRecursion OfRing) (sym ((outer_rings_at Point (List ℤ)).lines ls)) tt;
-    area = λ rs h. subst (AllByRecursion OfRing) (sym ((outer_rings_at Point (List ℤ)).area rs)) (of_area rs (subst (AllByRecursion X) (lines_and_rings-area Point (List ℤ) rs) h));
-    areas = λ areas h. subst (AllByRecursion OfRing) (sym ((outer_rings_at Point (List ℤ)).areas areas)) (of_all_parts 0 (map outer_ring areas) (of_areas areas (subst (AllByRecursion X) (lines_and_rings-areas Point (List ℤ) areas) h)));
-    group = λ ss all h. subst (AllByRecursion OfRing) (sym ((outer_rings_at Point (List ℤ)).group ss)) (of_all_parts 0 (map outer_rings ss) (of_group ss all (subst (AllByRecursion X) (lines_and_rings-group Point (List ℤ) ss) h)));
-  })
-
-  -- ---- the protected ring of a feature
-
-  module _ (arcs : List (List Point)) where
-    abbrev Given : TopoFeature → Type 0
-    Given f = (refs : List ℤ) → protected_of (greatest_ring arcs) f ≡ Some refs → X (true, refs)
-
-    of_protected : (f : TopoFeature) → OfFeature X f → Given f
-    of_protected f h refs e =
-        let p : Protects (greatest_ring arcs) f.shape refs = protected_parts (greatest_ring arcs) f.shape refs e in
-        let g = greatest_is arcs p.shape p.ring p.is_ring in
-        let among : In p.ring (outer_rings p.shape) = subst (In p.ring) (sym g.outer) (in_right p.ring g.before (p.ring ∷ g.after) (inl refl)) in
-        let all : AllByRecursion OfRing (outer_rings p.shape) = of_outer p.shape (subst (λ o. AllByRecursion X (option_lines_and_rings o)) p.has_shape h) in
-        subst (λ rs. X (true, rs)) p.refs_are (each_of OfRing (outer_rings p.shape) p.ring all among)
-
-    of_all_protected : (os : List (List ℕ × TopoObject)) → AllByRecursion X (objects_lines_and_rings os) → AllByRecursion (λ refs. X (true, refs)) (protected_rings (greatest_ring arcs) os)
-    of_all_protected os h =
-        let features : List TopoFeature = joined (map (λ o. object_features o.1) os) in
-        all_given (λ refs. X (true, refs)) (protected_of (greatest_ring arcs)) features (all_weaker (OfFeature X) Given of_protected features (each_of_objects X os h))
+  of_all_protected : (os : List (List ℕ × TopoObject)) → AllByRecursion X (objects_lines_and_rings os) → AllByRecursion (λ refs. X (true, refs)) (protected_rings (greatest_ring arcs) os)
+  of_all_protected os h =
+      let features : List TopoFeature = joined (map (λ o. object_features o.1) os) in
+      all_given (λ refs. X (true, refs)) (protected_of (greatest_ring arcs)) features (all_weaker (OfFeature X) Given of_protected features (each_of_objects X os h))
 
 -- ---- arcs in the plane
 

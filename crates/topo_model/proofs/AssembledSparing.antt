@@ -30,7 +30,7 @@ use Rattle.simplified_topology.specs.Protected.{Protection, greatest_ring, cause
 use Rattle.simplified_topology.specs.ProtectedLayers.{greatest_of_layers, layer_shape_marked, drafted_refs, unprotected_cause, feature_sparing, assembled_sparing, option_unspared, assembled_sparing_dropped, assembled_sparing_removed_count}
 use Rattle.simplified_topology.specs.Simplified.{small_cause, large_refs, retained_arcs, EachFromFirstToLast}
 use Rattle.simplified_topology.proofs.Assembled.{contents}
-use Rattle.topo_model.proofs.GreatestMade.{put, ring_among, ring_made}
+use Rattle.simplified_topology.proofs.GreatestLeft.{put, ring_among, ring_made}
 use Rattle.simplified_topology.proofs.Marks.{without_mark}
 use Rattle.simplified_topology.proofs.ProtectedLayers.{sparing_of_layers}
 use Rattle.simplified_topology.proofs.RingsAlike.{all_marked}

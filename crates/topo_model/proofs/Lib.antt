@@ -8,7 +8,6 @@ pub mod DraftAtZero
 pub mod DraftUses
 pub mod Drops
 pub mod Enclosed
-pub mod GreatestMade
 pub mod Kept
 pub mod KeptParts
 pub mod Marked

@@ -1,17 +1,23 @@
 -- From where segments come that meet badly, of what is left of a topology where no crossing may be made; with a worked row in whole units.
-use Rattle.std.proofs.Common.{◌≡◌, ℕ, ℤ, pos, Bool, true, false, List, [], ◌∷◌, map, inl, inr, refl, ap, arith}
+use Rattle.std.proofs.Common.{◌≡◌, ℕ, suc, ℤ, pos, Bool, true, false, cond, List, [], ◌∷◌, ◌++◌, map, inl, inr, refl, ap, sym, ◌∙◌, subst, append-nil, arith}
+use Rattle.std.proofs.lemmas.List.{map-append}
+use Rattle.std.proofs.lemmas.List.Elements.{filter-append}
+use Rattle.std.specs.List.{filter}
 use Rattle.build_meaning.specs.Trimming.{is_used, keep_from}
 use Rattle.elimination_meaning.specs.Elimination.{Vertex, numbered}
 use Rattle.geometry.specs.Areas.{cross, twice_area}
 use Rattle.geometry.specs.Points.{Point}
 use Rattle.geometry.specs.Rings.{same}
-use Rattle.guarded_meaning.specs.Arcs.{Neighbours, neighbours_at, segment_of, arc_segments}
+use Rattle.guarded_meaning.specs.Arcs.{Neighbours, neighbours_at, segment_of, neighbours_from, neighbours, all_neighbours, arc_segments, segments, points_of}
 use Rattle.guarded_meaning.specs.Elimination.{goes_before, remaining_arcs, reduced_arcs}
 use Rattle.guarded_meaning.specs.Guards.{guarded_by, is_free, keeps_rings}
 use Rattle.guarded_meaning.specs.Laws.{NoCrossingsLaw}
 use Rattle.guarded_meaning.specs.Origins.{MetBefore}
-use Rattle.guarded_meaning.specs.Segments.{is_on, touches, separates, crosses, same_ends, meets_badly}
+use Rattle.guarded_meaning.specs.Segments.{has_length, is_on, touches, separates, crosses, same_ends, meets_badly}
 use Rattle.guarded_meaning.specs.Triangles.{in_triangle}
+use Rattle.guarded_meaning.proofs.Counts.{segments_by_points}
+use Rattle.guarded_meaning.proofs.Lists.{filter_map}
+use Rattle.guarded_meaning.proofs.Neighbours.{line_segments, all_segments, segments_are}
 use Rattle.guarded_meaning.proofs.Thinned.{remaining_thinned}
 use Rattle.layer_topology.specs.Guarded.{HasOrigins}
 use Rattle.simplified_topology.specs.Guarded.{arc_positions, guarded_contents, guarded_indexes}
@@ -20,6 +26,63 @@ use Rattle.simplified_topology.specs.Protected.{Protection, protected_rings, pro
 use Rattle.simplified_topology.specs.ProtectedLaws.{ProtectingArcsAreReduced}
 use Rattle.simplified_topology.specs.Simplified.{retained_whole}
 use Rattle.topojson_types.specs.Topologies.{Contents}
+
+-- ---- the segments of some of the arcs
+
+module _ (stays : ℕ → Bool) where
+  abbrev of_kept : Neighbours → Bool
+  of_kept n = stays n.arc
+
+  abbrev runs : Neighbours → Bool
+  runs n = has_length (segment_of n)
+
+  module _ (n : Neighbours) (more : List Neighbours) where
+    stays_in_front : stays n.arc ≡ true → (r : Bool) → filter of_kept more ≡ more → filter of_kept (cond r (n ∷ more) more) ≡ cond r (n ∷ more) more
+    stays_in_front s true e = subst (λ c. cond c (n ∷ filter of_kept more) (filter of_kept more) ≡ n ∷ more) (sym s) (ap (λ ns. n ∷ ns) e)
+    stays_in_front s false e = e
+
+    goes_in_front : stays n.arc ≡ false → (r : Bool) → filter of_kept more ≡ [] → filter of_kept (cond r (n ∷ more) more) ≡ []
+    goes_in_front s true e = subst (λ c. cond c (n ∷ filter of_kept more) (filter of_kept more) ≡ []) (sym s) e
+    goes_in_front s false e = e
+
+  all_stay : (k : ℕ) → stays k ≡ true → (a : Vertex) (vs : List Vertex) → filter of_kept (filter runs (neighbours_from k a vs)) ≡ filter runs (neighbours_from k a vs)
+  all_stay k s a [] = refl
+  all_stay k s a (b ∷ vs) = stays_in_front (neighbours_at k a b) (filter runs (neighbours_from k b vs)) s (runs (neighbours_at k a b)) (all_stay k s b vs)
+
+  none_stays : (k : ℕ) → stays k ≡ false → (a : Vertex) (vs : List Vertex) → filter of_kept (filter runs (neighbours_from k a vs)) ≡ []
+  none_stays k s a [] = refl
+  none_stays k s a (b ∷ vs) = goes_in_front (neighbours_at k a b) (filter runs (neighbours_from k b vs)) s (runs (neighbours_at k a b)) (none_stays k s b vs)
+
+  -- of one arc all, or none
+  of_arc : (k : ℕ) (vs : List Vertex) (b : Bool) → stays k ≡ b → filter of_kept (filter runs (neighbours k vs)) ≡ cond b (filter runs (neighbours k vs)) []
+  of_arc k [] true s = refl
+  of_arc k [] false s = refl
+  of_arc k (a ∷ vs) true s = all_stay k s a vs
+  of_arc k (a ∷ vs) false s = none_stays k s a vs
+
+  arc_points : (k : ℕ) (vs : List Vertex) → map segment_of (filter runs (neighbours k vs)) ≡ filter has_length (line_segments (map (λ v. v.point) vs))
+  arc_points k vs =
+      sym (filter_map has_length segment_of (neighbours k vs))
+      ∙ ap (λ ns. filter has_length (map segment_of ns)) (sym (append-nil (neighbours k vs)))
+      ∙ ap (filter has_length) (segments_are k (vs ∷ []) ∙ append-nil (line_segments (map (λ v. v.point) vs)))
+
+  with_later : (k : ℕ) (vs : List Vertex) (later : List (List Point)) (b : Bool) → stays k ≡ b → map segment_of (filter of_kept (filter runs (neighbours k vs))) ++ filter has_length (all_segments later)
+      ≡ filter has_length (all_segments (cond b (map (λ v. v.point) vs ∷ later) later))
+  with_later k vs later true s = ap (λ ns. map segment_of ns ++ filter has_length (all_segments later)) (of_arc k vs true s)
+      ∙ ap (λ ss. ss ++ filter has_length (all_segments later)) (arc_points k vs) ∙ sym (filter-append has_length (line_segments (map (λ v. v.point) vs)) (all_segments later))
+  with_later k vs later false s = ap (λ ns. map segment_of ns ++ filter has_length (all_segments later)) (of_arc k vs false s)
+
+  -- they are those of the kept arcs' positions
+  segments_kept : (k : ℕ) (arcs : List (List Vertex)) → map segment_of (filter of_kept (filter runs (all_neighbours k arcs))) ≡ filter has_length (all_segments (keep_from stays k (points_of arcs)))
+  segments_kept k [] = refl
+  segments_kept k (vs ∷ arcs) =
+      ap (λ ns. map segment_of (filter of_kept ns)) (filter-append runs (neighbours k vs) (all_neighbours (suc k) arcs))
+      ∙ ap (map segment_of) (filter-append of_kept (filter runs (neighbours k vs)) (filter runs (all_neighbours (suc k) arcs)))
+      ∙ map-append segment_of (filter of_kept (filter runs (neighbours k vs))) (filter of_kept (filter runs (all_neighbours (suc k) arcs)))
+      ∙ ap (λ ss. map segment_of (filter of_kept (filter runs (neighbours k vs))) ++ ss) (segments_kept (suc k) arcs)
+      ∙ with_later k vs (keep_from stays (suc k) (points_of arcs)) (stays k) refl
+
+-- ---- where segments come from
 
 -- where the arcs that are left are some of the reduced ones
 some_origins : NoCrossingsLaw → (rings : List (List ℤ)) (t : ℕ) (y left : Contents) (stays : ℕ → Bool) →
@@ -30,6 +93,8 @@ some_origins law rings t y left stays some = record {
   thinned = remaining_thinned (guarded_by true rings) t (arc_positions y);
   stays = stays;
   arcs = some;
+  segments_are = ap segments some ∙ segments_by_points (keep_from stays 0 (points_of (remaining_arcs (guarded_by true rings) t (arc_positions y))))
+      ∙ sym (segments_kept stays 0 (remaining_arcs (guarded_by true rings) t (arc_positions y)));
   met = law rings t (arc_positions y);
 }
 

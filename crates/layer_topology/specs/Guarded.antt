@@ -1,10 +1,11 @@
 -- What is left of a topology where guards are asked for.
 use Rattle.std.specs.Prelude.{◌≡◌, ◌≢◌, ℕ, ◌≤◌, ℤ, Bool, true, false, ◌||◌, List, [], map, Some, if◌then◌else◌}
+use Rattle.std.specs.List.{filter}
 use Rattle.build_meaning.specs.Trimming.{keep_from}
 use Rattle.elimination_meaning.specs.Elimination.{Vertex, numbered}
 use Rattle.geometry.specs.declared.address.Dropped.{Dropped}
 use Rattle.geometry.specs.Lists.{In}
-use Rattle.guarded_meaning.specs.Arcs.{Neighbours, segment_of, arc_segments, points_of}
+use Rattle.guarded_meaning.specs.Arcs.{Neighbours, segment_of, arc_segments, segments, points_of}
 use Rattle.guarded_meaning.specs.Elimination.{Guard}
 use Rattle.guarded_meaning.specs.Guards.{guarded_by}
 use Rattle.guarded_meaning.specs.Lists.{EachTo, IsThinned}
@@ -62,14 +63,16 @@ removed_count_under guards t limit y =
     if guards.keep_shapes then protecting_removed_count guards.no_crossings (greatest_ring (arc_positions y)) t limit y
     else (if guards.no_crossings then guarded_removed_count true t limit y else simplified_removed_count t limit y)
 
--- The arcs of the second topology are some of the first's, in order, each without some of the vertices between its ends. Each two of their segments
--- that meet badly come of two of the first's that met badly: of those between the ends of the one in its arc, and those between the ends of the
--- other in its arc, one of each meet badly. Vertices have their indexes in the first's arcs, and segments the numbers of these.
+-- The arcs of the second topology are some of the first's, in order, each without some of the vertices between its ends, and its segments are those
+-- of these arcs, in order. Each two segments of the arcs, left out or not, that meet badly come of two of the first's that met badly: of those between
+-- the ends of the one in its arc, and those between the ends of the other in its arc, one of each meet badly. Vertices have their indexes in the
+-- first's arcs, and segments the numbers of these.
 pub record HasOrigins (before after : Contents) : Type 0 where
   pub vertices : List (List Vertex)
   pub thinned : EachTo IsThinned vertices (map (numbered 0) (arc_positions before))
   pub stays : ℕ → Bool
   pub arcs : arc_positions after ≡ keep_from stays 0 (points_of vertices)
+  pub segments_are : segments (arc_positions after) ≡ map segment_of (filter (λ n. stays n.arc) (arc_segments vertices))
   pub met : (new other : Neighbours) → In new (arc_segments vertices) → In other (arc_segments vertices) → new ≢ other
       → meets_badly (segment_of new) (segment_of other) ≡ true → MetBefore (arc_segments (map (numbered 0) (arc_positions before))) new other
 

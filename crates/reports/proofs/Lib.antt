@@ -3,5 +3,6 @@ pub mod Hollow
 pub mod Lines
 pub mod Lists
 pub mod Lost
+pub mod LostOnce
 mod Objects
 pub mod Reported

@@ -2,6 +2,7 @@ pub mod FaultLines
 pub mod Faults
 pub mod Lines
 pub mod Losses
+pub mod LossLaws
 pub mod Reports
 pub mod RunReports
 pub mod Statuses

@@ -11,6 +11,7 @@ mod explanation_writer;
 mod fault_line;
 mod fault_members;
 mod fault_writer;
+mod laws;
 mod losing;
 mod number_writer;
 mod printing;
@@ -25,6 +26,7 @@ mod summary_writer;
 mod value_writer;
 
 pub use counting::{report_of, summary_with};
+pub use laws::each_lost_counts_once;
 pub use losing::{features_in, has_nothing};
 pub use printing::{print_fault, print_file_fault, print_text};
 pub use report::Report;

@@ -1,7 +1,7 @@
 -- What is true of reducing a topology again.
 use Rattle.std.specs.Prelude.{◌≡◌, ℕ, List, Option, None, Some, map}
 use Rattle.std.specs.List.{AllByRecursion}
-use Rattle.build_meaning.specs.Built.{built, removed_count}
+use Rattle.build_meaning.specs.Built.{untrimmed, built, removed_count}
 use Rattle.build_meaning.specs.Expected.{expected, expected_dropped}
 use Rattle.build_meaning.specs.Laws.{AreSound}
 use Rattle.build_meaning.specs.Layers.{Named, names_of, layers_of}
@@ -16,9 +16,9 @@ use Rattle.topojson_types.specs.Decoding.{decoded}
 use Rattle.topojson_types.specs.Topologies.{Contents, object_features}
 use Rattle.topojson_types.specs.Transforms.{IsTransform}
 use Rattle.topojson_types.specs.Validity.{AreDistinct, IsTopology}
-use Rattle.simplified_topology.specs.Assembled.{arcs_of_layers, arc_indexes, assembled, assembled_dropped, assembled_removed_count}
+use Rattle.simplified_topology.specs.Assembled.{arcs_of_layers, arc_indexes, assembled_whole, assembled, assembled_dropped, assembled_removed_count}
 use Rattle.simplified_topology.specs.Celled.{celled, LiesBack, IsOnGrid, EachCell}
-use Rattle.simplified_topology.specs.Simplified.{retained, EachFromFirstToLast, simplified_by}
+use Rattle.simplified_topology.specs.Simplified.{retained, EachFromFirstToLast, retained_whole, simplified_by}
 use Rattle.simplified_topology.specs.Thresholds.{reduced_indexes, simplified_contents}
 
 -- ---- reduction
@@ -96,6 +96,10 @@ AssemblesToBuilt = (t limit : ℕ) (ls : Named) → AreSound ls → assembled (a
 -- the lines and rings that are dropped are those that are expected to be
 abbrev pub AssemblingDropsExpected : Type 0
 AssemblingDropsExpected = (t limit : ℕ) (ls : Named) → AreSound ls → assembled_dropped (arc_indexes t ls) limit ls ≡ expected_dropped t limit ls
+
+-- what is left of the layers over all their arcs is left by their own lines: each is dropped for the cause for which it is reported
+abbrev pub AssemblingIsOfLayers : Type 0
+AssemblingIsOfLayers = (kept : List (List ℕ)) (limit : ℕ) (ls : Named) → AreSound ls → retained_whole kept limit (untrimmed 0 0 ls) ≡ assembled_whole kept limit ls
 
 -- as many positions are removed as reduction removes
 abbrev pub AssemblingRemoves : Type 0

@@ -1,5 +1,5 @@
 // Laws of the definitions. A function here changes nothing: its contract is the law.
-ghost use Rattle.simplified_topology.specs.Laws.{ArcIndexesReach, AssembledIsValid, AssemblesToBuilt, AssemblingDropsExpected, AssemblingRemoves, BuiltDecodesOnGrid, BuiltIsValidOnGrid, CelledDecodes, CelledIsValid, DecodesBackOnGrid, IndexesReach, SimplifiedIsValid, SimplifiedKeeps, SimplifiesToBuilt, SimplifiesToBuiltOnGrid, RetainedIsReduced, ReducedIsValid};
+ghost use Rattle.simplified_topology.specs.Laws.{ArcIndexesReach, AssembledIsValid, AssemblesToBuilt, AssemblingDropsExpected, AssemblingIsOfLayers, AssemblingRemoves, BuiltDecodesOnGrid, BuiltIsValidOnGrid, CelledDecodes, CelledIsValid, DecodesBackOnGrid, IndexesReach, SimplifiedIsValid, SimplifiedKeeps, SimplifiesToBuilt, SimplifiesToBuiltOnGrid, RetainedIsReduced, ReducedIsValid};
 
 use build_meaning::{built_decodes_back, built_is_valid};
 use elimination_meaning::{direction_law, ends_stay, nothing_is_new, zero_law};
@@ -101,6 +101,14 @@ pub fn assembling_drops_expected()
     ensures { AssemblingDropsExpected }
 {
     direction_law();
+    zero_law();
+}
+
+/// What is left of layers over all their arcs is left by their own lines and rings: what is reported of one, and whether it is left, has one
+/// cause.
+pub fn assembling_is_of_layers()
+    ensures { AssemblingIsOfLayers }
+{
     zero_law();
 }
 

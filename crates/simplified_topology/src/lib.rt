@@ -26,9 +26,10 @@ pub use guarded_laws::{
 };
 pub use laws::{
     arc_indexes_reach, assembled_is_valid, assembles_to_built, assembling_drops_expected,
-    assembling_removes, built_decodes_back_on_grid, built_decodes_on_grid, built_is_valid_on_grid,
-    celled_decodes, celled_is_valid, indexes_reach, reduced_is_valid, retained_is_reduced,
-    simplified_is_valid, simplified_keeps, simplifies_to_built, simplifies_to_built_on_grid,
+    assembling_is_of_layers, assembling_removes, built_decodes_back_on_grid, built_decodes_on_grid,
+    built_is_valid_on_grid, celled_decodes, celled_is_valid, indexes_reach, reduced_is_valid,
+    retained_is_reduced, simplified_is_valid, simplified_keeps, simplifies_to_built,
+    simplifies_to_built_on_grid,
 };
 pub use protected_laws::{
     greatest_ring_is_greatest, none_is_greatest, protecting_arcs_are_reduced,

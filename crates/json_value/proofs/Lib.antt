@@ -1,6 +1,7 @@
 pub mod Depths
 pub mod Escapes
 mod Examples
+pub mod Inherits
 pub mod Inside
 pub mod KindsOf
 pub mod Letters

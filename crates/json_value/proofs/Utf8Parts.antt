@@ -1,7 +1,7 @@
 -- Values whose number texts, texts and names are all UTF-8: one lemma a variant, from what holds of their parts.
-use Rattle.std.proofs.Common.{ℕ, ◌≡◌, Bool, true, List, [], ◌∷◌, map, arith}
+use Rattle.std.proofs.Common.{ℕ, ◌≡◌, Bool, true, List, [], ◌∷◌, arith}
 use Rattle.std.specs.Prelude.{◌&&◌, nat_lt, IsUtf8}
-use Rattle.std.specs.List.{flat_map, AllByRecursion}
+use Rattle.std.specs.List.{AllByRecursion}
 use Rattle.std.proofs.lemmas.Bool.{and_parts}
 use Rattle.std.proofs.lemmas.Bool.Decides.{nat_tests}
 use Rattle.std.proofs.lemmas.Str.{IsUtf8-from_ascii}
@@ -15,7 +15,7 @@ use Rattle.json_value.specs.Numbers.{numbers_of, HasNumbers}
 use Rattle.json_value.specs.WellFormed.{texts_of, HasTexts, IsWellFormed}
 use Rattle.json_value.proofs.NumbersOf.{all_flat, numbers-null, numbers-number, numbers-text, numbers-array, numbers-object}
 use Rattle.json_value.proofs.TextsOf.{texts-null, texts-number, texts-text, texts-array, texts-object}
-use Rattle.owned_values.proofs.Elements.{all_map, all_of, all_weaker}
+use Rattle.owned_values.proofs.Elements.{all_weaker}
 
 -- each is UTF-8
 abbrev Each : List (List ℕ) → Type 0
@@ -43,35 +43,21 @@ number_value_utf8 t h = record { numbers = rw (numbers-number t) (h, tt); texts 
 pub text_value_utf8 : (t : List ℕ) → IsUtf8 t → AreUtf8 (j.Text t)
 text_value_utf8 t h = record { numbers = rw (numbers-text t) tt; texts = rw (texts-text t) (h, tt) }
 
--- an array of the values of these items
-module _ {A : Type 0} (value : A → Json) where
-  items_numbers : (xs : List A) → AllByRecursion (λ x. AreUtf8 (value x)) xs → Each (flat_map numbers_of (map value xs))
-  items_numbers xs h = all_flat (λ t. IsUtf8 t) numbers_of (map value xs)
-      (all_map (λ v. Each (numbers_of v)) value xs (all_weaker (λ x. AreUtf8 (value x)) (λ x. Each (numbers_of (value x))) (λ x u. u.numbers) xs h))
-
-  items_texts : (xs : List A) → AllByRecursion (λ x. AreUtf8 (value x)) xs → Each (flat_map texts_of (map value xs))
-  items_texts xs h = all_flat (λ t. IsUtf8 t) texts_of (map value xs)
-      (all_map (λ v. Each (texts_of v)) value xs (all_weaker (λ x. AreUtf8 (value x)) (λ x. Each (texts_of (value x))) (λ x u. u.texts) xs h))
-
-  pub array_utf8 : (xs : List A) → AllByRecursion (λ x. AreUtf8 (value x)) xs → AreUtf8 (j.Array (map value xs))
-  array_utf8 xs h = record { numbers = rw (numbers-array (map value xs)) (items_numbers xs h); texts = rw (texts-array (map value xs)) (items_texts xs h) }
-
-  -- where each value is
-  pub each_utf8 : ((x : A) → AreUtf8 (value x)) → (xs : List A) → AreUtf8 (j.Array (map value xs))
-  each_utf8 h xs = array_utf8 xs (all_of (λ x. AreUtf8 (value x)) xs (λ x k. h x))
+pub array_utf8 : (vs : List Json) → AllByRecursion AreUtf8 vs → AreUtf8 (j.Array vs)
+array_utf8 vs h = record {
+  numbers = rw (numbers-array vs) (all_flat (λ t. IsUtf8 t) numbers_of vs (all_weaker AreUtf8 (λ v. Each (numbers_of v)) (λ v u. u.numbers) vs h));
+  texts = rw (texts-array vs) (all_flat (λ t. IsUtf8 t) texts_of vs (all_weaker AreUtf8 (λ v. Each (texts_of v)) (λ v u. u.texts) vs h));
+}
 
 -- the name of a member is UTF-8, and so are the parts of its value
 abbrev pub MemberUtf8 : List ℕ × Json → Type 0
 MemberUtf8 m = IsUtf8 m.0 × AreUtf8 m.1
 
-members_numbers : (ms : List (List ℕ × Json)) → AllByRecursion MemberUtf8 ms → Each (flat_map (λ m. numbers_of m.1) ms)
-members_numbers ms h = all_flat (λ t. IsUtf8 t) (λ m. numbers_of m.1) ms (all_weaker MemberUtf8 (λ m. Each (numbers_of m.1)) (λ m u. u.1.numbers) ms h)
-
-members_texts : (ms : List (List ℕ × Json)) → AllByRecursion MemberUtf8 ms → Each (flat_map (λ m. m.0 ∷ texts_of m.1) ms)
-members_texts ms h = all_flat (λ t. IsUtf8 t) (λ m. m.0 ∷ texts_of m.1) ms (all_weaker MemberUtf8 (λ m. Each (m.0 ∷ texts_of m.1)) (λ m u. (u.0, u.1.texts)) ms h)
-
 pub object_utf8 : (ms : List (List ℕ × Json)) → AllByRecursion MemberUtf8 ms → AreUtf8 (j.Object ms)
-object_utf8 ms h = record { numbers = rw (numbers-object ms) (members_numbers ms h); texts = rw (texts-object ms) (members_texts ms h) }
+object_utf8 ms h = record {
+  numbers = rw (numbers-object ms) (all_flat (λ t. IsUtf8 t) (λ m. numbers_of m.1) ms (all_weaker MemberUtf8 (λ m. Each (numbers_of m.1)) (λ m u. u.1.numbers) ms h));
+  texts = rw (texts-object ms) (all_flat (λ t. IsUtf8 t) (λ m. m.0 ∷ texts_of m.1) ms (all_weaker MemberUtf8 (λ m. Each (m.0 ∷ texts_of m.1)) (λ m u. (u.0, u.1.texts)) ms h));
+}
 
 -- ---- words
 

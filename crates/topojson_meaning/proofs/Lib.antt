@@ -21,6 +21,4 @@ pub mod ValidShapes
 pub mod ValidTopologies
 pub mod ValidTransforms
 pub mod ValidYields
-pub mod WrittenDepth
-pub mod WrittenNumbers
-mod WrittenTexts
+pub mod Written

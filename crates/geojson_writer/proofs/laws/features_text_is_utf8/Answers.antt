@@ -1,6 +1,6 @@
 use Rattle.json_value.proofs.WrittenUtf8.{parts_written_utf8}
 use Rattle.geojson_writer.specs.FeatureValues.{features_value}
-use Rattle.geojson_writer.proofs.FeaturesUtf8.{features_utf8}
+use Rattle.geojson_writer.proofs.Written.{features_utf8}
 use Rattle.geojson_writer.proofs.laws.features_text_is_utf8.Goals as goal
 
 pub returns : goal.returns

@@ -1,5 +1,4 @@
-use Rattle.topojson_meaning.proofs.WrittenDepth.{topology_depth}
-use Rattle.topojson_meaning.proofs.WrittenNumbers.{topology_numbers}
+use Rattle.topojson_meaning.proofs.Written.{topology_depth, topology_numbers}
 use Rattle.topojson_meaning.proofs.laws.topology_value_is_bounded.Goals as goal
 
 pub returns-clause-numbers : goal.returns-clause-numbers

@@ -1,26 +1,11 @@
 -- The cells and arcs that are written are read back.
 use Rattle.std.proofs.Common.{◌≡◌, ℕ, ℤ, ◌≤◌, List, [], ◌∷◌, map, Option, None, Some, Ok, refl, arith, rules}
 use Rattle.std.specs.Prelude.{unsigned_abs}
-use Rattle.std.specs.List.{AllByRecursion}
-use Rattle.std.proofs.lemmas.Bool.{le-leb}
-use Rattle.std.proofs.lemmas.Int.{ints}
-use Rattle.decimal_text.specs.Scaling.{units_text}
-use Rattle.decimal_text.proofs.UnitsText.{scaled_of-units}
-use Rattle.json_value.specs.declared.json.Json.{Json}
+use Rattle.topojson_meaning.proofs.Names.{le-leb, ints, AllByRecursion, Point, IsWithin, IsPosition, position_limit, unit_places, scaled_of-units, units_text, array_of-array, object_of-object, number_of-number, Json, difference, deltas_from, grid_limit, place_on, origin, moved, IsPlace, IsArc, Transform, number_text, units, elements_position, position, grid_number, grid_cell, elements_cell, cell, difference_limit, cells_after, elements_place, place, arc_cells, arc, arc_list, elements, members, each}
 use Rattle.json_value.specs.declared.json.Json.TheVariants as j
-use Rattle.json_value.proofs.KindsOf.{array_of-array, object_of-object, number_of-number}
-use Rattle.geometry.specs.Points.{Point, IsWithin, IsPosition}
-use Rattle.geometry.specs.Units.{position_limit, unit_places}
-use Rattle.topojson_types.specs.declared.transform.Transform.{Transform}
-use Rattle.topojson_types.specs.Differences.{difference, deltas_from}
-use Rattle.topojson_types.specs.Transforms.{grid_limit, place_on, origin, moved}
-use Rattle.topojson_types.specs.Validity.{IsPlace, IsArc}
 use Rattle.topojson_types.specs.Values.{Members, number_value, cell_places, cell_value, written_cells, arc_value, arcs_value}
 use Rattle.topojson_types.proofs.Grids.{is_within-both}
 use Rattle.topojson_types.proofs.SumsBack.{moved_there}
-use Rattle.topojson_meaning.specs.Arcs.{number_text, units, elements_position, position, grid_number, grid_cell, elements_cell, cell, difference_limit, cells_after, elements_place, place, arc_cells, arc, arc_list}
-use Rattle.topojson_meaning.specs.Members.{elements, members}
-use Rattle.topojson_meaning.specs.Reader.{each}
 use Rattle.topojson_meaning.proofs.Steps.{Gives, then_gives, pure_gives, each_gives}
 
 -- ---- kinds of values

@@ -1,26 +1,11 @@
 -- The features and objects that are written are read back.
 use Rattle.std.proofs.Common.{◌≡◌, ℕ, ◌<◌, true, false, List, [], ◌∷◌, ◌++◌, length, Option, Some, None, Ok, refl, sym, ap, ◌∙◌, subst, arith}
 use Rattle.std.specs.Prelude.{codes, ◌^◌, bytes_eq}
-use Rattle.std.specs.List.{AllByRecursion}
-use Rattle.json_value.specs.declared.json.Json.{Json}
+use Rattle.topojson_meaning.proofs.Names.{AllByRecursion, map_some, Point, option_lines_and_rings, Json, Id, TopoShape, IsPlace, IsArc, IsFeature, is_full_option, option_places, is_single_option, TopoFeature, Transform, identifier, identifier_in, members_if, members_in, feature, feature_element, part_name, is_collection, type_in, type_of, object_type, lookup_fault, named, find, need, with_fault, typed_shape, GeometryType}
 use Rattle.json_value.specs.declared.json.Json.TheVariants as j
-use Rattle.geojson_types.specs.declared.id.Id.{Id}
 use Rattle.geojson_types.specs.declared.id.Id.TheVariants as id
-use Rattle.geometry.specs.Lists.{map_some}
-use Rattle.geometry.specs.Points.{Point}
-use Rattle.geometry.specs.Pruning.{option_lines_and_rings}
-use Rattle.topojson_types.specs.declared.feature.TopoFeature.{TopoFeature}
-use Rattle.topojson_types.specs.declared.transform.Transform.{Transform}
-use Rattle.topojson_types.specs.Topologies.{TopoShape}
-use Rattle.topojson_types.specs.Validity.{IsPlace, IsArc, IsFeature, is_full_option, option_places, is_single_option}
 use Rattle.topojson_types.specs.Values.{Members, Geometrical, id_value, id_members, properties_members, typed, cell_value, geometrical, geometrical_option, feature_value}
-use Rattle.topojson_meaning.specs.declared.geometry_type.GeometryType.{GeometryType}
-use Rattle.topojson_meaning.specs.Features.{identifier, identifier_in, members_if, members_in, feature, feature_element}
-use Rattle.topojson_meaning.specs.GeometryTypes.{part_name, is_collection, type_in, type_of, object_type}
 use Rattle.json_value.specs.Members.{only, there}
-use Rattle.topojson_meaning.specs.Members.{lookup_fault, named, find, need}
-use Rattle.topojson_meaning.specs.Reader.{with_fault}
-use Rattle.topojson_meaning.specs.Shapes.{typed_shape}
 use Rattle.topojson_meaning.proofs.ArcsBack.{object_members}
 use Rattle.topojson_meaning.proofs.ShapesBack.{Parts, named_type, shape_parts, typed_back}
 use Rattle.topojson_meaning.proofs.Steps.{Gives, pure_gives}

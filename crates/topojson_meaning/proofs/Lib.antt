@@ -1,3 +1,4 @@
+pub mod Names
 mod Rows
 mod TransformRows
 pub mod ArcsBack

@@ -1,24 +1,11 @@
 -- The lines, rings and polygons that are written are read back.
 use Rattle.std.proofs.Common.{◌≡◌, ℕ, zero, suc, ℤ, ◌<◌, ◌≤◌, true, false, List, [], ◌∷◌, length, map, Option, Some, None, refl, arith}
 use Rattle.std.specs.Prelude.{◌^◌, unsigned_abs}
-use Rattle.std.specs.List.{AllByRecursion}
-use Rattle.std.proofs.lemmas.Bool.{lt-ltb}
+use Rattle.topojson_meaning.proofs.Names.{lt-ltb, AllByRecursion, same_self, map_some, then_some, Point, both_same, scaled_of-units, array_of-array, Json, is_some_list, IsArc, AreInRange, Transform, some_elements, index_limit, index, joined_to, indexes_after, indexes, as_ring, line_in, line, ring_in, ring, polygon_in, polygon, if_some, kept}
 use Rattle.std.proofs.lemmas.List.{length-reverse}
-use Rattle.decimal_text.proofs.UnitsText.{scaled_of-units}
-use Rattle.json_value.specs.declared.json.Json.{Json}
 use Rattle.json_value.specs.declared.json.Json.TheVariants as j
-use Rattle.json_value.proofs.KindsOf.{array_of-array}
-use Rattle.geojson_types.specs.Features.{is_some_list}
-use Rattle.geometry.specs.Lists.{map_some, then_some}
-use Rattle.geometry.specs.Points.{Point}
-use Rattle.geometry.specs.Rings.{both_same}
-use Rattle.geometry.proofs.Points.{same_self}
 use Rattle.geometry.specs.Joins.{number_of, at, or_empty, arc_at, first_of, last_of, Meet}
-use Rattle.topojson_types.specs.declared.transform.Transform.{Transform}
-use Rattle.topojson_types.specs.Validity.{IsArc, AreInRange}
 use Rattle.topojson_types.specs.Values.{whole_value, line_value, lines_value}
-use Rattle.topojson_meaning.specs.Lines.{some_elements, index_limit, index, joined_to, indexes_after, indexes, as_ring, line_in, line, ring_in, ring, polygon_in, polygon}
-use Rattle.topojson_meaning.specs.Reader.{if_some, kept}
 use Rattle.topojson_meaning.proofs.ArcsBack.{number_is_text}
 use Rattle.topojson_meaning.proofs.Steps.{Gives, then_gives, kept_gives}
 use Rattle.topojson_meaning.proofs.ValidLines.{last_map}

@@ -1,24 +1,13 @@
 -- The objects that are written are read back.
 use Rattle.std.proofs.Common.{◌≡◌, ◌≢◌, ℕ, ◌<◌, true, false, List, [], ◌∷◌, length, map, Option, refl, arith}
 use Rattle.std.specs.Prelude.{codes, ◌^◌}
-use Rattle.std.specs.List.{AllByRecursion}
+use Rattle.topojson_meaning.proofs.Names.{AllByRecursion, all_weaker, Point, IsArc, AreDistinct, is_single_option, TopoFeature, TopoObject, One, Many, Transform, geometry_type, named, need, features, collection, single, object, is_met, objects_after, objects, Collection}
 use Rattle.std.proofs.lemmas.Slice.Eq.{bytes_eq-Decides}
 use Rattle.json_value.specs.declared.json.Json.TheVariants as j
-use Rattle.geometry.specs.Points.{Point}
-use Rattle.topojson_types.specs.declared.feature.TopoFeature.{TopoFeature}
-use Rattle.topojson_types.specs.declared.object.TopoObject.{TopoObject}
-use Rattle.topojson_types.specs.declared.object.TopoObject.TheVariants.{One, Many}
-use Rattle.topojson_types.specs.declared.transform.Transform.{Transform}
-use Rattle.topojson_types.specs.Validity.{IsArc, AreDistinct, is_single_option}
 use Rattle.topojson_types.specs.Values.{Members, cell_value, feature_value, object_value, objects_value}
-use Rattle.topojson_meaning.specs.declared.geometry_type.GeometryType.TheVariants.{Collection}
-use Rattle.topojson_meaning.specs.GeometryTypes.{geometry_type}
-use Rattle.topojson_meaning.specs.Members.{named, need}
-use Rattle.topojson_meaning.specs.Objects.{features, collection, single, object, is_met, objects_after, objects}
 use Rattle.topojson_meaning.proofs.ArcsBack.{array_elements, object_members}
 use Rattle.topojson_meaning.proofs.FeaturesBack.{feature_members, FineFeature, shaped, feature_back}
 use Rattle.topojson_meaning.proofs.ShapesBack.{named_type}
-use Rattle.owned_values.proofs.Elements.{all_weaker}
 use Rattle.topojson_meaning.proofs.Steps.{Gives, pure_gives, each_gives}
 
 -- its features are, and one alone is no collection

@@ -2,39 +2,12 @@
 -- numbers, and texts UTF-8.
 use Rattle.std.proofs.Common.{◌≡◌, ℕ, List, [], ◌∷◌, Option, Some, None, Ok, subst, rules, arith}
 use Rattle.std.specs.Prelude.{codes, IsUtf8}
-use Rattle.std.specs.List.{AllByRecursion}
-use Rattle.json_value.specs.declared.json.Json.{Json}
+use Rattle.topojson_meaning.proofs.Names.{AllByRecursion, all_parts, all_weaker, Point, find_part, given, each_of_yields, array_of, object_of, text_of, Json, Json-F, out-Json, IdHasNumbers, PropertiesHaveNumbers, IdHasTexts, PropertiesHaveTexts, Id, Contents, object_features, TopoFeature, TopoObject, One, Many, Transform, arc_list, identifier_in, identifier, members_if, feature, feature_element, Members, lookup_fault, find, need, need_as, elements, members, features, collection, single, object, is_met, new_name, objects_after, objects, give, or_fail, typed_shape, NumbersStay, TextsStay, topology_type, contents, value_contents, topology, transform_if, WrongKind, GeometryType}
 use Rattle.json_value.specs.declared.json.Json.TheVariants as j
-use Rattle.json_value.specs.declared.json.Json.TheOpen.{Json-F}
-use Rattle.json_value.specs.declared.json.Json.TheViews.{out-Json}
-use Rattle.json_value.specs.Kinds.{array_of, object_of, text_of}
 use Rattle.json_value.specs.Numbers.{HasNumbers}
 use Rattle.json_value.specs.WellFormed.{HasTexts}
 use Rattle.json_value.proofs.Inside.{array_numbers, object_numbers, number_inside, array_texts, object_texts, text_inside, object_inside}
-use Rattle.json_value.proofs.Parts.{find_part, given}
-use Rattle.json_value.proofs.Yields.{each_of_yields}
 use Rattle.json_value.specs.Members as members_by
-use Rattle.owned_values.proofs.Elements.{all_parts, all_weaker}
-use Rattle.geometry.specs.Points.{Point}
-use Rattle.geojson_types.specs.declared.id.Id.{Id}
-use Rattle.geojson_types.specs.Numbers.{IdHasNumbers, PropertiesHaveNumbers}
-use Rattle.geojson_types.specs.Texts.{IdHasTexts, PropertiesHaveTexts}
-use Rattle.topojson_types.specs.declared.feature.TopoFeature.{TopoFeature}
-use Rattle.topojson_types.specs.declared.object.TopoObject.{TopoObject}
-use Rattle.topojson_types.specs.declared.object.TopoObject.TheVariants.{One, Many}
-use Rattle.topojson_types.specs.declared.transform.Transform.{Transform}
-use Rattle.topojson_types.specs.Topologies.{Contents, object_features}
-use Rattle.topojson_meaning.specs.declared.fault.TopoFault.TheVariants.{WrongKind}
-use Rattle.topojson_meaning.specs.declared.geometry_type.GeometryType.{GeometryType}
-use Rattle.topojson_meaning.specs.Arcs.{arc_list}
-use Rattle.topojson_meaning.specs.Features.{identifier_in, identifier, members_if, feature, feature_element}
-use Rattle.topojson_meaning.specs.Members.{Members, lookup_fault, find, need, need_as, elements, members}
-use Rattle.topojson_meaning.specs.Objects.{features, collection, single, object, is_met, new_name, objects_after, objects}
-use Rattle.topojson_meaning.specs.Reader.{give, or_fail}
-use Rattle.topojson_meaning.specs.Shapes.{typed_shape}
-use Rattle.topojson_meaning.specs.Texts.{NumbersStay, TextsStay}
-use Rattle.topojson_meaning.specs.Topologies.{topology_type, contents, value_contents, topology}
-use Rattle.topojson_meaning.specs.Transforms.{transform_if}
 use Rattle.topojson_meaning.proofs.ValidMembers.{need_as_yields}
 use Rattle.topojson_meaning.proofs.ValidYields.{Yields, IfThere, then_yields, give_yields, fail_yields, pure_then, if_yields, or_fail_is}
 

@@ -1,31 +1,11 @@
 -- Worked rows of the definition: small values and the topologies or faults that they are.
 use Rattle.std.proofs.Common.{◌≡◌, ℕ, false, List, [], ◌∷◌, map, Some, None, Ok, Err, refl}
 use Rattle.std.specs.Prelude.{codes, pos, negsuc}
-use Rattle.json_value.specs.declared.json.Json.{Json}
+use Rattle.topojson_meaning.proofs.Names.{Point, same, scaled_of, array_of, object_of, text_of, number_of, Json, no_counts, Counts, TopoObject, One, number_text, units, elements_position, position, arc_cells, arc, arc_list, feature, geometry_type, type_of, object_type, some_elements, index, indexes_after, indexes, line_in, ring_in, ring, polygon_in, Members, named, need, members, elements, single, object, objects_after, objects, gather, arcs_in, arcs_shape, part, typed_shape, contents, value_contents, topology, transform_if, TopoFault, NotTopology, Missing, Duplicate, WrongKind, UnknownType, ShortArc, IndexRange, Unjoined, OpenRing, Range}
 use Rattle.json_value.specs.declared.json.Json.TheVariants as j
-use Rattle.json_value.specs.Kinds.{array_of, object_of, text_of, number_of}
-use Rattle.decimal_text.specs.Scaling.{scaled_of}
-use Rattle.geojson_types.specs.declared.counts.Counts.{Counts}
 use Rattle.geometry.specs.declared.shape.Geometry.TheVariants as g
-use Rattle.geojson_types.specs.Counting.{no_counts}
-use Rattle.geometry.specs.Points.{Point}
-use Rattle.geometry.specs.Rings.{same}
-use Rattle.topojson_types.specs.declared.object.TopoObject.{TopoObject}
-use Rattle.topojson_types.specs.declared.object.TopoObject.TheVariants.{One}
 use Rattle.topojson_types.specs.Decoding.{decoded_line}
 use Rattle.geometry.specs.Joins as joins
-use Rattle.topojson_meaning.specs.declared.fault.TopoFault.{TopoFault}
-use Rattle.topojson_meaning.specs.declared.fault.TopoFault.TheVariants.{NotTopology, Missing, Duplicate, WrongKind, UnknownType, ShortArc, IndexRange, Unjoined, OpenRing, Range}
-use Rattle.topojson_meaning.specs.Arcs.{number_text, units, elements_position, position, arc_cells, arc, arc_list}
-use Rattle.topojson_meaning.specs.Features.{feature}
-use Rattle.topojson_meaning.specs.GeometryTypes.{geometry_type, type_of, object_type}
-use Rattle.topojson_meaning.specs.Lines.{some_elements, index, indexes_after, indexes, line_in, ring_in, ring, polygon_in}
-use Rattle.topojson_meaning.specs.Members.{Members, named, need, members, elements}
-use Rattle.topojson_meaning.specs.Objects.{single, object, objects_after, objects}
-use Rattle.topojson_meaning.specs.Reader.{gather}
-use Rattle.topojson_meaning.specs.Shapes.{arcs_in, arcs_shape, part, typed_shape}
-use Rattle.topojson_meaning.specs.Topologies.{contents, value_contents, topology}
-use Rattle.topojson_meaning.specs.Transforms.{transform_if}
 
 abbrev typed : List ℕ → List ℕ × Json
 typed name = (codes "type", j.Text name)

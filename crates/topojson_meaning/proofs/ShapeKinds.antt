@@ -1,15 +1,11 @@
 -- What the shapes of a topology are written as, and a topology.
 use Rattle.std.proofs.Common.{◌≡◌, List, [], ◌∷◌, ◌++◌, map, arith}
 use Rattle.std.specs.Prelude.{codes}
-use Rattle.json_value.specs.declared.json.Json.{Json}
+use Rattle.topojson_meaning.proofs.Names.{Point, Json, geometrical_at, bounds, TopoShape, Contents}
 use Rattle.json_value.specs.declared.json.Json.TheVariants as j
 use Rattle.json_value.proofs.Texts.{fused}
 use Rattle.geometry.specs.declared.shape.Geometry.TheVariants as g
-use Rattle.geometry.specs.Points.{Point}
-use Rattle.topojson_types.specs.Bounds.{bounds}
-use Rattle.topojson_types.specs.Topologies.{TopoShape, Contents}
 use Rattle.topojson_types.specs.Values.{Members, typed, inner_value, geometrical, cell_value, members_of_transform, members_of_bounds, objects_value, arcs_value}
-use Rattle.topojson_types.proofs.ByKind.{geometrical_at}
 
 -- ---- what they are written as
 

@@ -1,39 +1,18 @@
 -- The shapes that are written are read back.
 use Rattle.std.proofs.Common.{◌≡◌, ℕ, ℤ, ◌<◌, Bool, true, false, List, [], ◌∷◌, length, map, Option, Some, Ok, refl, sym, ap, ◌∙◌, subst, arith}
 use Rattle.std.specs.Prelude.{codes, ◌^◌, ◌&&◌}
-use Rattle.std.specs.List.{AllByRecursion, list_all}
-use Rattle.std.proofs.lemmas.Bool.{and_parts}
-use Rattle.json_value.specs.declared.json.Json.{Json}
+use Rattle.topojson_meaning.proofs.Names.{and_parts, AllByRecursion, list_all, made_of_some, lines_and_rings-line, lines_and_rings-lines, lines_and_rings-area, lines_and_rings-areas, lines_and_rings-group, by_kinds, joined, Point, lines_and_rings, Json, is_some_list, geometrical_at, full_at, places_at, single_at, full-group, TopoShape, IsPlace, IsArc, is_full, places, is_single, Transform, elements_place, geometry_type, part_name, is_collection, type_in, type_of, object_type, some_elements, named, need, Reader, ◌>>=◌, if_some, places_in, arcs_in, places_shape, arcs_shape, shape, part, typed_shape, geometry, GeometryType, Places, Arcs, Collection}
 use Rattle.json_value.specs.declared.json.Json.TheVariants as j
 use Rattle.geometry.specs.declared.shape.Geometry.TheVariants as g
-use Rattle.geojson_types.specs.Features.{is_some_list}
-use Rattle.geometry.specs.Lists.{joined}
-use Rattle.geometry.specs.Points.{Point}
-use Rattle.geometry.specs.Pruning.{lines_and_rings}
 use Rattle.geometry.proofs.Agreement.{all_left, all_right}
-use Rattle.geometry.proofs.Cases.{lines_and_rings-line, lines_and_rings-lines, lines_and_rings-area, lines_and_rings-areas, lines_and_rings-group}
-use Rattle.geometry.proofs.Induction.{by_kinds}
-use Rattle.topojson_types.specs.declared.transform.Transform.{Transform}
-use Rattle.topojson_types.specs.Topologies.{TopoShape}
-use Rattle.topojson_types.specs.Validity.{IsPlace, IsArc, is_full, places, is_single}
 use Rattle.topojson_types.specs.Values.{Members, number_value, cell_places, cell_value, whole_value, line_value, lines_value, typed, inner_value, geometrical}
-use Rattle.topojson_types.proofs.ByKind.{geometrical_at, full_at, places_at, single_at, full-group}
 use Rattle.topojson_meaning.specs.declared.geometry_type.ArcsType.TheVariants as of_arcs
-use Rattle.topojson_meaning.specs.declared.geometry_type.GeometryType.{GeometryType}
-use Rattle.topojson_meaning.specs.declared.geometry_type.GeometryType.TheVariants.{Places, Arcs, Collection}
 use Rattle.topojson_meaning.specs.declared.geometry_type.PlacesType.TheVariants as of_places
-use Rattle.topojson_meaning.specs.GeometryTypes.{geometry_type, part_name, is_collection, type_in, type_of, object_type}
-use Rattle.topojson_meaning.specs.Arcs.{elements_place}
-use Rattle.topojson_meaning.specs.Lines.{some_elements}
-use Rattle.topojson_meaning.specs.Members.{named, need}
-use Rattle.topojson_meaning.specs.Reader.{Reader, ◌>>=◌, if_some}
-use Rattle.topojson_meaning.specs.Shapes.{places_in, arcs_in, places_shape, arcs_shape, shape, part, typed_shape, geometry}
 use Rattle.topojson_meaning.proofs.ArcsBack.{elements_place_back, each_place_back}
 use Rattle.topojson_meaning.proofs.LinesBack.{some_elements_back, line_in_back, lines_back, polygon_in_back, polygons_back}
 use Rattle.topojson_meaning.proofs.ShapeKinds.{geometrical-group}
 use Rattle.topojson_meaning.proofs.Steps.{Gives, then_gives, pure_gives, kept_gives}
 use Rattle.topojson_meaning.proofs.Unrolled.{shape_object, shapes_array}
-use Rattle.owned_values.proofs.Lists.{made_of_some}
 use Rattle.topojson_meaning.proofs.ValidKept.{IsLineOrRing, IsLine, IsArea}
 
 -- ---- lists that are full

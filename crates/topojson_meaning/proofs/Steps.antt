@@ -1,9 +1,6 @@
 -- Readers that read back what was written: what each gives, and counts nothing.
 use Rattle.std.proofs.Common.{◌≡◌, List, [], ◌∷◌, map, Option, Some, Result, Ok, refl}
-use Rattle.std.specs.List.{AllByRecursion}
-use Rattle.geojson_types.specs.declared.counts.Counts.{Counts}
-use Rattle.topojson_meaning.specs.declared.fault.TopoFault.{TopoFault}
-use Rattle.topojson_meaning.specs.Reader.{Reader, ◌>>=◌, pure, gather, each, kept}
+use Rattle.topojson_meaning.proofs.Names.{AllByRecursion, Counts, Reader, ◌>>=◌, pure, gather, each, kept, TopoFault}
 
 -- it gives this and counts nothing
 abbrev pub Gives : {A : Type 0} → Reader A → A → Type 0

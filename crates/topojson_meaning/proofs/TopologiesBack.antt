@@ -1,26 +1,10 @@
 -- The topology that is written is read back, and nothing is counted.
 use Rattle.std.proofs.Common.{◌≡◌, ℕ, ℤ, Bool, List, [], ◌∷◌, ◌++◌, length, Option, None, Some, Ok, refl, arith}
 use Rattle.std.specs.Prelude.{codes}
-use Rattle.std.specs.List.{AllByRecursion}
-use Rattle.json_value.specs.declared.json.Json.{Json}
+use Rattle.topojson_meaning.proofs.Names.{AllByRecursion, all_two, map_some, Point, option_lines_and_rings, object_of-object, text_of-text, Json, no_counts, Corners, bounds, Contents, features_lines_and_rings, objects_lines_and_rings, IsFeature, IsObject, AreInRange, IsJoined, IsClosed, TopoFeature, TopoObject, Transform, IsStored, ReadsBack, named, find, need, contents, value_contents, topology}
 use Rattle.json_value.specs.declared.json.Json.TheVariants as j
-use Rattle.json_value.proofs.KindsOf.{object_of-object, text_of-text}
-use Rattle.geojson_types.specs.Counting.{no_counts}
-use Rattle.geometry.specs.Lists.{map_some}
-use Rattle.geometry.specs.Points.{Point}
-use Rattle.geometry.specs.Pruning.{option_lines_and_rings}
 use Rattle.geometry.proofs.Agreement.{all_left, all_right}
-use Rattle.owned_values.proofs.Elements.{all_two}
-use Rattle.topojson_types.specs.declared.feature.TopoFeature.{TopoFeature}
-use Rattle.topojson_types.specs.declared.object.TopoObject.{TopoObject}
-use Rattle.topojson_types.specs.declared.transform.Transform.{Transform}
-use Rattle.topojson_types.specs.Bounds.{Corners, bounds}
-use Rattle.topojson_types.specs.Topologies.{Contents, features_lines_and_rings, objects_lines_and_rings}
-use Rattle.topojson_types.specs.Validity.{IsFeature, IsObject, AreInRange, IsJoined, IsClosed}
 use Rattle.topojson_types.specs.Values.{Members, cell_value, transform_object, members_of_transform, members_of_bounds, objects_value, arcs_value, topology_value}
-use Rattle.topojson_meaning.specs.Laws.{IsStored, ReadsBack}
-use Rattle.topojson_meaning.specs.Members.{named, find, need}
-use Rattle.topojson_meaning.specs.Topologies.{contents, value_contents, topology}
 use Rattle.topojson_meaning.proofs.ArcsBack.{arcs_back}
 use Rattle.topojson_meaning.proofs.FeaturesBack.{FineFeature}
 use Rattle.topojson_meaning.proofs.ObjectsBack.{FineObject, objects_back}

@@ -1,25 +1,8 @@
 -- Worked rows of the definition for topologies with a transform: what the numbers of a transform are, and which cells are taken.
 use Rattle.std.proofs.Common.{◌≡◌, ℕ, List, [], ◌∷◌, map, Some, None, Result, Ok, Err, refl}
 use Rattle.std.specs.Prelude.{ℤ, codes, ◌*◌, ◌-◌, ◌^◌, pos, negsuc}
-use Rattle.json_value.specs.declared.json.Json.{Json}
+use Rattle.topojson_meaning.proofs.Names.{Point, scaled_of, array_of, object_of, text_of, number_of, Json, no_counts, Counts, Contents, transform_value, to_units, stands_for, place_on, is_within, Transform, number_text, grid_number, grid_cell, elements_cell, cell, cells_after, elements_place, place, arc_cells, arc, arc_list, named, need, members, elements, objects, objects_after, gather, contents, value_contents, topology, texts, transform_number, transform_pair, transform_members, transform_if, TopoFault, Missing, WrongKind, GridNumber, Range}
 use Rattle.json_value.specs.declared.json.Json.TheVariants as j
-use Rattle.json_value.specs.Kinds.{array_of, object_of, text_of, number_of}
-use Rattle.decimal_text.specs.Scaling.{scaled_of}
-use Rattle.geojson_types.specs.declared.counts.Counts.{Counts}
-use Rattle.geojson_types.specs.Counting.{no_counts}
-use Rattle.geometry.specs.Points.{Point}
-use Rattle.topojson_types.specs.declared.transform.Transform.{Transform}
-use Rattle.topojson_types.specs.Topologies.{Contents}
-use Rattle.topojson_types.specs.TransformNumbers.{transform_value, to_units, stands_for}
-use Rattle.topojson_types.specs.Transforms.{place_on, is_within}
-use Rattle.topojson_meaning.specs.declared.fault.TopoFault.{TopoFault}
-use Rattle.topojson_meaning.specs.declared.fault.TopoFault.TheVariants.{Missing, WrongKind, GridNumber, Range}
-use Rattle.topojson_meaning.specs.Arcs.{number_text, grid_number, grid_cell, elements_cell, cell, cells_after, elements_place, place, arc_cells, arc, arc_list}
-use Rattle.topojson_meaning.specs.Members.{named, need, members, elements}
-use Rattle.topojson_meaning.specs.Objects.{objects, objects_after}
-use Rattle.topojson_meaning.specs.Reader.{gather}
-use Rattle.topojson_meaning.specs.Topologies.{contents, value_contents, topology}
-use Rattle.topojson_meaning.specs.Transforms.{texts, transform_number, transform_pair, transform_members, transform_if}
 
 -- ---- values of numbers
 

@@ -2,14 +2,8 @@
 use Rattle.std.proofs.Common.{◌≡◌, ℕ, List, [], ◌∷◌, Option, Some, None, Ok, refl, ap}
 use Rattle.std.specs.Prelude.{codes}
 use Rattle.json_value.specs.declared.json.Json.TheVariants as j
-use Rattle.geometry.specs.Lists.{map_some}
-use Rattle.topojson_types.specs.declared.transform.Transform.{Transform}
-use Rattle.topojson_types.specs.TransformNumbers.{IsTransformNumber}
-use Rattle.topojson_types.specs.Transforms.{IsTransform}
-use Rattle.topojson_types.specs.Validity.{IsTransformed}
+use Rattle.topojson_meaning.proofs.Names.{map_some, IsTransformNumber, IsTransform, IsTransformed, Transform, named, need, limited, texts_in, texts, transform_number, transform_pair, transform_members, transform_if}
 use Rattle.topojson_types.specs.Values.{pair_value, transform_object}
-use Rattle.topojson_meaning.specs.Members.{named, need}
-use Rattle.topojson_meaning.specs.Transforms.{limited, texts_in, texts, transform_number, transform_pair, transform_members, transform_if}
 use Rattle.topojson_meaning.proofs.ArcsBack.{array_elements, number_is_text}
 use Rattle.topojson_meaning.proofs.Steps.{Gives, pure_gives}
 

@@ -1,21 +1,9 @@
 -- What a value is read as, by one level of it.
 use Rattle.std.proofs.Common.{◌≡◌, ℕ, List, map, Option, None, Some, refl, sym, ap, ◌∙◌, arith}
 use Rattle.std.specs.Prelude.{option_to_list}
-use Rattle.json_value.specs.declared.json.Json.{Json}
-use Rattle.json_value.specs.declared.json.Json.TheFolds.{para-Json, para-roll-Json}
-use Rattle.json_value.specs.declared.json.Json.TheOpen.{Json-F}
+use Rattle.topojson_meaning.proofs.Names.{map_back, Point, gather_map, need_map, pure_map, Json, para-Json, para-roll-Json, Json-F, TopoShape, Transform, part_name, object_type, Members, lookup_fault, need, need_as, Reader, ◌>>=◌, give, pure, with_fault, kept, part_with, typed_with, Readings, readings_step, readings, shape, shapes, part, typed_shape, geometry, GeometryType}
 use Rattle.json_value.specs.declared.json.Json.TheVariants as j
-use Rattle.geometry.specs.Points.{Point}
-use Rattle.topojson_meaning.specs.declared.geometry_type.GeometryType.{GeometryType}
-use Rattle.topojson_types.specs.declared.transform.Transform.{Transform}
-use Rattle.topojson_types.specs.Topologies.{TopoShape}
-use Rattle.topojson_meaning.specs.GeometryTypes.{part_name, object_type}
-use Rattle.json_value.proofs.Parts.{gather_map, need_map, pure_map}
 use Rattle.json_value.specs.Members as members_by
-use Rattle.topojson_meaning.specs.Members.{Members, lookup_fault, need, need_as}
-use Rattle.topojson_meaning.specs.Reader.{Reader, ◌>>=◌, give, pure, with_fault, kept}
-use Rattle.topojson_meaning.specs.Shapes.{part_with, typed_with, Readings, readings_step, readings, shape, shapes, part, typed_shape, geometry}
-use Rattle.owned_values.proofs.Lists.{map_back}
 
 -- ---- reading under a map
 

@@ -1,16 +1,7 @@
 -- The positions, cells and arcs that are read may stand in the topology.
 use Rattle.std.proofs.Common.{◌≡◌, ℕ, true, List, [], ◌∷◌, Option, Some, None, unsigned_abs, arith}
-use Rattle.std.specs.List.{AllByRecursion}
-use Rattle.std.proofs.lemmas.Bool.{leb-true, and_parts}
+use Rattle.topojson_meaning.proofs.Names.{leb-true, and_parts, AllByRecursion, Point, IsWithin, IsPosition, Json, grid_limit, is_within, origin, IsPlace, IsArc, Transform, units, elements_position, position, grid_cell, elements_cell, cell, difference_limit, cells_after, elements_place, place, arc_cells, as_arc, arc, arc_list, elements, each}
 use Rattle.decimal_text.proofs.ScaledNumber.{scaled_of-within}
-use Rattle.json_value.specs.declared.json.Json.{Json}
-use Rattle.geometry.specs.Points.{Point, IsWithin, IsPosition}
-use Rattle.topojson_types.specs.declared.transform.Transform.{Transform}
-use Rattle.topojson_types.specs.Transforms.{grid_limit, is_within, origin}
-use Rattle.topojson_types.specs.Validity.{IsPlace, IsArc}
-use Rattle.topojson_meaning.specs.Arcs.{units, elements_position, position, grid_cell, elements_cell, cell, difference_limit, cells_after, elements_place, place, arc_cells, as_arc, arc, arc_list}
-use Rattle.topojson_meaning.specs.Members.{elements}
-use Rattle.topojson_meaning.specs.Reader.{each}
 use Rattle.topojson_meaning.proofs.ValidYields.{Yields, then_yields, give_yields, count_yields, fail_yields, pure_then, if_yields, each_yields}
 
 -- ---- positions

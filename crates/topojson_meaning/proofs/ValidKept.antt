@@ -1,18 +1,8 @@
 -- Shapes of a topology that keep the rules of their kinds, made of parts that do.
 use Rattle.std.proofs.Common.{◌≡◌, ℤ, Bool, true, false, List, length, map, Option, sym, ◌∙◌, subst, arith}
 use Rattle.std.specs.Prelude.{◌&&◌}
-use Rattle.std.specs.List.{AllByRecursion, list_all}
-use Rattle.std.proofs.lemmas.Bool.{and_from}
+use Rattle.topojson_meaning.proofs.Names.{and_from, AllByRecursion, list_all, all_map, all_joined, list_all_of, all_weaker, lines_and_rings-point, lines_and_rings-points, lines_and_rings-line, lines_and_rings-lines, lines_and_rings-area, lines_and_rings-areas, lines_and_rings-group, Point, lines_and_rings, is_some_list, full_at, places_at, single_at, full-group, TopoShape, AreInRange, IsJoined, IsClosed, IsPlace, is_full, places, is_single, Transform}
 use Rattle.geometry.specs.declared.shape.Geometry.TheVariants as g
-use Rattle.geojson_types.specs.Features.{is_some_list}
-use Rattle.geometry.specs.Points.{Point}
-use Rattle.geometry.specs.Pruning.{lines_and_rings}
-use Rattle.geometry.proofs.Cases.{lines_and_rings-point, lines_and_rings-points, lines_and_rings-line, lines_and_rings-lines, lines_and_rings-area, lines_and_rings-areas, lines_and_rings-group}
-use Rattle.topojson_types.specs.declared.transform.Transform.{Transform}
-use Rattle.topojson_types.specs.Topologies.{TopoShape}
-use Rattle.topojson_types.specs.Validity.{AreInRange, IsJoined, IsClosed, IsPlace, is_full, places, is_single}
-use Rattle.topojson_types.proofs.ByKind.{full_at, places_at, single_at, full-group}
-use Rattle.owned_values.proofs.Elements.{all_map, all_joined, list_all_of, all_weaker}
 
 -- ---- lists
 

@@ -1,17 +1,7 @@
 -- The lines, rings and polygons that are read are joined and closed, of indexes that name arcs.
 use Rattle.std.proofs.Common.{◌≡◌, ℤ, ◌<◌, true, false, List, [], ◌∷◌, length, map, Option, Some, None, refl, ap, arith}
-use Rattle.std.specs.List.{AllByRecursion}
-use Rattle.std.proofs.lemmas.Bool.{ltb-true}
-use Rattle.json_value.specs.declared.json.Json.{Json}
-use Rattle.geojson_types.specs.Features.{is_some_list}
-use Rattle.geometry.specs.Lists.{map_some}
-use Rattle.geometry.specs.Points.{Point}
-use Rattle.geometry.specs.Rings.{both_same}
-use Rattle.geometry.proofs.Points.{same_is}
+use Rattle.topojson_meaning.proofs.Names.{ltb-true, AllByRecursion, same_is, map_some, Point, both_same, Json, is_some_list, AreInRange, some_elements, index, joined_to, indexes_after, indexes, line_start, line_end, as_ring, line_in, line, ring_in, ring, with_outer, polygon_in, polygon, Reader, ◌>>=◌, if_some, kept}
 use Rattle.geometry.specs.Joins.{number_of, arc_at, first_of, last_of, Meet, Closes}
-use Rattle.topojson_types.specs.Validity.{AreInRange}
-use Rattle.topojson_meaning.specs.Lines.{some_elements, index, joined_to, indexes_after, indexes, line_start, line_end, as_ring, line_in, line, ring_in, ring, with_outer, polygon_in, polygon}
-use Rattle.topojson_meaning.specs.Reader.{Reader, ◌>>=◌, if_some, kept}
 use Rattle.topojson_meaning.proofs.ValidKept.{IsLine, IsArea}
 use Rattle.topojson_meaning.proofs.ValidYields.{Yields, IfThere, then_yields, give_yields, count_yields, fail_yields, pure_then, if_yields, if_some_yields, kept_yields}
 

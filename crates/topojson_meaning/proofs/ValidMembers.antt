@@ -1,11 +1,7 @@
 -- What holds of each member holds of what is read of those that are looked up.
 use Rattle.std.proofs.Common.{◌≡◌, ℕ, List, Ok}
-use Rattle.std.specs.List.{AllByRecursion}
-use Rattle.json_value.proofs.Parts.{given, need_part}
-use Rattle.json_value.proofs.Yields.{Yields, pure_then}
+use Rattle.topojson_meaning.proofs.Names.{AllByRecursion, given, need_part, Yields, pure_then, lookup_fault, need, need_as, Reader}
 use Rattle.json_value.specs.Members as members_by
-use Rattle.topojson_meaning.specs.Members.{lookup_fault, need, need_as}
-use Rattle.topojson_meaning.specs.Reader.{Reader}
 
 pub needed : {V : Type 0} (name : List ℕ) (ms : List (List ℕ × V)) (v : V) → need name ms ≡ Ok v → members_by.need name ms ≡ Ok v
 unfolding need

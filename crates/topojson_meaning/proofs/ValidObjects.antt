@@ -1,28 +1,12 @@
 -- The features and objects that are read keep the rules, and their names differ.
 use Rattle.std.proofs.Common.{◌≡◌, ◌≢◌, ℕ, false, List, [], ◌∷◌, map, Option, arith}
 use Rattle.std.specs.Prelude.{bytes_eq}
-use Rattle.std.specs.List.{AllByRecursion}
-use Rattle.std.proofs.lemmas.Bool.{or_parts}
-use Rattle.json_value.specs.declared.json.Json.{Json}
-use Rattle.geometry.specs.Points.{Point}
-use Rattle.topojson_types.specs.declared.feature.TopoFeature.{TopoFeature}
-use Rattle.topojson_types.specs.declared.object.TopoObject.{TopoObject}
-use Rattle.topojson_types.specs.declared.object.TopoObject.TheVariants.{One, Many}
-use Rattle.topojson_types.specs.declared.transform.Transform.{Transform}
-use Rattle.topojson_types.specs.Topologies.{TopoShape}
-use Rattle.topojson_types.specs.Validity.{AreDistinct}
-use Rattle.topojson_meaning.specs.declared.geometry_type.GeometryType.{GeometryType}
-use Rattle.topojson_meaning.specs.Features.{feature, feature_element}
-use Rattle.topojson_meaning.specs.GeometryTypes.{is_collection}
-use Rattle.topojson_meaning.specs.Members.{Members, elements, members}
-use Rattle.topojson_meaning.specs.Objects.{features, collection, single, object, is_met, new_name, objects_after, objects}
-use Rattle.topojson_meaning.specs.Shapes.{typed_shape}
+use Rattle.topojson_meaning.proofs.Names.{or_parts, AllByRecursion, all_weaker, Point, Json, TopoShape, AreDistinct, TopoFeature, TopoObject, One, Many, Transform, feature, feature_element, is_collection, Members, elements, members, features, collection, single, object, is_met, new_name, objects_after, objects, typed_shape, GeometryType}
 use Rattle.topojson_meaning.proofs.ValidKept.{IsShape, IsSingle}
 use Rattle.topojson_meaning.proofs.ValidMembers.{need_as_yields}
 use Rattle.topojson_meaning.proofs.ValidReadings.{typed_shape_yields, single_shape_yields}
 use Rattle.topojson_meaning.proofs.ValidYields.{Yields, IfThere, all_trivial, then_yields, give_yields, fail_yields, pure_then, if_yields, each_yields}
 use Rattle.owned_values.proofs.Tests.{bytes_differ}
-use Rattle.owned_values.proofs.Elements.{all_weaker}
 
 -- ---- names
 

@@ -1,18 +1,6 @@
 -- The shapes that are read of values at any depth keep the rules of their kinds.
 use Rattle.std.proofs.Common.{◌≡◌, ℕ, false, List, [], ◌∷◌, map, Option, Some, None, sym, subst, arith}
-use Rattle.std.specs.List.{AllByRecursion}
-use Rattle.json_value.specs.declared.json.Json.{Json, roll-Json, ind-Json, map-Json}
-use Rattle.json_value.specs.declared.json.Json.TheFolds.{para-Json, para-roll-Json}
-use Rattle.json_value.specs.declared.json.Json.TheOpen.{Json-F}
-use Rattle.geometry.specs.Points.{Point}
-use Rattle.topojson_types.specs.declared.transform.Transform.{Transform}
-use Rattle.topojson_types.specs.Topologies.{TopoShape}
-use Rattle.topojson_meaning.specs.declared.fault.TopoFault.TheVariants.{WrongKind}
-use Rattle.topojson_meaning.specs.declared.geometry_type.GeometryType.{GeometryType}
-use Rattle.topojson_meaning.specs.GeometryTypes.{is_collection}
-use Rattle.topojson_meaning.specs.Members.{Members}
-use Rattle.topojson_meaning.specs.Reader.{fail}
-use Rattle.topojson_meaning.specs.Shapes.{Readings, readings_step, readings, shapes, part, typed_shape}
+use Rattle.topojson_meaning.proofs.Names.{AllByRecursion, Point, Json, roll-Json, ind-Json, map-Json, para-Json, para-roll-Json, Json-F, TopoShape, Transform, is_collection, Members, fail, Readings, readings_step, readings, shapes, part, typed_shape, WrongKind, GeometryType}
 use Rattle.topojson_meaning.proofs.ValidKept.{IsShape, IsSingle}
 use Rattle.topojson_meaning.proofs.ValidShapes.{typed_with_yields, single_with_yields}
 use Rattle.topojson_meaning.proofs.ValidYields.{Yields, IfThere, fail_yields, pure_then, kept_of_yields}

@@ -1,25 +1,11 @@
 -- The shapes that are read of one value keep the rules of their kinds.
 use Rattle.std.proofs.Common.{◌≡◌, ℕ, true, false, List, Option, Some, None, arith}
-use Rattle.std.specs.List.{AllByRecursion}
-use Rattle.json_value.specs.declared.json.Json.{Json}
+use Rattle.topojson_meaning.proofs.Names.{AllByRecursion, map_some, unless_empty, Point, Json, is_some_list, TopoShape, IsPlace, Transform, elements_place, place, part_name, is_collection, line_in, line, polygon_in, polygon, Reader, each, kept, places_in, arcs_in, places_shape, arcs_shape, part_with, typed_with, GeometryType, Places, Arcs, Collection}
 use Rattle.geometry.specs.declared.shape.Geometry.TheVariants as g
-use Rattle.geojson_types.specs.Features.{is_some_list}
-use Rattle.geometry.specs.Lists.{map_some, unless_empty}
-use Rattle.geometry.specs.Points.{Point}
-use Rattle.topojson_types.specs.declared.transform.Transform.{Transform}
-use Rattle.topojson_types.specs.Topologies.{TopoShape}
-use Rattle.topojson_types.specs.Validity.{IsPlace}
 use Rattle.topojson_meaning.specs.declared.geometry_type.ArcsType.{ArcsType}
 use Rattle.topojson_meaning.specs.declared.geometry_type.ArcsType.TheVariants as of_arcs
-use Rattle.topojson_meaning.specs.declared.geometry_type.GeometryType.{GeometryType}
-use Rattle.topojson_meaning.specs.declared.geometry_type.GeometryType.TheVariants.{Places, Arcs, Collection}
 use Rattle.topojson_meaning.specs.declared.geometry_type.PlacesType.{PlacesType}
 use Rattle.topojson_meaning.specs.declared.geometry_type.PlacesType.TheVariants as of_places
-use Rattle.topojson_meaning.specs.Arcs.{elements_place, place}
-use Rattle.topojson_meaning.specs.GeometryTypes.{part_name, is_collection}
-use Rattle.topojson_meaning.specs.Lines.{line_in, line, polygon_in, polygon}
-use Rattle.topojson_meaning.specs.Reader.{Reader, each, kept}
-use Rattle.topojson_meaning.specs.Shapes.{places_in, arcs_in, places_shape, arcs_shape, part_with, typed_with}
 use Rattle.topojson_meaning.proofs.ValidArcs.{elements_place_yields, place_yields}
 use Rattle.topojson_meaning.proofs.ValidKept.{IsLine, IsArea, IsShape, IsSingle, kept-point, kept-points, kept-line, kept-lines, kept-area, kept-areas, kept-group}
 use Rattle.topojson_meaning.proofs.ValidLines.{some_elements_yield, line_in_yields, lines_yield, polygon_in_yields, polygons_yield}

@@ -1,31 +1,13 @@
 -- A topology that is read is valid.
 use Rattle.std.proofs.Common.{ℕ, ℤ, Bool, List, [], Option, arith}
 use Rattle.std.specs.Prelude.{codes}
-use Rattle.std.specs.List.{AllByRecursion}
-use Rattle.json_value.specs.Kinds.{object_of, text_of}
-use Rattle.geojson_types.specs.Counting.{no_counts}
-use Rattle.geometry.specs.Points.{Point}
-use Rattle.geometry.specs.Pruning.{option_lines_and_rings}
-use Rattle.topojson_types.specs.declared.feature.TopoFeature.{TopoFeature}
-use Rattle.topojson_types.specs.declared.object.TopoObject.{TopoObject}
-use Rattle.topojson_types.specs.declared.transform.Transform.{Transform}
-use Rattle.topojson_types.specs.Topologies.{TopoShape, Contents, object_features, features_lines_and_rings, objects_lines_and_rings}
-use Rattle.topojson_types.specs.Validity.{option_places, IsPlace, IsArc, IsTransformed, IsTopology}
-use Rattle.topojson_meaning.specs.declared.fault.TopoFault.TheVariants.{NotTopology, WrongKind}
-use Rattle.topojson_meaning.specs.Arcs.{arc_list}
-use Rattle.topojson_meaning.specs.Laws.{ReadsValid}
-use Rattle.topojson_meaning.specs.Members.{Members, find, need, need_as}
-use Rattle.topojson_meaning.specs.Objects.{objects}
-use Rattle.topojson_meaning.specs.Reader.{or_fail}
-use Rattle.topojson_meaning.specs.Topologies.{topology_type, contents, value_contents, topology}
-use Rattle.topojson_meaning.specs.Transforms.{transform_if}
+use Rattle.topojson_meaning.proofs.Names.{AllByRecursion, all_map, all_joined, all_weaker, Point, option_lines_and_rings, object_of, text_of, no_counts, TopoShape, Contents, object_features, features_lines_and_rings, objects_lines_and_rings, option_places, IsPlace, IsArc, IsTransformed, IsTopology, TopoFeature, TopoObject, Transform, arc_list, ReadsValid, Members, find, need, need_as, objects, or_fail, topology_type, contents, value_contents, topology, transform_if, NotTopology, WrongKind}
 use Rattle.topojson_meaning.proofs.ValidArcs.{arc_list_yields}
 use Rattle.topojson_meaning.proofs.ValidKept.{IsLineOrRing, IsShape, IsSingle}
 use Rattle.topojson_meaning.proofs.ValidMembers.{need_as_yields}
 use Rattle.topojson_meaning.proofs.ValidObjects.{HasShape, KeptObject, AreObjects, objects_yield}
 use Rattle.topojson_meaning.proofs.ValidTransforms.{transform_if_yields}
 use Rattle.topojson_meaning.proofs.ValidYields.{Yields, IfThere, all_trivial, there_weaker, then_yields, give_yields, pure_then}
-use Rattle.owned_values.proofs.Elements.{all_map, all_joined, all_weaker}
 
 module _ (transform : Option Transform) (arcs : List (List Point)) where
   -- ---- features

@@ -1,12 +1,6 @@
 -- The transform that is read has numbers within their limit.
 use Rattle.std.proofs.Common.{◌≡◌, ℕ, ℤ, List, Option, Some, None, Ok, subst, arith}
-use Rattle.json_value.specs.declared.json.Json.{Json}
-use Rattle.json_value.specs.declared.json.Json.TheOpen.{Json-F}
-use Rattle.json_value.specs.declared.json.Json.TheViews.{out-Json}
-use Rattle.topojson_types.specs.TransformNumbers.{transform_value, IsTransformNumber}
-use Rattle.topojson_types.specs.Validity.{IsTransformed}
-use Rattle.topojson_meaning.specs.Members.{Members, need_as}
-use Rattle.topojson_meaning.specs.Transforms.{texts, limited, transform_number, transform_pair, transform_members, transform_in, transform_if}
+use Rattle.topojson_meaning.proofs.Names.{Json, Json-F, out-Json, transform_value, IsTransformNumber, IsTransformed, Members, need_as, texts, limited, transform_number, transform_pair, transform_members, transform_in, transform_if}
 use Rattle.topojson_meaning.proofs.ValidYields.{Yields, then_yields, give_yields, fail_yields, pure_then}
 
 limited_is : (s t : List ℕ) (o : Option ℤ) → transform_value s ≡ o → limited s o ≡ Ok t → IsTransformNumber t

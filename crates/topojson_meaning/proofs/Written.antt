@@ -2,52 +2,25 @@
 -- over its definition.
 use Rattle.std.proofs.Common.{◌≡◌, ℕ, zero, suc, ◌<◌, ◌≤◌, ℤ, ◌-ℤ◌, Bool, true, false, List, [], ◌∷◌, ◌++◌, length, map, Option, Some, None, refl, subst, arith}
 use Rattle.std.specs.Prelude.{codes, ◌^◌, unsigned_abs}
-use Rattle.std.specs.List.{AllByRecursion}
-use Rattle.std.proofs.lemmas.Int.{ints}
-use Rattle.decimal_text.specs.Scaling.{units_text, scaled_of}
+use Rattle.topojson_meaning.proofs.Names.{ints, AllByRecursion, all_append, all_left, all_right, all_of, all_of_map, all_weaker, all_two, all_parts, lines_and_rings-line, lines_and_rings-lines, lines_and_rings-area, lines_and_rings-areas, lines_and_rings-group, by_kinds, joined, Point, IsWithin, lines_and_rings, option_lines_and_rings, unit_places, units_text-number, units_text, scaled_of, Json, IdHasNumbers, PropertiesHaveNumbers, IdHasTexts, PropertiesHaveTexts, Id, geometrical_at, places_at, Corners, bounds, deltas_from, TopoShape, Contents, object_features, features_lines_and_rings, transform_value, IsTransformNumber, grid_limit, origin, places, option_places, IsPlace, IsTransformed, IsArc, IsFeature, IsObject, IsTopology, AreInRange, TopoFeature, TopoObject, One, Many, Transform, FeaturesHaveNumbers, ValueHasNumbers, ValueNests, FeatureHasTexts, ContentsHaveTexts}
 use Rattle.decimal_text.specs.Grammar.{IsNumber}
 use Rattle.decimal_text.specs.Parts.{parts_of}
 use Rattle.decimal_text.proofs.NumberBytes.{number_utf8, units_utf8}
 use Rattle.decimal_text.proofs.SpellsParts.{parts-number}
-use Rattle.decimal_text.proofs.UnitsText.{units_text-number}
-use Rattle.json_value.specs.declared.json.Json.{Json}
 use Rattle.json_value.specs.declared.json.Json.TheVariants as j
 use Rattle.json_value.specs.Depth.{greatest}
 use Rattle.json_value.proofs.Inherits.{Inherits, items_inherit, none_deeper, depth_inherits, numbers_inherit, utf8_inherits}
 use Rattle.json_value.proofs.Utf8Parts.{is_ascii, AreUtf8, parts_utf8}
-use Rattle.owned_values.proofs.Elements.{all_append, all_left, all_right, all_of, all_of_map, all_weaker, all_two, all_parts}
 use Rattle.geometry.specs.declared.shape.Geometry.TheVariants as g
-use Rattle.geometry.specs.Lists.{joined}
-use Rattle.geometry.specs.Points.{Point, IsWithin}
-use Rattle.geometry.specs.Pruning.{lines_and_rings, option_lines_and_rings}
-use Rattle.geometry.specs.Units.{unit_places}
 use Rattle.geometry.specs.Joins.{number_of}
 use Rattle.geometry.proofs.ByKind.{AtKinds}
-use Rattle.geometry.proofs.Cases.{lines_and_rings-line, lines_and_rings-lines, lines_and_rings-area, lines_and_rings-areas, lines_and_rings-group}
-use Rattle.geometry.proofs.Induction.{by_kinds}
-use Rattle.geojson_types.specs.declared.id.Id.{Id}
 use Rattle.geojson_types.specs.declared.id.Id.TheVariants as id
 use Rattle.geojson_types.specs.Nesting.{nesting_step, nesting, option_nesting, properties_nesting}
-use Rattle.geojson_types.specs.Numbers.{IdHasNumbers, PropertiesHaveNumbers}
-use Rattle.geojson_types.specs.Texts.{IdHasTexts, PropertiesHaveTexts}
 use Rattle.geojson_types.proofs.Nestings.{nesting_at}
-use Rattle.topojson_types.specs.declared.feature.TopoFeature.{TopoFeature}
-use Rattle.topojson_types.specs.declared.object.TopoObject.{TopoObject}
-use Rattle.topojson_types.specs.declared.object.TopoObject.TheVariants.{One, Many}
-use Rattle.topojson_types.specs.declared.transform.Transform.{Transform}
-use Rattle.topojson_types.specs.Bounds.{Corners, bounds}
-use Rattle.topojson_types.specs.Topologies.{TopoShape, Contents, object_features, features_lines_and_rings}
-use Rattle.topojson_types.specs.Validity.{places, option_places, IsPlace, IsTransformed, IsArc, IsFeature, IsObject, IsTopology, AreInRange}
 use Rattle.topojson_types.specs.Values.{Members, Geometrical, number_value, whole_value, position_value, cell_places, written_cells, arc_value, line_value, lines_value, typed, inner_value, geometrical, geometrical_option, id_members, properties_members, feature_value, object_value, pair_value, members_of_transform, members_of_bounds, topology_value}
-use Rattle.topojson_types.specs.Differences.{deltas_from}
-use Rattle.topojson_types.specs.TransformNumbers.{transform_value, IsTransformNumber}
-use Rattle.topojson_types.specs.Transforms.{grid_limit, origin}
-use Rattle.topojson_types.proofs.ByKind.{geometrical_at, places_at}
 use Rattle.topojson_types.proofs.Parts.{parts_all}
 use Rattle.topojson_types.proofs.Boxes.{AreCorners, corners_are}
 use Rattle.topojson_meaning.specs.Bounds.{objects_features, feature_nesting, FeatureHasNumbers}
-use Rattle.topojson_meaning.specs.Laws.{FeaturesHaveNumbers, ValueHasNumbers, ValueNests}
-use Rattle.topojson_meaning.specs.Texts.{FeatureHasTexts, ContentsHaveTexts}
 use Rattle.topojson_meaning.proofs.ShapeKinds.{geometrical-group, written_members}
 use Rattle.topojson_meaning.proofs.LinesBack.{magnitude}
 

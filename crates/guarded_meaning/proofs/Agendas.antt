@@ -1,21 +1,7 @@
 -- What holds corners, and that an agenda goes on covering them.
 use Rattle.std.proofs.Common.{◌≡◌, ℕ, ℤ, suc, ◌<◌, Bool, true, false, not, ◌||◌, nat_lt, List, [], ◌∷◌, ◌++◌, map, ◌⊎◌, inl, inr, refl, ap, sym, ◌∙◌, subst}
-use Rattle.std.specs.List.{filter, list_all}
-use Rattle.std.proofs.lemmas.Bool.{and_parts, and_cases, and_left, and_right, or_cases, or_parts, or_from, cases_Bool, both_ways, false_from_ne_true, not-true, not-false, not_from_true, not_from_false, ltb-true}
-use Rattle.std.proofs.lemmas.List.Elements.{filter-append}
-use Rattle.owned_values.proofs.Elements.{each_of}
-use Rattle.owned_values.proofs.Members.{in_left, in_right, in_append}
-use Rattle.geometry.specs.Lists.{In}
-use Rattle.geometry.specs.Rings.{same}
-use Rattle.elimination_meaning.specs.Elimination.{Vertex}
-use Rattle.guarded_meaning.specs.AgendaLaws.{FreeOrHeld, HeldIsNotFree, HolderStays, NeverAgain, CoverLaw, ReadyLaw, NoneReady}
+use Rattle.guarded_meaning.proofs.Names.{and_parts, and_cases, and_left, and_right, or_cases, or_parts, or_from, cases_Bool, both_ways, false_from_ne_true, not-true, not-false, not_from_true, not_from_false, ltb-true, filter-append, filter, list_all, each_of, in_left, in_right, in_append, In, same, Vertex, FreeOrHeld, HeldIsNotFree, HolderStays, NeverAgain, CoverLaw, ReadyLaw, NoneReady, ArcCorner, all_corners, Place, place_at, places, is_place_of, Neighbours, neighbours_at, segment_of, all_neighbours, is_pair_of, left_by, points_of, goes, has_empty_triangle, has_open_base, is_free, uses, is_long, keeps_rings, guarded_by, segment, same_ends, is_clear, passing}
 use Rattle.guarded_meaning.specs.Agendas.{Holder, Inside, Across, IsLeft, goes_with, Holds, Agenda, IsHeld, IsCovered}
-use Rattle.guarded_meaning.specs.Arcs.{ArcCorner, all_corners, Place, place_at, places, is_place_of, Neighbours, neighbours_at, segment_of, all_neighbours, is_pair_of, left_by, points_of}
-use Rattle.guarded_meaning.specs.Elimination.{goes}
-use Rattle.guarded_meaning.specs.Guards.{has_empty_triangle, has_open_base, is_free, uses, is_long, keeps_rings, guarded_by}
-use Rattle.guarded_meaning.specs.Segments.{segment, same_ends}
-use Rattle.guarded_meaning.specs.Triangles.{is_clear}
-use Rattle.guarded_meaning.specs.Weights.{passing}
 use Rattle.guarded_meaning.proofs.First.{next_law, no_next_law}
 use Rattle.guarded_meaning.proofs.Lists.{in_passed, filter_map}
 use Rattle.guarded_meaning.proofs.Neighbours.{AreParted, all_parted}

@@ -1,13 +1,6 @@
 -- A triangle lies in the box round its corners.
 use Rattle.std.proofs.Common.{◌≡◌, ◌≢◌, Bool, true, false, not, ◌&&◌, ◌||◌, ℤ, pos, int_lt, int_le, ◌-ℤ◌, ◌*ℤ◌, ◌+ℤ◌, ◌<ℤ◌, ◌≤ℤ◌, ◌⊎◌, inl, inr, sym, ◌∙◌, arith}
-use Rattle.std.proofs.lemmas.Int.{ints}
-use Rattle.std.proofs.lemmas.Bool.{and_parts, or_cases, not-true}
-use Rattle.std.proofs.lemmas.Bool.Decides.{Decides-int_eq}
-use Rattle.geometry.specs.Areas.{cross}
-use Rattle.geometry.specs.Points.{Point}
-use Rattle.guarded_meaning.specs.Laws.{IsInBox, BoxLaw}
-use Rattle.guarded_meaning.specs.Segments.{is_left, is_right, is_flat, is_between, is_on}
-use Rattle.guarded_meaning.specs.Triangles.{none_left, none_right, in_triangle}
+use Rattle.guarded_meaning.proofs.Names.{and_parts, or_cases, not-true, Decides-int_eq, ints, cross, Point, IsInBox, BoxLaw, is_left, is_right, is_flat, is_between, is_on, none_left, none_right, in_triangle}
 use Rattle.guarded_meaning.proofs.Crosses.{turned, cross_round, cross_parts, three_ways, three_ways_up}
 use Rattle.guarded_meaning.proofs.Signs.{below_or, over_over, under_under, over_under, under_over, at_least_over, at_least_under, at_most_over, at_most_under}
 use Rattle.guarded_meaning.proofs.Tests.{cross_ways}

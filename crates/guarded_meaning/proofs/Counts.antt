@@ -1,23 +1,6 @@
 -- No more pairs of segments meet badly when a corner that is free goes.
 use Rattle.std.proofs.Common.{◌≡◌, ℕ, ◌+◌, ◌≤◌, Bool, true, false, List, [], ◌∷◌, ◌++◌, length, map, ◌⊎◌, inl, inr, refl, ap, sym, ◌∙◌, subst, if◌then◌else◌, arith}
-use Rattle.std.specs.List.{AllByRecursion, filter}
-use Rattle.std.proofs.lemmas.Bool.{and_parts, not-false, true≢false}
-use Rattle.std.proofs.lemmas.List.{length-append, map-append}
-use Rattle.std.proofs.lemmas.List.Elements.{filter-append}
-use Rattle.owned_values.proofs.Elements.{all_of, all_map, each_of}
-use Rattle.owned_values.proofs.Members.{in_left, in_right}
-use Rattle.geometry.specs.Lists.{In, joined}
-use Rattle.geometry.specs.Points.{Point}
-use Rattle.geometry.specs.Rings.{same}
-use Rattle.geometry.proofs.Points.{same_is}
-use Rattle.elimination_meaning.specs.Elimination.{Vertex, numbered}
-use Rattle.elimination_meaning.specs.Sublists.{Sublist, none, keep, skip}
-use Rattle.elimination_meaning.proofs.Sublists.{sub_same, sub_chain}
-use Rattle.guarded_meaning.specs.Arcs.{ArcCorner, arc_corner_at, all_corners, Neighbours, neighbours_at, segment_of, all_neighbours, is_pair_of, arc_segments, segments, crossings, left_by, points_of, HasOwnIndexes}
-use Rattle.guarded_meaning.specs.Elimination.{remaining_arcs, reduced_arcs}
-use Rattle.guarded_meaning.specs.Guards.{is_free, keeps_rings, guarded_by}
-use Rattle.guarded_meaning.specs.Laws.{CrossingsNeverRise, NoneStaysNone, FewerArcsLaw}
-use Rattle.guarded_meaning.specs.Segments.{Segment, segment, has_length, meets_badly, bad_pairs}
+use Rattle.guarded_meaning.proofs.Names.{and_parts, not-false, true≢false, length-append, map-append, filter-append, AllByRecursion, filter, all_of, all_map, each_of, in_left, in_right, same_is, In, joined, Point, same, sub_same, sub_chain, Vertex, numbered, Sublist, none, keep, skip, ArcCorner, arc_corner_at, all_corners, Neighbours, neighbours_at, segment_of, all_neighbours, is_pair_of, arc_segments, segments, crossings, left_by, points_of, HasOwnIndexes, remaining_arcs, reduced_arcs, is_free, keeps_rings, guarded_by, CrossingsNeverRise, NoneStaysNone, FewerArcsLaw, Segment, segment, has_length, meets_badly, bad_pairs}
 use Rattle.guarded_meaning.proofs.Lists.{passed_says, filter_map, sub_right, sub_both, sub_passed}
 use Rattle.guarded_meaning.proofs.Free.{Avoids, avoids, met_before}
 use Rattle.guarded_meaning.proofs.Kept.{eliminate_keeps, points_numbered}

@@ -1,11 +1,7 @@
 -- Equations between cross products.
 use Rattle.std.proofs.Common.{◌≡◌, ℕ, ℤ, pos, ◌-ℤ◌, ◌*ℤ◌, ◌+ℤ◌, ◌+◌, ◌*◌, ap, sym, ◌∙◌, arith}
-use Rattle.std.proofs.lemmas.Int.{ints}
+use Rattle.guarded_meaning.proofs.Names.{ints, *ℤ_comm, *ℤ-zero, sub_times, times_sub, sub_times_sub, cross, Point}
 use borrow.Author.Differences.{up, down, product_is, sum_is_lem}
-use lib.IntN.{*ℤ_comm, *ℤ-zero}
-use Rattle.geometry.specs.Areas.{cross}
-use Rattle.geometry.specs.Points.{Point}
-use Rattle.geometry.proofs.Areas.{sub_times, times_sub, sub_times_sub}
 
 -- a cross product multiplied out
 pub cross_is : (a b c : Point) → cross a b c ≡ ((b.x *ℤ c.y -ℤ b.x *ℤ a.y) -ℤ (a.x *ℤ c.y -ℤ a.x *ℤ a.y)) -ℤ ((c.x *ℤ b.y -ℤ c.x *ℤ a.y) -ℤ (a.x *ℤ b.y -ℤ a.x *ℤ a.y))

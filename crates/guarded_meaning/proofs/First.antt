@@ -1,19 +1,9 @@
 -- Which corner is the next to go.
 use Rattle.std.proofs.Common.{ℕ, ◌≡◌, Bool, true, false, List, [], ◌∷◌, Option, Some, None, refl, ap, sym, ◌∙◌, subst, if◌then◌else◌, arith}
-use Rattle.elimination_meaning.specs.Elimination.{Vertex}
-use Rattle.std.specs.List.{AllByRecursion, filter}
-use Rattle.std.specs.Ordering.{ordering_then, ordering_reverse, is_lt}
+use Rattle.guarded_meaning.proofs.Names.{false_from_ne_true, AllByRecursion, filter, ordering_then, ordering_reverse, is_lt, Equal, all_of, each_of, In, map_some, Holds, Vertex, NextLaw, NoNextLaw, ArcCorner, all_corners, without_at, left_by, earlier, first_corner, Guard, arc_corner_cmp, goes_before, goes, next_corner, next_arcs}
 use Rattle.std.specs.declared.cmp.Ordering.{Ordering}
-use Rattle.std.specs.declared.cmp.Ordering.TheVariants.{Equal}
-use Rattle.std.proofs.lemmas.Bool.{false_from_ne_true}
 use Rattle.std.proofs.lemmas.Map.Lookups.{exact_unsigned}
-use Rattle.owned_values.proofs.Elements.{all_of, each_of}
-use Rattle.geometry.specs.Lists.{In, map_some}
 use Rattle.elimination_meaning.proofs.Order.{point_exact}
-use Rattle.elimination_meaning.proofs.Steps.{Holds}
-use Rattle.guarded_meaning.specs.AgendaLaws.{NextLaw, NoNextLaw}
-use Rattle.guarded_meaning.specs.Arcs.{ArcCorner, all_corners, without_at, left_by}
-use Rattle.guarded_meaning.specs.Elimination.{earlier, first_corner, Guard, arc_corner_cmp, goes_before, goes, next_corner, next_arcs}
 use Rattle.guarded_meaning.proofs.Kept.{first_holds}
 use Rattle.guarded_meaning.proofs.Lists.{in_passed, passed_says, none_passes, passed_all}
 use Rattle.guarded_meaning.proofs.Order.{arc_corner_total, goes_order}

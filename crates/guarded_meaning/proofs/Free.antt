@@ -1,15 +1,6 @@
 -- What a corner that is free says of the neighbours that stay.
 use Rattle.std.proofs.Common.{◌≡◌, ◌==◌, Bool, true, false, not, ◌&&◌, ◌||◌, List, ◌⊎◌, inl, inr, refl}
-use Rattle.std.specs.List.{list_all}
-use Rattle.std.proofs.lemmas.Bool.{and_parts, or_cases, both_ways, not-true}
-use Rattle.owned_values.proofs.Elements.{all_passed, each_of}
-use Rattle.geometry.specs.Lists.{In}
-use Rattle.geometry.specs.Rings.{same}
-use Rattle.elimination_meaning.specs.Elimination.{Vertex}
-use Rattle.guarded_meaning.specs.Arcs.{ArcCorner, place_at, places, is_place_of, Neighbours, segment_of, all_neighbours, is_pair_of}
-use Rattle.guarded_meaning.specs.Guards.{has_empty_triangle, has_open_base, is_free}
-use Rattle.guarded_meaning.specs.Segments.{segment, has_length, same_ends, meets_badly}
-use Rattle.guarded_meaning.specs.Triangles.{is_clear}
+use Rattle.guarded_meaning.proofs.Names.{and_parts, or_cases, both_ways, not-true, list_all, all_passed, each_of, In, same, Vertex, ArcCorner, place_at, places, is_place_of, Neighbours, segment_of, all_neighbours, is_pair_of, has_empty_triangle, has_open_base, is_free, segment, has_length, same_ends, meets_badly, is_clear}
 use Rattle.guarded_meaning.proofs.Neighbours.{AreAmong, all_among}
 use Rattle.guarded_meaning.proofs.Step.{length_step}
 

@@ -1,14 +1,6 @@
 -- At a higher threshold the same corners go first, and then more.
 use Rattle.std.proofs.Common.{◌≡◌, ℕ, zero, suc, ◌<◌, ◌≤◌, true, false, nat_lt, List, length, map, Option, Some, None, ◌⊎◌, inl, inr, refl, ap, sym, ◌∙◌, subst, arith}
-use Rattle.std.specs.List.{AllByRecursion}
-use Rattle.std.proofs.lemmas.Bool.{and_parts, and_from, cases_lt, ltb-true, lt-ltb}
-use Rattle.std.proofs.lemmas.Bool.Decides.{nat_tests}
-use Rattle.geometry.specs.Lists.{joined, In}
-use Rattle.elimination_meaning.specs.Elimination.{Vertex, numbered}
-use Rattle.guarded_meaning.specs.Arcs.{ArcCorner, all_corners, HasOwnIndexes}
-use Rattle.guarded_meaning.specs.Elimination.{goes_before, Guard, goes, next_arcs, eliminate_arcs, remaining_arcs, reduce_arcs}
-use Rattle.guarded_meaning.specs.Laws.{HigherKeepsFewer}
-use Rattle.guarded_meaning.specs.Lists.{EachTo, IsThinned}
+use Rattle.guarded_meaning.proofs.Names.{and_parts, and_from, cases_lt, ltb-true, lt-ltb, nat_tests, AllByRecursion, joined, In, Vertex, numbered, ArcCorner, all_corners, HasOwnIndexes, goes_before, Guard, goes, next_arcs, eliminate_arcs, remaining_arcs, reduce_arcs, HigherKeepsFewer, EachTo, IsThinned}
 use Rattle.guarded_meaning.proofs.First.{GoesNext, next_law, next_says}
 use Rattle.guarded_meaning.proofs.Kept.{eliminate_keeps}
 use Rattle.guarded_meaning.proofs.Removal.{all_numbered_own, own_indexes_left}

@@ -1,17 +1,6 @@
 -- How many positions between the ends of arcs stay.
 use Rattle.std.proofs.Common.{◌≡◌, ℕ, suc, ◌+◌, ◌<◌, Bool, true, false, cond, List, [], ◌∷◌, length, map, Option, inl, inr, refl, ap, sym, ◌∙◌, subst, if◌then◌else◌, arith}
-use Rattle.std.specs.List.{AllByRecursion, filter, count_by}
-use Rattle.std.proofs.lemmas.List.{length-append, map-append}
-use Rattle.std.proofs.lemmas.List.Sums.{sum_by-cons, sum_by-append}
-use Rattle.geometry.specs.Lists.{In, joined, all_but_last_of, all_but_last, interior}
-use Rattle.geometry.specs.Points.{Point}
-use Rattle.elimination_meaning.specs.Elimination.{Vertex, numbered}
-use Rattle.elimination_meaning.specs.Weights.{is_kept_at}
-use Rattle.guarded_meaning.specs.Arcs.{Place, place_at, points_of}
-use Rattle.guarded_meaning.specs.Elimination.{Guard, reduced_arcs}
-use Rattle.guarded_meaning.specs.Laws.{CountedByWeight}
-use Rattle.guarded_meaning.specs.Lists.{EachTo, last_after, HasEndsOf, IsThinned}
-use Rattle.guarded_meaning.specs.Weights.{weight, passing, interior_places, interior_weights, interior_count}
+use Rattle.guarded_meaning.proofs.Names.{length-append, map-append, sum_by-cons, sum_by-append, AllByRecursion, filter, count_by, In, joined, all_but_last_of, all_but_last, interior, Point, Vertex, numbered, is_kept_at, Place, place_at, points_of, Guard, reduced_arcs, CountedByWeight, EachTo, last_after, HasEndsOf, IsThinned, weight, passing, interior_places, interior_weights, interior_count}
 use Rattle.guarded_meaning.proofs.Kept.{points_numbered}
 use Rattle.guarded_meaning.proofs.Lists.{passed_says}
 use Rattle.guarded_meaning.proofs.Neighbours.{Rises}

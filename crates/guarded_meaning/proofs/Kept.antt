@@ -1,16 +1,6 @@
 -- What each corner that goes leaves true is true of the reduced arcs.
 use Rattle.std.proofs.Common.{◌≡◌, ℕ, zero, suc, true, nat_lt, List, [], ◌∷◌, map, Option, Some, None, refl, ap, ◌∙◌}
-use Rattle.std.specs.List.{AllByRecursion, filter}
-use Rattle.std.proofs.lemmas.Bool.{and_parts}
-use Rattle.owned_values.proofs.Tests.{holds_of_chosen}
-use Rattle.owned_values.proofs.Elements.{all_weaker}
-use Rattle.geometry.specs.Lists.{map_some}
-use Rattle.geometry.specs.Points.{Point}
-use Rattle.elimination_meaning.specs.Elimination.{Vertex, numbered}
-use Rattle.elimination_meaning.proofs.Steps.{Holds, numbered_points}
-use Rattle.elimination_meaning.proofs.Sublists.{sub_all, sub_filter}
-use Rattle.guarded_meaning.specs.Arcs.{ArcCorner, all_corners, left_by, points_of}
-use Rattle.guarded_meaning.specs.Elimination.{goes_before, earlier, first_corner, Guard, goes, next_arcs, eliminate_arcs}
+use Rattle.guarded_meaning.proofs.Names.{and_parts, AllByRecursion, filter, all_weaker, holds_of_chosen, map_some, Point, Holds, numbered_points, sub_all, sub_filter, Vertex, numbered, ArcCorner, all_corners, left_by, points_of, goes_before, earlier, first_corner, Guard, goes, next_arcs, eliminate_arcs}
 use Rattle.guarded_meaning.proofs.Lists.{passed_all}
 
 -- ---- the first of several

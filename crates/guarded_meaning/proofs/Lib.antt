@@ -8,6 +8,7 @@ pub mod Higher
 pub mod Interiors
 pub mod Kept
 pub mod Lists
+pub mod Names
 pub mod Neighbours
 pub mod NoCrossings
 pub mod Order

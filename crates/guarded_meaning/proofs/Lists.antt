@@ -1,10 +1,6 @@
 -- Lists of which some elements pass a test, or are left out.
 use Rattle.std.proofs.Common.{◌≡◌, Bool, true, false, List, [], ◌∷◌, ◌++◌, map, inl, inr, refl, ap, sym, ◌∙◌, subst, if◌then◌else◌}
-use Rattle.std.specs.List.{AllByRecursion, filter}
-use Rattle.owned_values.proofs.Tests.{chosen_of}
-use Rattle.geometry.specs.Lists.{In}
-use Rattle.elimination_meaning.specs.Sublists.{Sublist, none, keep, skip}
-use Rattle.elimination_meaning.proofs.Sublists.{sub_same}
+use Rattle.guarded_meaning.proofs.Names.{AllByRecursion, filter, chosen_of, In, sub_same, Sublist, none, keep, skip}
 
 -- ---- those that pass
 

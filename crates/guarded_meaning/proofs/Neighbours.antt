@@ -1,16 +1,6 @@
 -- The neighbours of arcs, and what a corner that goes makes of them: one pair in the place of its own two.
 use Rattle.std.proofs.Common.{◌≡◌, ◌≢◌, ℕ, suc, ◌<◌, ◌==◌, false, ◌&&◌, ◌||◌, List, [], ◌∷◌, ◌++◌, map, refl, ap, sym, ◌∙◌, subst, append_assoc, arith}
-use Rattle.std.specs.List.{AllByRecursion}
-use Rattle.std.proofs.lemmas.Bool.{and_right, or_from, ne_eqb}
-use Rattle.std.proofs.lemmas.Bool.Decides.{nat_tests}
-use Rattle.std.proofs.lemmas.List.{map-append}
-use Rattle.owned_values.proofs.Elements.{all_weaker, all_two, all_append, all_right, all_map, all_of_map, all_of}
-use Rattle.owned_values.proofs.Members.{in_left, in_right}
-use Rattle.geometry.specs.Lists.{AreDistinct, In}
-use Rattle.geometry.specs.Points.{Point}
-use Rattle.elimination_meaning.specs.Elimination.{Vertex, without}
-use Rattle.guarded_meaning.specs.Arcs.{ArcCorner, arc_corner_at, arc_corners, all_corners, Place, place_at, places, Neighbours, neighbours_at, segment_of, neighbours_from, neighbours, all_neighbours, is_pair_of, left_by, points_of, HasOwnIndexes}
-use Rattle.guarded_meaning.specs.Segments.{Segment, segment}
+use Rattle.guarded_meaning.proofs.Names.{and_right, or_from, ne_eqb, nat_tests, map-append, AllByRecursion, all_weaker, all_two, all_append, all_right, all_map, all_of_map, all_of, in_left, in_right, AreDistinct, In, Point, Vertex, without, ArcCorner, arc_corner_at, arc_corners, all_corners, Place, place_at, places, Neighbours, neighbours_at, segment_of, neighbours_from, neighbours, all_neighbours, is_pair_of, left_by, points_of, HasOwnIndexes, Segment, segment}
 use Rattle.guarded_meaning.proofs.Removal.{IsTaken, all_taken, in_next_arc, later_arcs}
 use Rattle.guarded_meaning.proofs.Thinned.{AreRising}
 

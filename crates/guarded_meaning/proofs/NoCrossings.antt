@@ -1,19 +1,7 @@
 -- Each two segments of the reduced arcs that meet badly come of two that met badly.
 use Rattle.std.proofs.Common.{◌≡◌, ◌≢◌, ℕ, zero, suc, ◌<◌, ◌==◌, true, false, ◌&&◌, ◌||◌, not, List, [], ◌∷◌, ◌++◌, length, map, ◌⊎◌, inl, inr, refl, ap, sym, ◌∙◌, subst, arith}
-use Rattle.std.specs.List.{AllByRecursion}
-use Rattle.std.proofs.lemmas.Bool.{and_parts, both_ways}
-use Rattle.std.proofs.lemmas.Bool.Decides.{nat_tests}
-use Rattle.owned_values.proofs.Elements.{all_of, all_right, each_of}
-use Rattle.owned_values.proofs.Members.{in_left, in_right, in_append}
-use Rattle.geometry.specs.Lists.{In, joined}
-use Rattle.geometry.specs.Points.{Point}
-use Rattle.elimination_meaning.specs.Elimination.{Vertex, numbered}
-use Rattle.elimination_meaning.proofs.Sublists.{sub_map, sub_filter}
-use Rattle.guarded_meaning.specs.Arcs.{ArcCorner, arc_corner_at, all_corners, Neighbours, neighbours_at, segment_of, all_neighbours, is_pair_of, arc_segments, without_at, left_by, HasOwnIndexes}
-use Rattle.guarded_meaning.specs.Guards.{is_free, keeps_rings, guarded_by}
-use Rattle.guarded_meaning.specs.Laws.{NoCrossingsLaw}
+use Rattle.guarded_meaning.proofs.Names.{and_parts, both_ways, nat_tests, AllByRecursion, all_of, all_right, each_of, in_left, in_right, in_append, In, joined, Point, sub_map, sub_filter, Vertex, numbered, ArcCorner, arc_corner_at, all_corners, Neighbours, neighbours_at, segment_of, all_neighbours, is_pair_of, arc_segments, without_at, left_by, HasOwnIndexes, is_free, keeps_rings, guarded_by, NoCrossingsLaw, has_length, meets_badly}
 use Rattle.guarded_meaning.specs.Origins.{LiesWithin, MetBefore}
-use Rattle.guarded_meaning.specs.Segments.{has_length, meets_badly}
 use Rattle.guarded_meaning.proofs.Lists.{in_passed, passed_says}
 use Rattle.guarded_meaning.proofs.Free.{Avoids, avoids, met_before}
 use Rattle.guarded_meaning.proofs.Kept.{eliminate_keeps}

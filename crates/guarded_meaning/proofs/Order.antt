@@ -1,19 +1,10 @@
 -- The order of the corners of all arcs is total, so the first of several is that of its separates; within an arc it is the arc's own.
 use Rattle.std.proofs.Common.{◌≡◌, ℕ, suc, Bool, true, List, [], ◌∷◌, ◌++◌, map, Option, Some, None, refl, ap, sym, ◌∙◌, if◌then◌else◌, arith}
-use Rattle.std.specs.List.{AllByRecursion}
+use Rattle.guarded_meaning.proofs.Names.{nat_tests, AllByRecursion, ordering_then, nat_cmp, is_lt, Equal, chosen_of, map_some, Holds, Corner, is_before, lesser, least, ArcCorner, earlier, first_corner, arc_corner_cmp, goes_before}
 use Rattle.std.specs.Cmp.{IsTotalOrder, IsStrictWeakOrder}
-use Rattle.std.specs.Ordering.{ordering_then, nat_cmp, is_lt}
-use Rattle.std.specs.declared.cmp.Ordering.TheVariants.{Equal}
-use Rattle.std.proofs.lemmas.Bool.Decides.{nat_tests}
 use Rattle.std.proofs.lemmas.Cmp.{on_total, then_total, nat_cmp_total, int_cmp_total}
 use Rattle.std.proofs.lemmas.List.MinMax.{ranks_by}
-use Rattle.owned_values.proofs.Tests.{chosen_of}
-use Rattle.geometry.specs.Lists.{map_some}
 use Rattle.geometry.specs.Order.{point_cmp}
-use Rattle.elimination_meaning.specs.Elimination.{Corner, is_before, lesser, least}
-use Rattle.elimination_meaning.proofs.Steps.{Holds}
-use Rattle.guarded_meaning.specs.Arcs.{ArcCorner}
-use Rattle.guarded_meaning.specs.Elimination.{earlier, first_corner, arc_corner_cmp, goes_before}
 use Rattle.guarded_meaning.proofs.Kept.{first_holds}
 use Rattle.guarded_meaning.proofs.Removal.{in_next_arc}
 

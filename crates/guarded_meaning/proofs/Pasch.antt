@@ -1,15 +1,6 @@
 -- A segment that crosses a side of a triangle and has no end in it meets one of the other sides.
 use Rattle.std.proofs.Common.{◌≡◌, true, false, ◌&&◌, ℤ, pos, ◌*ℤ◌, ◌+ℤ◌, ◌<ℤ◌, ◌≤ℤ◌, ◌⊎◌, inl, inr, refl, ap, sym, ◌∙◌, arith}
-use Rattle.std.proofs.lemmas.Int.{ints}
-use Rattle.std.proofs.lemmas.Bool.{or_right, both_ways}
-use lib.IntN.{*ℤ-zero}
-use Rattle.geometry.specs.Areas.{cross}
-use Rattle.geometry.specs.Points.{Point}
-use Rattle.geometry.specs.Rings.{same}
-use Rattle.geometry.proofs.Areas.{cross_turned}
-use Rattle.geometry.proofs.Points.{same_is}
-use Rattle.guarded_meaning.specs.Segments.{segment, is_left, is_right, is_on, touches, separates, crosses}
-use Rattle.guarded_meaning.specs.Triangles.{in_triangle}
+use Rattle.guarded_meaning.proofs.Names.{or_right, both_ways, ints, *ℤ-zero, cross_turned, same_is, cross, Point, same, segment, is_left, is_right, is_on, touches, separates, crosses, in_triangle}
 use Rattle.guarded_meaning.proofs.Crosses.{cross_round, cross_parts, four_turns}
 use Rattle.guarded_meaning.proofs.Signs.{below_or, first_over, first_under, last_over, last_under, both_over, both_under}
 use Rattle.guarded_meaning.proofs.Tests.{lt_passes, on_passes, within_left, within_right}

@@ -1,13 +1,6 @@
 -- What is left when a corner goes: the arcs without one vertex, which keep their own indexes.
 use Rattle.std.proofs.Common.{◌≡◌, ◌≢◌, ℕ, zero, suc, ◌+◌, ◌<◌, not, ◌==◌, List, [], ◌∷◌, ◌++◌, map, refl, ap, sym, ◌∙◌, subst, arith}
-use Rattle.std.specs.List.{AllByRecursion}
-use Rattle.std.proofs.lemmas.Bool.Decides.{nat_tests}
-use Rattle.std.proofs.lemmas.List.{map-append}
-use Rattle.owned_values.proofs.Elements.{all_weaker, all_right, all_of_map}
-use Rattle.geometry.specs.Points.{Point}
-use Rattle.elimination_meaning.specs.Elimination.{Vertex, without, numbered}
-use Rattle.elimination_meaning.proofs.Sublists.{sub_filter, sub_map, sub_apart}
-use Rattle.guarded_meaning.specs.Arcs.{HasOwnIndexes, ArcCorner, arc_corner_at, arc_corners_from, arc_corners, all_corners, without_at}
+use Rattle.guarded_meaning.proofs.Names.{nat_tests, map-append, AllByRecursion, all_weaker, all_right, all_of_map, Point, sub_filter, sub_map, sub_apart, Vertex, without, numbered, HasOwnIndexes, ArcCorner, arc_corner_at, arc_corners_from, arc_corners, all_corners, without_at}
 
 -- ---- one arc
 

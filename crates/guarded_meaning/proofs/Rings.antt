@@ -1,17 +1,6 @@
 -- Rings of four positions or more keep as many.
 use Rattle.std.proofs.Common.{◌≡◌, ◌≢◌, ℕ, zero, suc, ℤ, pos, negsuc, ◌==◌, Bool, true, false, not, ◌||◌, List, [], ◌∷◌, length, map, ◌⊎◌, inl, inr, refl, ap, sym, ◌∙◌, subst, reverse, arith}
-use Rattle.std.specs.List.{AllByRecursion}
-use Rattle.std.proofs.lemmas.Bool.{and_parts, or_cases, or_parts, not-true}
-use Rattle.std.proofs.lemmas.Bool.Decides.{nat_tests}
-use Rattle.owned_values.proofs.Elements.{all_of, all_two, all_passed}
-use Rattle.geometry.specs.Joins.{at, or_empty, arc_at, stitched, number_of}
-use Rattle.geometry.specs.Lists.{joined}
-use Rattle.junctions.specs.Cleaning.{clean, is_short}
-use Rattle.elimination_meaning.specs.Elimination.{Vertex, numbered}
-use Rattle.guarded_meaning.specs.Arcs.{all_corners, without_at, left_by, points_of}
-use Rattle.guarded_meaning.specs.Elimination.{reduced_arcs}
-use Rattle.guarded_meaning.specs.Guards.{is_free, is_long, uses, keeps_rings, guarded_by}
-use Rattle.guarded_meaning.specs.Laws.{RingsStay}
+use Rattle.guarded_meaning.proofs.Names.{and_parts, or_cases, or_parts, not-true, nat_tests, AllByRecursion, all_of, all_two, all_passed, at, or_empty, arc_at, stitched, number_of, joined, clean, is_short, Vertex, numbered, all_corners, without_at, left_by, points_of, reduced_arcs, is_free, is_long, uses, keeps_rings, guarded_by, RingsStay}
 use Rattle.guarded_meaning.proofs.Kept.{eliminate_keeps, points_numbered}
 
 -- ---- arcs of which no corner goes

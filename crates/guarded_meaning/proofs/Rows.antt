@@ -1,16 +1,6 @@
 -- Worked segments and triangles, and the worked rows of guarded reduction in whole units.
 use Rattle.std.proofs.Common.{◌≡◌, ℕ, ◌-◌, ℤ, pos, negsuc, Bool, true, false, List, [], ◌∷◌, Some, None, refl}
-use Rattle.geometry.specs.Areas.{cross, twice_area}
-use Rattle.geometry.specs.Joins.{number_of}
-use Rattle.geometry.specs.Points.{Point}
-use Rattle.geometry.specs.Rings.{same}
-use Rattle.guarded_meaning.specs.Arcs.{crossings}
-use Rattle.guarded_meaning.specs.Elimination.{goes_before, reduced_arcs}
-use Rattle.guarded_meaning.specs.Guards.{is_free, keeps_rings, guarded_by}
-use Rattle.guarded_meaning.specs.Segments.{Segment, segment, is_on, touches, separates, crosses, same_ends, meets_badly}
-use Rattle.guarded_meaning.specs.Shares.{share, chosen}
-use Rattle.guarded_meaning.specs.Triangles.{in_triangle}
-use Rattle.guarded_meaning.specs.Weights.{interior_weights}
+use Rattle.guarded_meaning.proofs.Names.{cross, twice_area, number_of, Point, same, crossings, goes_before, reduced_arcs, is_free, keeps_rings, guarded_by, Segment, segment, is_on, touches, separates, crosses, same_ends, meets_badly, share, chosen, in_triangle, interior_weights}
 
 abbrev at : ℕ → ℕ → Point
 at x y = record { x = pos x; y = pos y }

@@ -1,15 +1,7 @@
 -- The greatest threshold at which a share stays.
 use Rattle.std.proofs.Common.{◌≡◌, ℕ, ◌+◌, ◌*◌, ◌<◌, ◌≤◌, max, Bool, true, false, cond, List, [], ◌∷◌, length, Option, refl, ap, sym, ◌∙◌, subst, arith, ◌⊎◌, inl, inr}
-use Rattle.std.specs.List.{filter, count_by}
-use Rattle.std.proofs.lemmas.Bool.{le-leb, leb-true, cases_lt}
-use Rattle.std.proofs.lemmas.List.Sums.{sum_by-cons}
+use Rattle.guarded_meaning.proofs.Names.{le-leb, leb-true, cases_lt, sum_by-cons, filter, count_by, In, is_kept_at, reduced_arcs, ShareIsGreatest, ShareStays, known, count_kept, keeps_share, greatest, share, chosen, IsGreatestShare, interior_weights, interior_count}
 use Rattle.std.proofs.lemmas.Nat.{mul-le}
-use Rattle.geometry.specs.Lists.{In}
-use Rattle.elimination_meaning.specs.Weights.{is_kept_at}
-use Rattle.guarded_meaning.specs.Elimination.{reduced_arcs}
-use Rattle.guarded_meaning.specs.Laws.{ShareIsGreatest, ShareStays}
-use Rattle.guarded_meaning.specs.Shares.{known, count_kept, keeps_share, greatest, share, chosen, IsGreatestShare}
-use Rattle.guarded_meaning.specs.Weights.{interior_weights, interior_count}
 use Rattle.guarded_meaning.proofs.Interiors.{counted_by_weight, weights_count}
 use Rattle.guarded_meaning.proofs.Weights.{kept_at_zero}
 

@@ -1,18 +1,7 @@
 -- Rings are no longer where arcs have fewer positions.
 use Rattle.std.proofs.Common.{◌≡◌, ℕ, zero, suc, ℤ, pos, negsuc, ◌≤◌, Bool, true, false, not, ◌==◌, nat_lt, List, [], ◌∷◌, length, map, reverse, refl, subst, if◌then◌else◌, arith}
 use mathlib.Core.List.{reverse_aux}
-use Rattle.std.proofs.lemmas.Bool.Decides.{nat_tests}
-use Rattle.geometry.specs.Joins.{at, or_empty, arc_at, joined_after_first, stitched}
-use Rattle.geometry.specs.Points.{Point}
-use Rattle.geometry.specs.Rings.{same}
-use Rattle.geometry.proofs.Points.{same_is}
-use Rattle.junctions.specs.Cleaning.{clean, clean_from}
-use Rattle.elimination_meaning.specs.Elimination.{Vertex, without}
-use Rattle.elimination_meaning.specs.Sublists.{Sublist, none, keep, skip}
-use Rattle.elimination_meaning.proofs.Sublists.{sub_same, sub_tail, sub_map, sub_filter}
-use Rattle.guarded_meaning.specs.Arcs.{without_at, points_of}
-use Rattle.guarded_meaning.specs.Guards.{ring_of, is_long}
-use Rattle.guarded_meaning.specs.Lists.{EachTo}
+use Rattle.guarded_meaning.proofs.Names.{nat_tests, same_is, at, or_empty, arc_at, joined_after_first, stitched, Point, same, clean, clean_from, sub_same, sub_tail, sub_map, sub_filter, Vertex, without, Sublist, none, keep, skip, without_at, points_of, ring_of, is_long, EachTo}
 use Rattle.guarded_meaning.proofs.Lists.{sub_both, sub_passed}
 
 -- ---- fewer positions, with equal neighbours as one

@@ -1,14 +1,6 @@
 -- What a triangle holds is beyond none of its sides.
 use Rattle.std.proofs.Common.{◌≡◌, true, not, ◌&&◌, ◌||◌, ℤ, pos, ◌-ℤ◌, ◌*ℤ◌, ◌+ℤ◌, ◌<ℤ◌, ◌≤ℤ◌, ◌⊎◌, inl, inr, ap, ◌∙◌, arith}
-use Rattle.std.proofs.lemmas.Int.{ints}
-use Rattle.std.proofs.lemmas.Bool.{and_parts, or_cases, not-true}
-use Rattle.std.proofs.lemmas.Bool.Decides.{Decides-int_eq}
-use lib.IntN.{*ℤ-zero, zero-*ℤ, *ℤ_comm}
-use Rattle.geometry.specs.Areas.{cross}
-use Rattle.geometry.specs.Points.{Point}
-use Rattle.guarded_meaning.specs.Laws.{IsBeyondNone, SideLaw}
-use Rattle.guarded_meaning.specs.Segments.{is_left, is_right, is_flat, is_between, is_on}
-use Rattle.guarded_meaning.specs.Triangles.{none_left, none_right, in_triangle}
+use Rattle.guarded_meaning.proofs.Names.{and_parts, or_cases, not-true, Decides-int_eq, ints, *ℤ-zero, zero-*ℤ, *ℤ_comm, cross, Point, IsBeyondNone, SideLaw, is_left, is_right, is_flat, is_between, is_on, none_left, none_right, in_triangle}
 use Rattle.guarded_meaning.proofs.Box.{on_says, lt_denied}
 use Rattle.guarded_meaning.proofs.Crosses.{turned, cross_round, cross_parts, three_ways, three_ways_up}
 use Rattle.guarded_meaning.proofs.Signs.{below_or, over_over, over_under, at_least_under, at_most_under}

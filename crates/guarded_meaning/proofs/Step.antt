@@ -1,15 +1,6 @@
 -- One corner goes: what the segment in its place meets badly, one of the two before it met badly.
 use Rattle.std.proofs.Common.{◌≡◌, Bool, true, false, not, ◌&&◌, ◌||◌, pos, int_le, ◌-ℤ◌, ◌<ℤ◌, ◌⊎◌, inl, inr, refl, ap, sym, ◌∙◌, subst, arith}
-use Rattle.std.proofs.lemmas.Int.{ints}
-use Rattle.std.proofs.lemmas.Bool.{and_parts, and_from, or_cases, or_parts, or_left, or_right, false_from_ne_true, cases_Bool, both_ways, not-true}
-use Rattle.std.proofs.lemmas.Bool.Decides.{Decides-int_eq}
-use Rattle.geometry.specs.Areas.{cross}
-use Rattle.geometry.specs.Points.{Point}
-use Rattle.geometry.specs.Rings.{same}
-use Rattle.geometry.proofs.Points.{same_is, same_self}
-use Rattle.guarded_meaning.specs.Laws.{StepLaw}
-use Rattle.guarded_meaning.specs.Segments.{has_length, Segment, segment, is_left, is_right, is_flat, is_between, is_on, is_end, touches, separates, crosses, is_touched, same_ends, meets_badly}
-use Rattle.guarded_meaning.specs.Triangles.{in_triangle, is_clear, none_left, none_right}
+use Rattle.guarded_meaning.proofs.Names.{and_parts, and_from, or_cases, or_parts, or_left, or_right, false_from_ne_true, cases_Bool, both_ways, not-true, Decides-int_eq, ints, same_is, same_self, cross, Point, same, StepLaw, has_length, Segment, segment, is_left, is_right, is_flat, is_between, is_on, is_end, touches, separates, crosses, is_touched, same_ends, meets_badly, in_triangle, is_clear, none_left, none_right}
 use Rattle.guarded_meaning.proofs.Crosses.{cross_is}
 use Rattle.guarded_meaning.proofs.Tests.{lt_says}
 use Rattle.guarded_meaning.proofs.Pasch.{swapped, parts_left, parts_right, crosses_passes, touches_passes, Meets, pasch_left}

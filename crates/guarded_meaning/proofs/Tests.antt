@@ -1,17 +1,6 @@
 -- What the tests on positions decide, and what makes them pass.
 use Rattle.std.proofs.Common.{◌≡◌, ◌≢◌, true, false, not, ◌&&◌, ◌||◌, ℤ, pos, int_lt, int_le, ◌-ℤ◌, ◌*ℤ◌, ◌+ℤ◌, ◌<ℤ◌, ◌≤ℤ◌, ◌⊎◌, inl, inr, refl, ap, sym, ◌∙◌, arith}
-use Rattle.std.proofs.lemmas.Int.{ints}
-use Rattle.std.proofs.lemmas.Bool.{or_right}
-use Rattle.std.proofs.lemmas.Bool.Decides.{Decides-int_eq}
-use Rattle.std.specs.Ordering.{int_eq}
-use lib.IntN.{*ℤ_comm, zero-*ℤ}
-use Rattle.geometry.specs.Areas.{cross}
-use Rattle.geometry.specs.Points.{Point}
-use Rattle.geometry.specs.Rings.{same}
-use Rattle.geometry.proofs.Areas.{sub_times_sub}
-use Rattle.geometry.proofs.Points.{same_is}
-use Rattle.guarded_meaning.specs.Segments.{is_flat, is_between, is_on}
-use Rattle.guarded_meaning.specs.Triangles.{none_right, none_left, in_triangle}
+use Rattle.guarded_meaning.proofs.Names.{or_right, Decides-int_eq, ints, int_eq, *ℤ_comm, zero-*ℤ, sub_times_sub, same_is, cross, Point, same, is_flat, is_between, is_on, none_right, none_left, in_triangle}
 use Rattle.guarded_meaning.proofs.Crosses.{turned, three_ways, three_ways_up, cross_is, cross_round}
 use Rattle.guarded_meaning.proofs.Signs.{on_sides}
 

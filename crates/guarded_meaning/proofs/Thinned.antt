@@ -1,19 +1,7 @@
 -- The arcs stay as many, each with its ends and without new positions, and no corner that is left may go.
 use Rattle.std.proofs.Common.{◌≡◌, ℕ, zero, suc, ◌+◌, ◌-◌, ◌<◌, ◌≤◌, true, List, [], ◌∷◌, ◌++◌, length, map, Option, Some, None, refl, ap, sym, ◌∙◌, subst, arith}
-use Rattle.std.specs.List.{AllByRecursion, filter}
-use Rattle.std.proofs.lemmas.List.{length-append}
-use Rattle.owned_values.proofs.Elements.{all_weaker, all_append, all_map}
-use Rattle.geometry.specs.Lists.{joined, map_some}
-use Rattle.geometry.specs.Points.{Point}
-use Rattle.elimination_meaning.specs.Elimination.{Vertex, without, numbered}
+use Rattle.guarded_meaning.proofs.Names.{length-append, AllByRecursion, filter, all_weaker, all_append, all_map, joined, map_some, Point, Holds, sub_same, sub_chain, sub_map, sub_filter, sub_all, Vertex, without, numbered, Sublist, none, keep, skip, HasOwnIndexes, ArcCorner, arc_corners, all_corners, left_by, points_of, first_corner, Guard, goes, next_arcs, eliminate_arcs, remaining_arcs, reduced_arcs, reduce_arcs, ThinnedLaw, ArcsRise, NoneGoes, EachTo, last_after, HasEndsOf, IsThinned}
 use Rattle.elimination_meaning.specs.Rising.{RisesTo, RisesOver}
-use Rattle.elimination_meaning.specs.Sublists.{Sublist, none, keep, skip}
-use Rattle.elimination_meaning.proofs.Steps.{Holds}
-use Rattle.elimination_meaning.proofs.Sublists.{sub_same, sub_chain, sub_map, sub_filter, sub_all}
-use Rattle.guarded_meaning.specs.Arcs.{HasOwnIndexes, ArcCorner, arc_corners, all_corners, left_by, points_of}
-use Rattle.guarded_meaning.specs.Elimination.{first_corner, Guard, goes, next_arcs, eliminate_arcs, remaining_arcs, reduced_arcs, reduce_arcs}
-use Rattle.guarded_meaning.specs.Laws.{ThinnedLaw, ArcsRise, NoneGoes}
-use Rattle.guarded_meaning.specs.Lists.{EachTo, last_after, HasEndsOf, IsThinned}
 use Rattle.guarded_meaning.proofs.Kept.{next_holds, eliminate_keeps, points_numbered}
 use Rattle.guarded_meaning.proofs.Removal.{IsTaken, all_taken, in_next_arc, later_arcs, own_indexes_left, all_numbered_own}
 use Rattle.guarded_meaning.proofs.Unguarded.{length_joined}

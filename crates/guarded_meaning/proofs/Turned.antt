@@ -1,13 +1,6 @@
 -- A triangle holds the same in either direction.
 use Rattle.std.proofs.Common.{◌≡◌, ◌≢◌, Bool, true, false, not, ◌&&◌, ◌||◌, pos, ◌⊎◌, inl, inr, refl, sym, arith}
-use Rattle.std.proofs.lemmas.Int.{ints}
-use Rattle.std.proofs.lemmas.Bool.{and_parts, or_cases, or_left, or_right, not-true, both_ways}
-use Rattle.std.proofs.lemmas.Bool.Decides.{Decides-int_eq}
-use Rattle.geometry.specs.Areas.{cross}
-use Rattle.geometry.specs.Points.{Point}
-use Rattle.guarded_meaning.specs.Laws.{EitherWay}
-use Rattle.guarded_meaning.specs.Segments.{is_left, is_right, is_flat, is_on}
-use Rattle.guarded_meaning.specs.Triangles.{none_left, none_right, in_triangle}
+use Rattle.guarded_meaning.proofs.Names.{and_parts, or_cases, or_left, or_right, not-true, both_ways, Decides-int_eq, ints, cross, Point, EitherWay, is_left, is_right, is_flat, is_on, none_left, none_right, in_triangle}
 use Rattle.guarded_meaning.proofs.Box.{lt_denied}
 use Rattle.guarded_meaning.proofs.Crosses.{cross_is}
 use Rattle.guarded_meaning.proofs.Pasch.{swapped}

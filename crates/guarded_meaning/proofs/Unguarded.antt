@@ -1,21 +1,8 @@
 -- Where everything may go, each arc is reduced by itself.
 use Rattle.std.proofs.Common.{◌≡◌, ℕ, zero, suc, ◌+◌, ◌<◌, ◌≤◌, Bool, true, false, nat_lt, List, [], ◌∷◌, length, map, Option, Some, None, refl, ap, sym, ◌∙◌, subst, if◌then◌else◌, arith}
-use Rattle.std.specs.List.{AllByRecursion, filter}
-use Rattle.std.proofs.lemmas.Bool.Decides.{nat_tests}
-use Rattle.std.proofs.lemmas.List.{length-append}
-use Rattle.std.proofs.lemmas.List.Elements.{filter-append, filter_agree}
-use Rattle.owned_values.proofs.Tests.{holds_of_chosen, chosen_of}
-use Rattle.geometry.specs.Lists.{joined, map_some}
-use Rattle.geometry.specs.Points.{Point}
-use Rattle.elimination_meaning.specs.Elimination.{Vertex, Corner, corner_at, corners, corners_from, is_before, lesser, least, without, without_under, next, eliminate, numbered, reduced, reduce}
+use Rattle.guarded_meaning.proofs.Names.{nat_tests, length-append, filter-append, filter_agree, AllByRecursion, filter, holds_of_chosen, chosen_of, joined, map_some, Point, Holds, sub_filter, sub_all, Vertex, Corner, corner_at, corners, corners_from, is_before, lesser, least, without, without_under, next, eliminate, numbered, reduced, reduce, ArcCorner, arc_corners_from, arc_corners, all_corners, without_at, left_by, points_of, earlier, first_corner, goes_before, Guard, goes, eliminate_arcs, reduced_arcs, reduce_arcs, guarded_by, keeps_rings, UnguardedLaw, UnguardedIndexLaw}
 use Rattle.elimination_meaning.proofs.Enough.{next_shorter, length_numbered}
-use Rattle.elimination_meaning.proofs.Steps.{Holds}
-use Rattle.elimination_meaning.proofs.Sublists.{sub_filter, sub_all}
 use Rattle.elimination_meaning.proofs.Turned.{go_on}
-use Rattle.guarded_meaning.specs.Arcs.{ArcCorner, arc_corners_from, arc_corners, all_corners, without_at, left_by, points_of}
-use Rattle.guarded_meaning.specs.Elimination.{earlier, first_corner, goes_before, Guard, goes, eliminate_arcs, reduced_arcs, reduce_arcs}
-use Rattle.guarded_meaning.specs.Guards.{guarded_by, keeps_rings}
-use Rattle.guarded_meaning.specs.Laws.{UnguardedLaw, UnguardedIndexLaw}
 use Rattle.guarded_meaning.proofs.Kept.{first_holds}
 use Rattle.guarded_meaning.proofs.Lists.{filter_map}
 use Rattle.guarded_meaning.proofs.Order.{first_append, first_next, corner_of, least_first}

@@ -1,16 +1,6 @@
 -- What stays at a threshold under a guard are the ends, what never goes, and what has a weight that isn't under it.
 use Rattle.std.proofs.Common.{◌≡◌, ℕ, zero, suc, ◌+◌, ◌<◌, ◌≤◌, max, Bool, true, false, not, ◌&&◌, ◌==◌, nat_lt, List, [], ◌∷◌, length, map, Option, Some, None, ◌⊎◌, inl, inr, refl, ap, sym, ◌∙◌, if◌then◌else◌, arith}
-use Rattle.std.specs.List.{filter}
-use Rattle.std.proofs.lemmas.Bool.{and_parts, and_from, and_left, and_right, cases_lt, both_ways, ltb-true, lt-ltb, le-ltb, false_from_ne_true}
-use Rattle.std.proofs.lemmas.Bool.Decides.{nat_tests}
-use Rattle.std.proofs.lemmas.List.Elements.{filter_agree}
-use Rattle.geometry.specs.Lists.{joined}
-use Rattle.elimination_meaning.specs.Elimination.{Vertex, numbered}
-use Rattle.elimination_meaning.specs.Weights.{is_kept_at}
-use Rattle.guarded_meaning.specs.Arcs.{ArcCorner, Place, place_at, is_place_of, without_at, left_by}
-use Rattle.guarded_meaning.specs.Elimination.{Guard, goes_before, goes, next_corner, next_arcs, eliminate_arcs}
-use Rattle.guarded_meaning.specs.Laws.{KeptByWeight}
-use Rattle.guarded_meaning.specs.Weights.{weight_from, weight, passing}
+use Rattle.guarded_meaning.proofs.Names.{and_parts, and_from, and_left, and_right, cases_lt, both_ways, ltb-true, lt-ltb, le-ltb, false_from_ne_true, nat_tests, filter_agree, filter, joined, Vertex, numbered, is_kept_at, ArcCorner, Place, place_at, is_place_of, without_at, left_by, Guard, goes_before, goes, next_corner, next_arcs, eliminate_arcs, KeptByWeight, weight_from, weight, passing}
 use Rattle.guarded_meaning.proofs.First.{next_law, no_next_law, next_is, none_is_next}
 
 -- ---- those that pass

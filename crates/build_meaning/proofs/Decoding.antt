@@ -1,31 +1,13 @@
 -- What is decoded of the topology that is built of layers is what is expected of it.
 use Rattle.std.proofs.Common.{rules, ◌≡◌, ◌≢◌, ℕ, Bool, true, false, List, [], ◌∷◌, map, Option, None, Some, refl, ap, ◌∙◌, if◌then◌else◌, arith}
-use Rattle.std.specs.List.{AllByRecursion}
+use Rattle.build_meaning.proofs.Names.{AllByRecursion, all_weaker, all_two, all_map, all_left, all_right, all_of_map, agreed, composed, map_some, then_some, Point, prune, option_lines_and_rings, Shape, Featured, Stroke, linework, decoded_shape, decoded_feature, decoded_object, of_name, decoded, AreDistinct, reduced, DirectionLaw, all_arcs, kept_refs, untrimmed, built, kept_line, expected_feature, expected, AreSound, DecodesBack, Named, names_of, layers_of, features_lines_and_rings, named_lines_and_rings, features_by, objects_by}
 use Rattle.std.proofs.lemmas.Slice.Eq.{bytes_eq-Decides}
-use Rattle.elimination_meaning.specs.Elimination.{reduced}
-use Rattle.elimination_meaning.specs.Laws.{DirectionLaw}
 use Rattle.geojson_types.specs.declared.layer.FeatureSet.TheVariants as set
 use Rattle.geojson_types.specs.declared.layer.Layer.{Layer}
-use Rattle.geojson_types.specs.Features.{Shape, Featured}
-use Rattle.geometry.specs.Lists.{map_some, then_some}
-use Rattle.geometry.specs.Points.{Point}
-use Rattle.geometry.specs.Pruning.{prune, option_lines_and_rings}
-use Rattle.geometry.proofs.Agreement.{all_left, all_right, all_of_map, agreed}
-use Rattle.geometry.proofs.Composition.{composed}
-use Rattle.linework.specs.Linework.{linework}
-use Rattle.junctions.specs.declared.stroke.Stroke.{Stroke}
 use Rattle.topojson_types.specs.declared.object.TopoObject.TheVariants.{Many}
-use Rattle.topojson_types.specs.Decoding.{decoded_shape, decoded_feature, decoded_object, of_name, decoded}
-use Rattle.topojson_types.specs.Validity.{AreDistinct}
-use Rattle.build_meaning.specs.Built.{all_arcs, kept_refs, untrimmed, built}
-use Rattle.build_meaning.specs.Expected.{kept_line, expected_feature, expected}
-use Rattle.build_meaning.specs.Laws.{AreSound, DecodesBack}
-use Rattle.build_meaning.specs.Layers.{Named, names_of, layers_of, features_lines_and_rings, named_lines_and_rings}
-use Rattle.build_meaning.specs.Objects.{features_by, objects_by}
 use Rattle.build_meaning.proofs.DecodingLines.{back, line_back}
 use Rattle.build_meaning.proofs.Linework.{Line, StandsIn, each_stands, own_apart}
 use Rattle.build_meaning.proofs.Trimmed.{trimmed_decodes}
-use Rattle.owned_values.proofs.Elements.{all_weaker, all_two, all_map}
 
 -- ---- names
 

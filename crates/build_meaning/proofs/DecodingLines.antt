@@ -1,23 +1,7 @@
 -- What is decoded of a line's indexes among all arcs, each of which is reduced, is the line rebuilt of its own pieces.
 use Rattle.std.proofs.Common.{◌≡◌, ℕ, zero, suc, ◌<◌, ◌≤◌, ℤ, pos, negsuc, Bool, false, List, [], ◌∷◌, map, length, append-nil, reverse, Option, None, Some, refl, sym, ap, ◌∙◌, arith, inl, inr}
-use Rattle.std.proofs.lemmas.Bool.Decides.{nat_tests}
-use Rattle.arc_table.specs.Arcs.{arcs_of, index_in}
-use Rattle.arc_table.proofs.Alike.{arcs_unlike, arc_is_piece, piece_has_alike}
-use Rattle.arc_table.proofs.Indexes.{named_is, index_is}
-use Rattle.arc_table.proofs.Stitching.{same_stitched}
+use Rattle.build_meaning.proofs.Names.{nat_tests, number_of, at, or_empty, arc_at, stitched, then_some, Point, Cause, clean_from, clean, is_short, Stroke, In, Apart, interior, filled, completed, decoded_line, arcs_unlike, arc_is_piece, piece_has_alike, named_is, index_is, same_stitched, arcs_of, index_in, reduced, DirectionLaw, all_arcs, kept_refs, own_pieces, own_cause, rebuilt, unless, kept_line}
 use Rattle.cutter.specs.Pieces.{pieces}
-use Rattle.cutter.specs.Places.{In, Apart, interior}
-use Rattle.elimination_meaning.specs.Elimination.{reduced}
-use Rattle.elimination_meaning.specs.Laws.{DirectionLaw}
-use Rattle.geometry.specs.Lists.{then_some}
-use Rattle.geometry.specs.Points.{Point}
-use Rattle.junctions.specs.Cleaning.{clean_from, clean, is_short}
-use Rattle.junctions.specs.declared.stroke.Stroke.{Stroke}
-use Rattle.topojson_types.specs.Decoding.{filled, completed, decoded_line}
-use Rattle.geometry.specs.declared.address.Cause.{Cause}
-use Rattle.geometry.specs.Joins.{number_of, at, or_empty, arc_at, stitched}
-use Rattle.build_meaning.specs.Built.{all_arcs, kept_refs}
-use Rattle.build_meaning.specs.Expected.{own_pieces, own_cause, rebuilt, unless, kept_line}
 use Rattle.build_meaning.proofs.Linework.{Line, StandsIn, own_in}
 
 -- ---- an arc that is found again when all are replaced

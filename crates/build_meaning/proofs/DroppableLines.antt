@@ -1,22 +1,8 @@
 -- The droppable lines of a shape, by its kind: they are its lines and rings, and those that stay are the lines and rings of the pruned shape.
 use Rattle.std.proofs.Common.{◌≡◌, ℤ, Bool, true, false, List, [], ◌∷◌, ◌++◌, map, Option, None, Some, refl, sym, ap, ◌∙◌, arith}
-use Rattle.std.specs.List.{AllByRecursion}
-use Rattle.std.proofs.lemmas.List.{map-append}
-use Rattle.geometry.specs.declared.address.Cause.{Cause}
-use Rattle.geometry.specs.declared.shape.Geometry.{Geometry}
+use Rattle.build_meaning.proofs.Names.{map-append, AllByRecursion, AtKinds, at_kinds, prune-point, prune-points, prune-line, prune-lines, prune-area, prune-areas, prune-group, lines_and_rings-point, lines_and_rings-points, lines_and_rings-line, lines_and_rings-lines, lines_and_rings-area, lines_and_rings-areas, lines_and_rings-group, by_kinds, map_some, then_some, with_some, some_of, unless_empty, joined, Point, area_by, prune, lines_and_rings, option_lines_and_rings, Cause, Geometry, Shape, Featured, DroppableLine, free, hole, area_droppable_lines, droppable_lines_step, droppable_lines, option_droppable_lines, if_kept, features_droppable_lines, named_droppable_lines, unless, Named, named_lines_and_rings, feature_by, features_by, objects_by}
 use Rattle.geometry.specs.declared.shape.Geometry.TheVariants as g
-use Rattle.geojson_types.specs.Features.{Shape, Featured}
-use Rattle.geometry.specs.Lists.{map_some, then_some, with_some, some_of, unless_empty, joined}
-use Rattle.geometry.specs.Points.{Point}
-use Rattle.geometry.specs.Pruning.{area_by, prune, lines_and_rings, option_lines_and_rings}
-use Rattle.geometry.proofs.Cases.{prune-point, prune-points, prune-line, prune-lines, prune-area, prune-areas, prune-group, lines_and_rings-point, lines_and_rings-points, lines_and_rings-line, lines_and_rings-lines, lines_and_rings-area, lines_and_rings-areas, lines_and_rings-group}
-use Rattle.geometry.proofs.Induction.{by_kinds}
-use Rattle.geometry.proofs.ByKind.{AtKinds, at_kinds}
 use Rattle.topojson_types.specs.Topologies.{features_lines_and_rings as topo_lines_and_rings, objects_lines_and_rings}
-use Rattle.build_meaning.specs.DroppableLines.{DroppableLine, free, hole, area_droppable_lines, droppable_lines_step, droppable_lines, option_droppable_lines, if_kept, features_droppable_lines, named_droppable_lines}
-use Rattle.build_meaning.specs.Expected.{unless}
-use Rattle.build_meaning.specs.Layers.{Named, named_lines_and_rings}
-use Rattle.build_meaning.specs.Objects.{feature_by, features_by, objects_by}
 
 -- ---- by kind
 

@@ -2,6 +2,7 @@ pub mod DroppableLines
 pub mod Decoding
 pub mod DecodingLines
 pub mod Linework
+pub mod Names
 pub mod Once
 pub mod Renumbered
 mod Rows

@@ -1,12 +1,6 @@
 -- The lines and rings of a shape of which some are left out are among what is given for its lines and rings.
 use Rattle.std.proofs.Common.{◌≡◌, Bool, true, List, [], ◌∷◌, map, Option, None, Some, sym, subst, arith}
-use Rattle.std.specs.List.{AllByRecursion}
-use Rattle.geometry.specs.declared.address.Cause.{Cause}
-use Rattle.geometry.specs.declared.address.Cause.TheVariants.{Collapsed}
-use Rattle.geometry.specs.declared.shape.Geometry.{Geometry}
-use Rattle.geometry.specs.Lists.{map_some, then_some, some_of}
-use Rattle.geometry.specs.Pruning.{prune, lines_and_rings, option_lines_and_rings}
-use Rattle.build_meaning.specs.DroppableLines.{DroppableLine, droppable_lines, if_kept}
+use Rattle.build_meaning.proofs.Names.{AllByRecursion, map_some, then_some, some_of, prune, lines_and_rings, option_lines_and_rings, Cause, Collapsed, Geometry, DroppableLine, droppable_lines, if_kept}
 use Rattle.build_meaning.proofs.DroppableLines.{Matches, all_lines_and_rings, stroke}
 use Rattle.build_meaning.proofs.DroppableLines as candidate
 

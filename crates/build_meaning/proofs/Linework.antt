@@ -1,27 +1,11 @@
 -- The linework of named layers: their lines and rings that aren't short, cleaned; and the pieces of these.
 use Rattle.std.proofs.Common.{◌≡◌, ℕ, suc, Bool, false, cond, not, List, [], ◌∷◌, map, refl, ap, sym, subst, inl, inr, arith}
-use Rattle.std.proofs.lemmas.List.{map-append}
-use Rattle.std.specs.List.{AllByRecursion, filter}
+use Rattle.build_meaning.proofs.Names.{map-append, AllByRecursion, filter, all_weaker, all_append, Point, option_lines_and_rings, Address, Featured, clean, is_short, IsCleanList, AllClean, is_cut, Stroke, line_or_ring_at, lines_and_rings_of_layer, lines_and_rings_of_layers, linework, in_flat, structured, In, Apart, interior, own_pieces, IsRingIfClosed, IsSound, AreSound, Named, layers_of, features_lines_and_rings, named_lines_and_rings}
 use Rattle.cutter.specs.Pieces.{pieces_of, pieces, split_at, start_in, turned}
-use Rattle.cutter.specs.Places.{In, Apart, interior}
 use Rattle.cutter.specs.Slices.{split_of, piece_lists}
-use Rattle.cutter.proofs.OpenPieces.{in_flat}
-use Rattle.cutter.proofs.Structured.{structured}
-use Rattle.geometry.specs.declared.address.Address.{Address}
-use Rattle.geojson_types.specs.Features.{Featured}
 use Rattle.geometry.specs.Paths.{Placed}
-use Rattle.geometry.specs.Points.{Point}
-use Rattle.geometry.specs.Pruning.{option_lines_and_rings}
-use Rattle.junctions.specs.Cleaning.{clean, is_short, IsCleanList, AllClean}
-use Rattle.junctions.specs.Cuts.{is_cut}
-use Rattle.linework.specs.Linework.{line_or_ring_at, lines_and_rings_of_layer, lines_and_rings_of_layers, linework}
-use Rattle.junctions.specs.declared.stroke.Stroke.{Stroke}
 use Rattle.junctions.proofs.Cleaned.{clean_is_clean}
 use Rattle.linework.proofs.Placing.{reported}
-use Rattle.build_meaning.specs.Expected.{own_pieces}
-use Rattle.build_meaning.specs.Laws.{IsRingIfClosed, IsSound, AreSound}
-use Rattle.build_meaning.specs.Layers.{Named, layers_of, features_lines_and_rings, named_lines_and_rings}
-use Rattle.owned_values.proofs.Elements.{all_weaker, all_append}
 
 -- an open line (false) or a ring (true)
 abbrev pub Line : Type 0

@@ -1,17 +1,11 @@
 -- Each segment of the lines lies once, in exactly one arc.
 use Rattle.std.proofs.Common.{◌≡◌, ◌<◌, List, [], ◌∷◌, ◌++◌, map, refl, ap, sym, ◌∙◌, subst}
-use Rattle.std.specs.List.{flat_map}
-use Rattle.arc_table.specs.Arcs.{arcs_of}
+use Rattle.build_meaning.proofs.Names.{flat_map, AllClean, Stroke, same_times, structured, line_segments, piece_segments, times, arcs_of}
 use Rattle.arc_table.specs.Laws.{AreOnceIn}
 use Rattle.arc_table.proofs.Once.{once_in_arcs}
 use Rattle.cutter.specs.Pieces.{pieces_of, pieces}
-use Rattle.cutter.specs.Segments.{line_segments, piece_segments, times}
 use Rattle.cutter.specs.Slices.{split_of, all_pieces}
-use Rattle.cutter.proofs.Joins.{same_times}
-use Rattle.cutter.proofs.Structured.{structured}
 use Rattle.cutter.proofs.Words.{sharers, segments_once}
-use Rattle.junctions.specs.Cleaning.{AllClean}
-use Rattle.junctions.specs.declared.stroke.Stroke.{Stroke}
 
 pub same_pieces : (ls ms : List Stroke) → all_pieces (map (split_of ls) ms) ≡ flat_map (pieces_of ls) ms
 same_pieces ls [] = refl

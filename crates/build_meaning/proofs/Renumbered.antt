@@ -1,13 +1,6 @@
 -- Objects made of layers and then renumbered are made of the layers at once, and the topology that is built has no transform.
 use Rattle.std.proofs.Common.{◌≡◌, ℕ, Bool, List, [], ◌∷◌, map, None, refl, arith}
-use Rattle.geojson_types.specs.Features.{Featured}
-use Rattle.geometry.specs.Lists.{then_some}
-use Rattle.geometry.proofs.Composition.{composed}
-use Rattle.build_meaning.specs.Built.{untrimmed, built, kept_refs}
-use Rattle.build_meaning.specs.Layers.{Named, layers_of}
-use Rattle.build_meaning.specs.Objects.{Kept, features_by, objects_by}
-use Rattle.build_meaning.specs.Trimming.{is_used, line_renumbered, feature_renumbered, object_renumbered, trimmed}
-use Rattle.linework.specs.Linework.{linework}
+use Rattle.build_meaning.proofs.Names.{composed, then_some, Featured, linework, untrimmed, built, kept_refs, Named, layers_of, Kept, features_by, objects_by, is_used, line_renumbered, feature_renumbered, object_renumbered, trimmed}
 
 module _ (used : ℕ → Bool) (kept : Kept) where
   -- the indexes of each kept line, renumbered

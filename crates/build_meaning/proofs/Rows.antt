@@ -1,13 +1,7 @@
 -- Worked rows of lines that are reduced at thresholds above zero, computed from the definitions.
 use Rattle.std.proofs.Common.{◌≡◌, ℕ, pos, negsuc, true, false, List, [], ◌∷◌, map, Some, None, refl}
-use Rattle.elimination_meaning.specs.Elimination.{is_before, reduced}
-use Rattle.geometry.specs.Areas.{cross, twice_area, shoelace}
-use Rattle.geometry.specs.declared.address.Cause.TheVariants.{Collapsed, Small}
-use Rattle.geometry.specs.Points.{Point}
+use Rattle.build_meaning.proofs.Names.{cross, twice_area, shoelace, Point, Collapsed, Small, Stroke, is_before, reduced, all_arcs, kept_refs, own_cause, rebuilt, cleaned, kept_line}
 use Rattle.geometry.specs.Rings.{same}
-use Rattle.junctions.specs.declared.stroke.Stroke.{Stroke}
-use Rattle.build_meaning.specs.Built.{all_arcs, kept_refs}
-use Rattle.build_meaning.specs.Expected.{own_cause, rebuilt, cleaned, kept_line}
 
 abbrev at : ℕ → ℕ → Point
 at x y = record { x = pos x; y = pos y }

@@ -1,36 +1,10 @@
 -- The topology that is built of layers is valid.
 use Rattle.std.proofs.Common.{◌≡◌, ℕ, ◌≤◌, ℤ, Bool, true, false, List, [], ◌∷◌, map, length, Option, None, Some, refl, sym, ap, ◌∙◌, subst, if◌then◌else◌, arith}
-use Rattle.std.proofs.lemmas.List.{length-map}
-use Rattle.std.specs.List.{AllByRecursion}
-use Rattle.arc_table.specs.Arcs.{index_in}
+use Rattle.build_meaning.proofs.Names.{length-map, AllByRecursion, all_weaker, all_two, all_append, all_map, all_left, all_right, composed, arc_at, then_some, Point, IsPosition, prune, option_lines_and_rings, Collapsed, Small, Shape, Featured, is_some_list, is_proper_option, option_points, clean, is_short, AllClean, is_cut, Stroke, linework, In, is_full_option, option_places, IsFeature, IsObject, AreDistinct, AreInRange, IsJoined, IsClosed, IsArc, IsTopology, TopoObject, index_in, reduced, EndsStay, NoneIsNew, all_arcs, kept_refs, built, unless, own_pieces, is_small, IsSound, AreSound, IsValid, EachSegmentOnce, Named, names_of, layers_of, features_lines_and_rings, named_lines_and_rings, Kept, features_by, objects_by, is_used, keep_from, renumbered, line_renumbered, feature_renumbered, object_renumbered, trimmed}
 use Rattle.cutter.specs.Pieces.{split_at, start_in, turned, pieces_of, stitched}
-use Rattle.cutter.specs.Places.{In}
-use Rattle.elimination_meaning.specs.Elimination.{reduced}
-use Rattle.elimination_meaning.specs.Laws.{EndsStay, NoneIsNew}
 use Rattle.elimination_meaning.proofs.Sublists.{sub_all}
-use Rattle.geometry.specs.declared.address.Cause.TheVariants.{Collapsed, Small}
-use Rattle.geojson_types.specs.Features.{Shape, Featured, is_some_list, is_proper_option}
-use Rattle.geometry.specs.Lists.{then_some}
-use Rattle.geojson_types.specs.Places.{option_points}
-use Rattle.geometry.specs.Points.{Point, IsPosition}
-use Rattle.geometry.specs.Pruning.{prune, option_lines_and_rings}
-use Rattle.geometry.proofs.Agreement.{all_left, all_right}
-use Rattle.geometry.proofs.Composition.{composed}
-use Rattle.junctions.specs.Cleaning.{clean, is_short, AllClean}
-use Rattle.junctions.specs.Cuts.{is_cut}
-use Rattle.linework.specs.Linework.{linework}
-use Rattle.junctions.specs.declared.stroke.Stroke.{Stroke}
-use Rattle.topojson_types.specs.declared.object.TopoObject.{TopoObject}
-use Rattle.geometry.specs.Joins.{arc_at}
 use Rattle.topojson_types.specs.Topologies.{objects_lines_and_rings}
 use Rattle.topojson_types.specs.Topologies as topology
-use Rattle.topojson_types.specs.Validity.{is_full_option, option_places, IsFeature, IsObject, AreDistinct, AreInRange, IsJoined, IsClosed, IsArc, IsTopology}
-use Rattle.build_meaning.specs.Built.{all_arcs, kept_refs, built}
-use Rattle.build_meaning.specs.Expected.{unless, own_pieces, is_small}
-use Rattle.build_meaning.specs.Laws.{IsSound, AreSound, IsValid, EachSegmentOnce}
-use Rattle.build_meaning.specs.Layers.{Named, names_of, layers_of, features_lines_and_rings, named_lines_and_rings}
-use Rattle.build_meaning.specs.Objects.{Kept, features_by, objects_by}
-use Rattle.build_meaning.specs.Trimming.{is_used, keep_from, renumbered, line_renumbered, feature_renumbered, object_renumbered, trimmed}
 use Rattle.build_meaning.proofs.ValidEnds.{SameEnds, ends_kept, named_ends, meet_as, close_as}
 use Rattle.build_meaning.proofs.ValidShapes.{places_stay, made_full}
 use Rattle.build_meaning.proofs.ValidIndexes.{arcs_long, ranged, met, closed}
@@ -40,7 +14,6 @@ use Rattle.build_meaning.proofs.ValidPositions.{arcs_placed}
 use Rattle.build_meaning.proofs.Trimmed.{IsUsed, all_renumbered, all_used}
 use Rattle.build_meaning.proofs.ValidTrimmed.{all_kept, all_below, of_objects}
 use Rattle.build_meaning.proofs.LinesAndRings.{option_left}
-use Rattle.owned_values.proofs.Elements.{all_weaker, all_two, all_append, all_map}
 
 -- ---- names
 

@@ -1,12 +1,7 @@
 -- A reduced arc begins and ends as the arc does, so lines of reduced arcs meet and close as before.
 use Rattle.std.proofs.Common.{◌≡◌, ℕ, zero, suc, ◌≤◌, List, [], ◌∷◌, ◌++◌, map, length, reverse, Option, None, Some, refl, ap, sym, ◌∙◌, subst, arith}
-use Rattle.std.proofs.lemmas.List.{reverse-reverse, reverse-append}
-use Rattle.std.specs.List.{AllByRecursion}
+use Rattle.build_meaning.proofs.Names.{reverse-reverse, reverse-append, AllByRecursion, at, or_empty, arc_at, first_of, last_of, Meet, Closes, Point, reduced, EndsStay}
 use Rattle.std.specs.Prelude.{ℤ, pos, negsuc}
-use Rattle.elimination_meaning.specs.Elimination.{reduced}
-use Rattle.elimination_meaning.specs.Laws.{EndsStay}
-use Rattle.geometry.specs.Points.{Point}
-use Rattle.geometry.specs.Joins.{at, or_empty, arc_at, first_of, last_of, Meet, Closes}
 
 -- they begin at the same position and end at the same
 abbrev pub SameEnds : List Point → List Point → Type 0

@@ -1,30 +1,13 @@
 -- The arcs of lines, and the indexes of one of the lines: they are in range, their arcs meet, and those of a ring close.
 use Rattle.std.proofs.Common.{◌≡◌, ◌<◌, ◌≤◌, true, List, [], ◌∷◌, map, length, ap, sym, ◌∙◌, subst, inl, inr, arith}
-use Rattle.std.specs.List.{AllByRecursion}
+use Rattle.build_meaning.proofs.Names.{AllByRecursion, all_of, all_made, in_append, number_of, arc_at, Meet, Closes, Point, is_some_list, IsClean, AllClean, is_cut, Stroke, clean_starts, line_or_ring_split, in_flat, structured, clean_in, segments, arcs_unlike, arc_is_piece, piece_has_alike, index_is, named_is, named_all, pieces_meet, rings_close, arcs_of, index_in}
 use Rattle.std.specs.Prelude.{ℤ}
-use Rattle.arc_table.specs.Arcs.{arcs_of, index_in}
 use Rattle.arc_table.specs.Growth.{first_alike}
-use Rattle.arc_table.proofs.Alike.{arcs_unlike, arc_is_piece, piece_has_alike}
 use Rattle.arc_table.proofs.Growth.{map_same}
-use Rattle.arc_table.proofs.Indexes.{index_is, named_is, named_all}
-use Rattle.arc_table.proofs.Stitching.{pieces_meet, rings_close}
 use Rattle.cutter.specs.Pieces.{pieces_of, pieces}
-use Rattle.cutter.specs.Segments.{segments}
 use Rattle.cutter.specs.Slices.{IsSplit, started, split_of, lines_and_rings}
 use Rattle.cutter.specs.Structure.{PiecesAreLong}
-use Rattle.cutter.proofs.CleanStarts.{clean_starts}
-use Rattle.cutter.proofs.Joins.{line_or_ring_split}
-use Rattle.cutter.proofs.OpenPieces.{in_flat}
-use Rattle.cutter.proofs.Structured.{structured, clean_in}
-use Rattle.owned_values.proofs.Members.{in_append}
-use Rattle.geojson_types.specs.Features.{is_some_list}
-use Rattle.geometry.specs.Points.{Point}
 use Rattle.junctions.specs.Among.{In}
-use Rattle.junctions.specs.Cleaning.{IsClean, AllClean}
-use Rattle.junctions.specs.Cuts.{is_cut}
-use Rattle.junctions.specs.declared.stroke.Stroke.{Stroke}
-use Rattle.geometry.specs.Joins.{number_of, arc_at, Meet, Closes}
-use Rattle.owned_values.proofs.Elements.{all_of, all_made}
 
 started_clean : (lines : List Stroke) (s : Stroke) (ms : List Stroke) → AllClean (lines_and_rings (map (split_of lines) ms)) → In s ms → IsClean (started (is_cut lines) s)
 started_clean lines s [] h k = elim k [ ]

@@ -1,21 +1,9 @@
 -- Each position of an arc is a position of the layers.
 use Rattle.std.proofs.Common.{ℕ, ◌+◌, Bool, List, [], ◌∷◌, drop, take, arith}
-use Rattle.std.specs.List.{AllByRecursion}
-use Rattle.arc_table.specs.Arcs.{arcs_of}
-use Rattle.arc_table.proofs.Alike.{arc_is_piece}
+use Rattle.build_meaning.proofs.Names.{AllByRecursion, all_append, all_of, each_of, all_drop, all_take, Point, IsPosition, Address, Featured, option_points, features_points, Stroke, linework, from_flat, arc_is_piece, arcs_of, IsSound, AreSound, Named, layers_of}
 use Rattle.cutter.specs.Pieces.{joined, pieces_from, split_at, turned, pieces_of, pieces}
-use Rattle.cutter.proofs.Structured.{from_flat}
-use Rattle.geometry.specs.declared.address.Address.{Address}
-use Rattle.geojson_types.specs.Features.{Featured}
-use Rattle.geojson_types.specs.Places.{option_points, features_points}
-use Rattle.geometry.specs.Points.{Point, IsPosition}
 use Rattle.linework.specs.Laws.{layers_points}
-use Rattle.linework.specs.Linework.{linework}
-use Rattle.junctions.specs.declared.stroke.Stroke.{Stroke}
 use Rattle.linework.proofs.Positions.{none_is_new}
-use Rattle.build_meaning.specs.Laws.{IsSound, AreSound}
-use Rattle.build_meaning.specs.Layers.{Named, layers_of}
-use Rattle.owned_values.proofs.Elements.{all_append, all_of, each_of, all_drop, all_take}
 
 -- ---- pieces of a line
 

@@ -1,22 +1,11 @@
 -- A shape of which some lines and rings are left out has no empty list where what is given for a line has an element, and its Points
 -- and MultiPoints stay where they are.
 use Rattle.std.proofs.Common.{◌≡◌, ◌&&◌, ℤ, Bool, true, false, List, [], ◌∷◌, map, Option, None, Some, refl, sym, ap, ◌∙◌, subst, arith}
-use Rattle.std.specs.List.{AllByRecursion, list_all}
+use Rattle.build_meaning.proofs.Names.{AllByRecursion, list_all, all_append, all_left, all_right, proper_at, points_at, proper-group, prune-point, prune-points, prune-line, prune-lines, prune-area, prune-areas, prune-group, by_kinds, map_some, with_some, some_of, unless_empty, joined, Point, area_by, prune, Shape, is_some_list, is_proper, shape_points, is_full, is_full_option, places, option_places}
 use Rattle.std.proofs.lemmas.Bool.{and_parts, and_from}
 use Rattle.geometry.specs.declared.shape.Geometry.TheVariants as g
-use Rattle.geojson_types.specs.Features.{Shape, is_some_list, is_proper}
-use Rattle.geometry.specs.Lists.{map_some, with_some, some_of, unless_empty, joined}
-use Rattle.geojson_types.specs.Places.{shape_points}
-use Rattle.geometry.specs.Points.{Point}
-use Rattle.geometry.specs.Pruning.{area_by, prune}
-use Rattle.geometry.proofs.Agreement.{all_left, all_right}
-use Rattle.geometry.proofs.Cases.{prune-point, prune-points, prune-line, prune-lines, prune-area, prune-areas, prune-group}
-use Rattle.geometry.proofs.Induction.{by_kinds}
-use Rattle.geometry.proofs.ByKind.{proper_at, points_at, proper-group}
 use Rattle.topojson_types.specs.Topologies.{TopoShape}
-use Rattle.topojson_types.specs.Validity.{is_full, is_full_option, places, option_places}
 use Rattle.topojson_types.proofs.ByKind.{full_at, places_at, full-group}
-use Rattle.owned_values.proofs.Elements.{all_append}
 
 map_id : {A : Type 0} (xs : List A) → map (λ x. x) xs ≡ xs
 map_id [] = refl

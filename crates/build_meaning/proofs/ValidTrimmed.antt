@@ -1,17 +1,10 @@
 -- Where the arcs that no line uses are left out, each index that is used names the same arc as before.
 use Rattle.std.proofs.Common.{◌≡◌, ℕ, zero, suc, ◌+◌, ◌<◌, Bool, true, List, [], ◌∷◌, map, length, Option, None, Some, ap, subst, arith}
-use Rattle.std.specs.List.{AllByRecursion}
+use Rattle.build_meaning.proofs.Names.{AllByRecursion, all_weaker, all_append, all_left, all_right, number_of, option_lines_and_rings, TopoFeature, TopoObject, keep_from, new_index_from, renumbered, line_renumbered, feature_renumbered, object_renumbered}
 use Rattle.std.specs.Prelude.{ℤ}
-use Rattle.geometry.specs.Pruning.{option_lines_and_rings}
-use Rattle.geometry.proofs.Agreement.{all_left, all_right}
-use Rattle.topojson_types.specs.declared.feature.TopoFeature.{TopoFeature}
-use Rattle.topojson_types.specs.declared.object.TopoObject.{TopoObject}
-use Rattle.geometry.specs.Joins.{number_of}
 use Rattle.topojson_types.specs.Topologies.{object_features, features_lines_and_rings, objects_lines_and_rings}
-use Rattle.build_meaning.specs.Trimming.{keep_from, new_index_from, renumbered, line_renumbered, feature_renumbered, object_renumbered}
 use Rattle.build_meaning.proofs.Trimmed.{IsUsed}
 use Rattle.build_meaning.proofs.LinesAndRings.{option_left}
-use Rattle.owned_values.proofs.Elements.{all_weaker, all_append}
 
 -- ---- elements that stay
 

@@ -1,18 +1,6 @@
 -- The layers over all arcs, with those that no kept line uses, are a valid topology.
 use Rattle.std.proofs.Common.{arith, ◌≡◌, ℕ, ℤ, Bool, true, List, [], ◌∷◌, map, Option, None, Some, refl, ap}
-use Rattle.std.specs.List.{AllByRecursion}
-use Rattle.elimination_meaning.specs.Laws.{EndsStay, NoneIsNew}
-use Rattle.geojson_types.specs.Features.{Shape, Featured, is_some_list, is_proper_option}
-use Rattle.geojson_types.specs.Places.{option_points}
-use Rattle.geometry.specs.Lists.{then_some}
-use Rattle.geometry.specs.Points.{Point, IsPosition}
-use Rattle.geometry.specs.Pruning.{prune}
-use Rattle.owned_values.proofs.Elements.{all_weaker}
-use Rattle.topojson_types.specs.Validity.{is_full_option, option_places, IsFeature, IsObject, AreDistinct, IsTopology}
-use Rattle.build_meaning.specs.Built.{untrimmed}
-use Rattle.build_meaning.specs.Laws.{IsSound, AreSound}
-use Rattle.build_meaning.specs.Layers.{Named, names_of}
-use Rattle.build_meaning.specs.Objects.{Kept, features_by, objects_by}
+use Rattle.build_meaning.proofs.Names.{AllByRecursion, all_weaker, then_some, Point, IsPosition, prune, Shape, Featured, is_some_list, is_proper_option, option_points, is_full_option, option_places, IsFeature, IsObject, AreDistinct, IsTopology, EndsStay, NoneIsNew, untrimmed, IsSound, AreSound, Named, names_of, Kept, features_by, objects_by}
 use Rattle.build_meaning.proofs.Valid.{some_kept, fewer_are_arcs, before_fine}
 use Rattle.build_meaning.proofs.ValidShapes.{places_stay, made_full}
 

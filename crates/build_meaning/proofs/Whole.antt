@@ -1,26 +1,11 @@
 -- At a threshold and a limit of zero what is expected of a line is the line.
 use Rattle.std.proofs.Common.{◌≡◌, ℕ, nat_lt, Bool, true, false, ◌&&◌, ◌||◌, cond, List, [], ◌∷◌, map, length, None, Some, refl, ap, ◌∙◌, inl, inr, arith}
-use Rattle.std.proofs.lemmas.Bool.Decides.{nat_tests}
+use Rattle.build_meaning.proofs.Names.{nat_tests, all_weaker, twice_ring_area, Point, Address, clean_from, clean, is_short, Moves, IsCleanList, IsClean, AllClean, is_cut, Stroke, clean_starts, line_or_ring_split, turned_length, clean_in, In, reduced, ZeroLaw, cleaned, is_small, kept_line, LosesNothing}
 use Rattle.cutter.specs.Pieces.{start_in, turned, from_start, stitched}
-use Rattle.cutter.specs.Places.{In}
 use Rattle.cutter.specs.Slices.{started, split_of, lines_and_rings}
-use Rattle.cutter.proofs.CleanStarts.{clean_starts}
-use Rattle.cutter.proofs.Joins.{line_or_ring_split, turned_length}
 use Rattle.cutter.proofs.Starts.{ring_cut, start_cut, line}
-use Rattle.cutter.proofs.Structured.{clean_in}
-use Rattle.elimination_meaning.specs.Elimination.{reduced}
-use Rattle.elimination_meaning.specs.Laws.{ZeroLaw}
-use Rattle.geometry.specs.Areas.{twice_ring_area}
-use Rattle.geometry.specs.declared.address.Address.{Address}
-use Rattle.geometry.specs.Points.{Point}
 use Rattle.geometry.proofs.Points.{same_is}
-use Rattle.junctions.specs.Cleaning.{clean_from, clean, is_short, Moves, IsCleanList, IsClean, AllClean}
-use Rattle.junctions.specs.Cuts.{is_cut}
-use Rattle.junctions.specs.declared.stroke.Stroke.{Stroke}
-use Rattle.build_meaning.specs.Expected.{cleaned, is_small, kept_line}
-use Rattle.build_meaning.specs.Laws.{LosesNothing}
 use Rattle.build_meaning.proofs.Linework.{Line, plain, clean_line, plain_pieces, StandsIn, all_clean, each_stands}
-use Rattle.owned_values.proofs.Elements.{all_weaker}
 
 -- ---- a clean line stays when it is cleaned
 

@@ -1,13 +1,6 @@
 -- Arcs that no line uses, left out again after fewer lines are left.
 use Rattle.std.proofs.Common.{◌≡◌, ℕ, ◌+◌, ◌==◌, ℤ, Bool, true, false, ◌&&◌, ◌||◌, List, [], ◌∷◌, map, Some, refl, sym, ap, ◌∙◌, arith}
-use Rattle.std.specs.List.{AllByRecursion, list_any}
-use Rattle.std.proofs.lemmas.Bool.Decides.{nat_tests}
-use Rattle.topojson_types.specs.declared.object.TopoObject.{TopoObject}
-use Rattle.geometry.specs.Joins.{number_of}
-use Rattle.topojson_types.specs.Topologies.{Contents, objects_lines_and_rings}
-use Rattle.build_meaning.specs.Trimming.{is_used, keep_from, new_index_from, renumbered, line_renumbered, trimmed}
-use Rattle.build_meaning.proofs.Trimmed.{IsUsed, AllUsed}
-use Rattle.simplified_topology.specs.Simplified.{objects_pruned}
+use Rattle.simplified_topology.proofs.Names.{nat_tests, AllByRecursion, list_any, number_of, Contents, objects_lines_and_rings, TopoObject, IsUsed, AllUsed, is_used, keep_from, new_index_from, renumbered, line_renumbered, trimmed, objects_pruned}
 use Rattle.simplified_topology.proofs.Objects.{objects_then, objects_replaced}
 use Rattle.simplified_topology.proofs.Twice.{Both, keep_twice, new_index_twice, test_renumbering}
 

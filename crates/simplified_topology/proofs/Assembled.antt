@@ -1,40 +1,14 @@
 -- What is assembled of layers, in the words of their lines; and with each arc reduced at a threshold it is what is built of them.
 use Rattle.std.proofs.Common.{rules, arith, ◌≡◌, ℕ, Bool, List, [], ◌∷◌, map, Option, None, refl, ap, ◌∙◌}
-use Rattle.std.specs.List.{AllByRecursion}
-use Rattle.elimination_meaning.specs.Elimination.{reduce, reduced}
-use Rattle.elimination_meaning.specs.Laws.{DirectionLaw, ZeroLaw, EndsStay, NoneIsNew}
-use Rattle.geojson_types.specs.Features.{Shape, Featured}
-use Rattle.geometry.specs.declared.address.Cause.{Cause}
-use Rattle.geometry.specs.Lists.{then_some}
-use Rattle.geometry.specs.DropCauses.{dropped_of_layers}
-use Rattle.geometry.specs.Points.{Point}
-use Rattle.geometry.specs.Pruning.{option_lines_and_rings}
+use Rattle.simplified_topology.proofs.Names.{AllByRecursion, all_weaker, all_left, all_right, all_parts, all_map, all_of_map, all_two, map_agree, dropped_of_layers, then_some, Point, option_lines_and_rings, Cause, Shape, Featured, Stroke, linework, Contents, TopoObject, reduce, reduced, DirectionLaw, ZeroLaw, EndsStay, NoneIsNew, Line, StandsIn, all_clean, each_stands, own_apart, kept_of_map, arcs_long, untrimmed_is_valid, each_stays, loses_nothing}
+use Rattle.simplified_topology.proofs.Names.{all_arcs, kept_refs, untrimmed, built, removed_count, own_cause, unless, kept_line, option_drop_causes, expected_dropped, AreSound, whole_line, Kept, objects_by, trimmed, arcs_of_layers, arc_indexes, own_refs, assembled_cause, option_caused, layers_caused, assembled, assembled_dropped, assembled_removed_count, AssemblesToBuilt, AssemblingDropsExpected, AssemblingRemoves, ArcIndexesReach, AssembledIsValid, large_refs, retained_arcs, retained_whole, objects_pruned, simplified_by, removed_count_by}
 use Rattle.geometry.proofs.Omitted.{drop_causes_agree}
-use Rattle.junctions.specs.declared.stroke.Stroke.{Stroke}
-use Rattle.linework.specs.Linework.{linework}
-use Rattle.owned_values.proofs.Elements.{all_weaker, all_left, all_right, all_parts, all_map, all_of_map, all_two}
-use Rattle.topojson_types.specs.declared.object.TopoObject.{TopoObject}
-use Rattle.topojson_types.specs.Topologies.{Contents}
-use Rattle.build_meaning.specs.Built.{all_arcs, kept_refs, untrimmed, built, removed_count}
-use Rattle.build_meaning.specs.Expected.{own_cause, unless, kept_line, option_drop_causes, expected_dropped}
-use Rattle.build_meaning.specs.Laws.{AreSound, whole_line}
 use Rattle.build_meaning.specs.Layers.{Named, layers_of, features_lines_and_rings, named_lines_and_rings}
-use Rattle.build_meaning.specs.Objects.{Kept, objects_by}
-use Rattle.build_meaning.specs.Trimming.{trimmed}
-use Rattle.build_meaning.proofs.Linework.{Line, StandsIn, all_clean, each_stands, own_apart}
-use Rattle.build_meaning.proofs.ValidIndexes.{arcs_long}
-use Rattle.build_meaning.proofs.ValidUntrimmed.{untrimmed_is_valid}
-use Rattle.build_meaning.proofs.Whole.{each_stays, loses_nothing}
-use Rattle.simplified_topology.specs.Assembled.{arcs_of_layers, arc_indexes, own_refs, assembled_cause, option_caused, layers_caused, assembled, assembled_dropped, assembled_removed_count}
-use Rattle.simplified_topology.specs.Laws.{AssemblesToBuilt, AssemblingDropsExpected, AssemblingRemoves, ArcIndexesReach, AssembledIsValid}
-use Rattle.simplified_topology.specs.Simplified.{large_refs, retained_arcs, retained_whole, objects_pruned, simplified_by, removed_count_by}
-use Rattle.build_meaning.proofs.Trimmed.{kept_of_map}
 use Rattle.simplified_topology.proofs.Simplified.{IsWholeAtZero, no_small, cause_same, objects_again}
 use Rattle.simplified_topology.proofs.Made.{objects_made}
 use Rattle.simplified_topology.proofs.Retained.{retained_each, each_reduced}
 use Rattle.simplified_topology.proofs.Reaching.{each_through}
 use Rattle.simplified_topology.proofs.Valid.{simplified_is_valid}
-use Rattle.owned_values.proofs.Lists.{map_agree}
 
 -- ---- in the words of the layers' lines
 

@@ -1,30 +1,9 @@
 -- Worked rows of what is assembled of layers over reduced arcs, computed from the definitions. The fold of a shape is opened by its
 -- kind.
 use Rattle.std.proofs.Common.{◌≡◌, ◌==◌, ℕ, ℤ, pos, Bool, true, false, List, [], ◌∷◌, ◌++◌, map, Option, None, Some, refl, ap, ◌∙◌}
-use Rattle.std.specs.List.{list_any}
-use Rattle.elimination_meaning.specs.Elimination.{is_before, reduced}
-use Rattle.geojson_types.specs.Features.{Featured, Shape}
-use Rattle.geometry.specs.Areas.{cross, twice_area, shoelace}
-use Rattle.geometry.specs.declared.address.Cause.TheVariants.{Small, Outer}
+use Rattle.simplified_topology.proofs.Names.{list_any, prune-line, prune-area, lines_and_rings-line, drop_causes-area, drop_causes-line, cross, twice_area, shoelace, number_of, Point, prune, same, Small, Outer, Featured, Shape, Stroke, placed_lines_and_rings_at, linework, TopoShape, objects_lines_and_rings, TopoFeature, TopoObject, Many, is_before, reduced, all_arcs, kept_refs, objects_by, trimmed, assembled, assembled_dropped, retained_arcs, large_refs, objects_pruned, simplified_by}
 use Rattle.geometry.specs.declared.shape.Geometry.TheVariants as g
-use Rattle.geometry.specs.Joins.{number_of}
-use Rattle.geometry.specs.Points.{Point}
-use Rattle.geometry.specs.Pruning.{prune}
-use Rattle.geometry.specs.Rings.{same}
-use Rattle.geometry.proofs.Cases.{prune-line, prune-area, lines_and_rings-line, drop_causes-area, drop_causes-line}
-use Rattle.junctions.specs.declared.stroke.Stroke.{Stroke}
-use Rattle.linework.specs.Linework.{linework}
-use Rattle.linework.proofs.Placing.{placed_lines_and_rings_at}
-use Rattle.topojson_types.specs.declared.feature.TopoFeature.{TopoFeature}
-use Rattle.topojson_types.specs.declared.object.TopoObject.{TopoObject}
-use Rattle.topojson_types.specs.declared.object.TopoObject.TheVariants.{Many}
-use Rattle.topojson_types.specs.Topologies.{TopoShape, objects_lines_and_rings}
-use Rattle.build_meaning.specs.Built.{all_arcs, kept_refs}
 use Rattle.build_meaning.specs.Layers.{Named, layers_of}
-use Rattle.build_meaning.specs.Objects.{objects_by}
-use Rattle.build_meaning.specs.Trimming.{trimmed}
-use Rattle.simplified_topology.specs.Assembled.{assembled, assembled_dropped}
-use Rattle.simplified_topology.specs.Simplified.{retained_arcs, large_refs, objects_pruned, simplified_by}
 use Rattle.simplified_topology.proofs.Assembled.{contents}
 
 abbrev at : ℕ → ℕ → Point

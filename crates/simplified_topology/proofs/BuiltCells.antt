@@ -1,31 +1,13 @@
 -- Each position of the topology that is built of layers is a position of theirs.
 use Rattle.std.proofs.Common.{rules, arith, ℕ, Bool, List, [], ◌∷◌, map, Option, Some, None}
-use Rattle.std.specs.List.{AllByRecursion}
-use Rattle.arc_table.specs.Arcs.{arcs_of}
+use Rattle.simplified_topology.proofs.Names.{AllByRecursion, all_append, all_left, all_right, all_of, all_map, all_weaker, each_of, then_some, Point, prune, Shape, Featured, option_points, features_points, linework, pieces_of, pieces, arcs_of, sub_all, reduced, NoneIsNew, places_stay, all_kept, built, Kept, features_by, objects_by, feature_renumbered, object_renumbered, trimmed, EachCell}
 use Rattle.arc_table.proofs.Alike.{arc_is_piece}
-use Rattle.cutter.specs.Pieces.{pieces_of, pieces}
 use Rattle.cutter.proofs.Structured.{from_flat}
-use Rattle.elimination_meaning.specs.Elimination.{reduced}
-use Rattle.elimination_meaning.specs.Laws.{NoneIsNew}
-use Rattle.elimination_meaning.proofs.Sublists.{sub_all}
-use Rattle.geojson_types.specs.Features.{Shape, Featured}
-use Rattle.geometry.specs.Lists.{then_some}
-use Rattle.geojson_types.specs.Places.{option_points, features_points}
-use Rattle.geometry.specs.Points.{Point}
-use Rattle.geometry.specs.Pruning.{prune}
 use Rattle.linework.specs.Laws.{layers_points}
-use Rattle.linework.specs.Linework.{linework}
 use Rattle.linework.proofs.Positions.{none_is_new}
-use Rattle.owned_values.proofs.Elements.{all_append, all_left, all_right, all_of, all_map, all_weaker, each_of}
 use Rattle.topojson_types.specs.Validity.{option_places, features_places, objects_places}
-use Rattle.build_meaning.specs.Built.{built}
 use Rattle.build_meaning.specs.Layers.{Named, layers_of}
-use Rattle.build_meaning.specs.Objects.{Kept, features_by, objects_by}
-use Rattle.build_meaning.specs.Trimming.{feature_renumbered, object_renumbered, trimmed}
 use Rattle.build_meaning.proofs.ValidPositions.{all_pieces_of}
-use Rattle.build_meaning.proofs.ValidShapes.{places_stay}
-use Rattle.build_meaning.proofs.ValidTrimmed.{all_kept}
-use Rattle.simplified_topology.specs.Celled.{EachCell}
 use Rattle.simplified_topology.proofs.ValidPruned.{option_stay}
 
 module _ (X : Point → Type 0) where

@@ -1,13 +1,7 @@
 -- What is built of layers on a grid: it decodes to what is built of them without, and it is valid.
 use Rattle.std.proofs.Common.{rules, arith, ◌≡◌, ℕ, None, refl}
-use Rattle.elimination_meaning.specs.Laws.{NoneIsNew}
-use Rattle.owned_values.proofs.Elements.{all_weaker}
-use Rattle.build_meaning.specs.Built.{built}
-use Rattle.build_meaning.specs.Laws.{DecodesBack, IsValid}
+use Rattle.simplified_topology.proofs.Names.{all_weaker, NoneIsNew, built, DecodesBack, IsValid, trimmed, LiesBack, BuiltDecodesOnGrid, BuiltIsValidOnGrid, DecodesBackOnGrid}
 use Rattle.build_meaning.specs.Layers.{Named}
-use Rattle.build_meaning.specs.Trimming.{trimmed}
-use Rattle.simplified_topology.specs.Celled.{LiesBack}
-use Rattle.simplified_topology.specs.Laws.{BuiltDecodesOnGrid, BuiltIsValidOnGrid, DecodesBackOnGrid}
 use Rattle.simplified_topology.proofs.BuiltCells.{built_cells}
 use Rattle.simplified_topology.proofs.CelledDecoding.{celled_decodes}
 use Rattle.simplified_topology.proofs.ValidCelled.{celled_is_valid}

@@ -1,27 +1,6 @@
 -- A topology on a grid is reduced to the cells of the reduced topology.
 use Rattle.std.proofs.Common.{rules, arith, ◌≡◌, ◌==◌, ℕ, zero, suc, ℤ, Bool, List, [], ◌∷◌, ◌++◌, map, Option, None, Some, refl, sym, ap, ◌∙◌}
-use Rattle.std.specs.List.{AllByRecursion, list_any}
-use Rattle.elimination_meaning.specs.Elimination.{reduce}
-use Rattle.elimination_meaning.specs.Laws.{DirectionLaw, NoneIsNew, ZeroLaw}
-use Rattle.geometry.specs.Lists.{map_some, then_some, with_some}
-use Rattle.geometry.specs.Points.{Point}
-use Rattle.geometry.specs.Pruning.{prune, option_lines_and_rings, lines_and_rings}
-use Rattle.geometry.proofs.Agreement.{agreed}
-use Rattle.geometry.proofs.Composition.{composed}
-use Rattle.topojson_types.specs.declared.feature.TopoFeature.{TopoFeature}
-use Rattle.topojson_types.specs.declared.object.TopoObject.{TopoObject}
-use Rattle.topojson_types.specs.declared.object.TopoObject.TheVariants.{One, Many}
-use Rattle.topojson_types.specs.declared.transform.Transform.{Transform}
-use Rattle.geometry.specs.Joins.{at, number_of}
-use Rattle.topojson_types.specs.Topologies.{TopoShape, Contents, object_features, features_lines_and_rings, objects_lines_and_rings}
-use Rattle.topojson_types.specs.Transforms.{place_on}
-use Rattle.build_meaning.specs.Built.{built}
-use Rattle.build_meaning.specs.Trimming.{is_used, keep_from, line_renumbered, trimmed}
-use Rattle.build_meaning.proofs.Trimmed.{kept_of_map}
-use Rattle.simplified_topology.specs.Celled.{feature_celled, object_celled, objects_celled, celled, LiesBack}
-use Rattle.simplified_topology.specs.Laws.{SimplifiesToBuiltOnGrid}
-use Rattle.simplified_topology.specs.Simplified.{Refs, retained, retained_arcs, large_refs, feature_pruned, object_pruned, objects_pruned, retained_whole, simplified_by}
-use Rattle.simplified_topology.specs.Thresholds.{simplified_contents}
+use Rattle.simplified_topology.proofs.Names.{AllByRecursion, list_any, agreed, composed, at, number_of, map_some, then_some, with_some, Point, prune, option_lines_and_rings, lines_and_rings, TopoShape, Contents, object_features, features_lines_and_rings, objects_lines_and_rings, place_on, TopoFeature, TopoObject, One, Many, Transform, reduce, DirectionLaw, NoneIsNew, ZeroLaw, kept_of_map, built, is_used, keep_from, line_renumbered, trimmed, feature_celled, object_celled, objects_celled, celled, LiesBack, SimplifiesToBuiltOnGrid, Refs, retained, retained_arcs, large_refs, feature_pruned, object_pruned, objects_pruned, retained_whole, simplified_by, simplified_contents}
 use Rattle.simplified_topology.proofs.Again.{all_hold}
 use Rattle.simplified_topology.proofs.BuiltCells.{built_cells}
 use Rattle.simplified_topology.proofs.Simplified.{simplifies_to_built}

@@ -1,25 +1,8 @@
 -- A topology on a grid decodes to what the topology decodes to whose positions its cells stand for.
 use Rattle.std.proofs.Common.{rules, arith, ◌≡◌, ℕ, ℤ, bytes_eq, Bool, List, [], ◌∷◌, map, Option, None, Some, refl, ap, ◌∙◌, subst}
-use Rattle.std.specs.List.{AllByRecursion}
-use Rattle.owned_values.proofs.Elements.{all_left, all_right}
-use Rattle.owned_values.proofs.Lists.{map_agree}
+use Rattle.simplified_topology.proofs.Names.{AllByRecursion, all_left, all_right, map_agree, prune-point, prune-points, prune-line, prune-lines, prune-area, prune-areas, prune-group, composed, by_kinds, map_some, then_some, some_of, joined, Point, prune, places_at, decoded_line, decoded_shape, decoded_feature, decoded_object, of_name, decoded, TopoShape, object_features, place_on, TopoFeature, TopoObject, Transform, feature_celled, object_celled, objects_celled, celled, LiesBack, EachCell, CelledDecodes}
 use Rattle.geometry.specs.declared.shape.Geometry.TheVariants as g
-use Rattle.geometry.specs.Lists.{map_some, then_some, some_of, joined}
-use Rattle.geometry.specs.Points.{Point}
-use Rattle.geometry.specs.Pruning.{prune}
-use Rattle.geometry.proofs.Cases.{prune-point, prune-points, prune-line, prune-lines, prune-area, prune-areas, prune-group}
-use Rattle.geometry.proofs.Composition.{composed}
-use Rattle.geometry.proofs.Induction.{by_kinds}
-use Rattle.topojson_types.specs.declared.feature.TopoFeature.{TopoFeature}
-use Rattle.topojson_types.specs.declared.object.TopoObject.{TopoObject}
-use Rattle.topojson_types.specs.declared.transform.Transform.{Transform}
-use Rattle.topojson_types.specs.Decoding.{decoded_line, decoded_shape, decoded_feature, decoded_object, of_name, decoded}
-use Rattle.topojson_types.specs.Topologies.{TopoShape, object_features}
-use Rattle.topojson_types.specs.Transforms.{place_on}
 use Rattle.topojson_types.specs.Validity.{places, option_places, features_places, objects_places}
-use Rattle.topojson_types.proofs.ByKind.{places_at}
-use Rattle.simplified_topology.specs.Celled.{feature_celled, object_celled, objects_celled, celled, LiesBack, EachCell}
-use Rattle.simplified_topology.specs.Laws.{CelledDecodes}
 use Rattle.simplified_topology.proofs.Celled.{all_lie_back}
 
 -- ---- shapes whose Points and MultiPoints are placed alike

@@ -1,12 +1,6 @@
 -- The protected ring of a shape is the greatest.
 use Rattle.std.proofs.Common.{arith, rules, ◌≡◌, ℕ, ◌<◌, ◌≤◌, nat_lt, Bool, true, false, cond, List, [], ◌∷◌, ◌++◌, Option, None, Some, refl, sym, ap, ◌∙◌, subst}
-use Rattle.std.specs.List.{AllByRecursion, filter}
-use Rattle.std.proofs.lemmas.Bool.Decides.{nat_tests}
-use Rattle.guarded_meaning.specs.Guards.{is_long}
-use Rattle.owned_values.proofs.Elements.{all_append, all_weaker}
-use Rattle.simplified_topology.specs.OuterRings.{outer_rings}
-use Rattle.simplified_topology.specs.Protected.{greater, greatest, enclosed, greatest_ring}
-use Rattle.simplified_topology.specs.ProtectedLaws.{GreatestRingIsGreatest, NoneIsGreatest}
+use Rattle.simplified_topology.proofs.Names.{nat_tests, AllByRecursion, filter, all_append, all_weaker, is_long, outer_rings, greater, greatest, enclosed, greatest_ring, GreatestRingIsGreatest, NoneIsGreatest}
 
 module _ {X : Type 0} (size : X → ℕ) (p : X → Bool) where
   abbrev Less : ℕ → X → Type 0

@@ -1,20 +1,7 @@
 -- The ring that encloses most of what is left of a shape is what is made of the one that encloses most of the shape.
 use Rattle.std.proofs.Common.{◌≡◌, ℕ, ℤ, suc, nat_lt, Bool, true, false, cond, List, [], ◌∷◌, map, Option, None, Some, refl, sym, ap, ◌∙◌, subst}
-use Rattle.std.specs.List.{AllByRecursion, filter}
-use Rattle.geometry.specs.declared.shape.Geometry.{Geometry}
+use Rattle.simplified_topology.proofs.Names.{AllByRecursion, filter, all_append, all_left, all_right, all_weaker, lines_and_rings_at, composed, by_kinds, map_some, then_some, joined, Placed, inside_part, of_parts, Point, prune, lines_and_rings, Geometry, TopoShape, is_long, outer_ring, outer_rings, marked, greater, greatest, enclosed, greatest_ring}
 use Rattle.geometry.specs.declared.shape.Geometry.TheVariants as g
-use Rattle.geometry.specs.Lists.{map_some, then_some, joined}
-use Rattle.geometry.specs.Paths.{Placed, inside_part, of_parts}
-use Rattle.geometry.specs.Points.{Point}
-use Rattle.geometry.specs.Pruning.{prune, lines_and_rings}
-use Rattle.geometry.proofs.Cases.{lines_and_rings_at}
-use Rattle.geometry.proofs.Composition.{composed}
-use Rattle.geometry.proofs.Induction.{by_kinds}
-use Rattle.guarded_meaning.specs.Guards.{is_long}
-use Rattle.owned_values.proofs.Elements.{all_append, all_left, all_right, all_weaker}
-use Rattle.topojson_types.specs.Topologies.{TopoShape}
-use Rattle.simplified_topology.specs.OuterRings.{outer_ring, outer_rings, marked}
-use Rattle.simplified_topology.specs.Protected.{greater, greatest, enclosed, greatest_ring}
 use Rattle.simplified_topology.proofs.Marks.{outer_rings_at}
 use Rattle.simplified_topology.proofs.MarksLeft.{Follows, nothing, made, left_out}
 use Rattle.simplified_topology.proofs.ShapesLeft.{keeping_mark, rings_left, Turns, TurnsOver, stays}

@@ -1,16 +1,8 @@
 -- Worked rows of topologies with a transform: what counts is where cells lie, not their numbers.
 use Rattle.std.proofs.Common.{◌≡◌, ℕ, pos, negsuc, List, [], ◌∷◌, None, Some, refl}
 use Rattle.std.specs.Prelude.{codes}
-use Rattle.decimal_text.specs.Scaling.{scaled_of}
-use Rattle.elimination_meaning.specs.Elimination.{is_before, reduce}
-use Rattle.geometry.specs.Areas.{cross, twice_area}
-use Rattle.geometry.specs.Points.{Point}
-use Rattle.topojson_types.specs.declared.transform.Transform.{Transform}
-use Rattle.topojson_types.specs.Topologies.{Contents}
+use Rattle.simplified_topology.proofs.Names.{cross, twice_area, Point, scaled_of, Contents, moved, place_on, Transform, is_before, reduce, celled, LiesBack, reduced_indexes}
 use Rattle.topojson_types.specs.TransformNumbers.{stands_for, to_units, transform_value}
-use Rattle.topojson_types.specs.Transforms.{moved, place_on}
-use Rattle.simplified_topology.specs.Celled.{celled, LiesBack}
-use Rattle.simplified_topology.specs.Thresholds.{reduced_indexes}
 
 abbrev at : ℕ → ℕ → Point
 at x y = record { x = pos x; y = pos y }

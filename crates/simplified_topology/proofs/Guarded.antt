@@ -1,29 +1,10 @@
 -- Arcs that are reduced at once: those that are left of a topology, as positions, with their ends, and what is left without a guard.
 use Rattle.std.proofs.Common.{◌≡◌, ℕ, suc, ◌-◌, ◌≤◌, Bool, false, List, [], ◌∷◌, map, length, Option, None, Some, refl, sym, ap, ◌∙◌, subst}
-use Rattle.std.specs.List.{AllByRecursion}
-use Rattle.std.proofs.lemmas.List.{length-map}
-use Rattle.build_meaning.specs.Trimming.{keep_from}
-use Rattle.build_meaning.proofs.Trimmed.{kept_of_map}
-use Rattle.elimination_meaning.specs.Elimination.{Vertex, numbered, reduce}
+use Rattle.simplified_topology.proofs.Names.{length-map, AllByRecursion, last_of, Point, placed_arcs, Contents, place_on, Transform, sub_all, Vertex, numbered, reduce, Sublist, none, keep, skip, remaining_arcs, reduce_arcs, reduced_arcs, UnguardedIndexLaw, EachTo, IsThinned, kept_of_map, keep_from, arc_positions, guarded_indexes, guarded_contents, guarded_dropped, guarded_removed_count, ArcsRetainedAreReduced, UnguardedIsSimplified, retained_arcs, simplified_by, dropped_by, removed_count_by, FromFirstToLast, EachFromFirstToLast, placed_cells, reduced_indexes, simplified_contents, simplified_dropped, simplified_removed_count}
 use Rattle.elimination_meaning.specs.Rising.{RisesTo, RisesOver}
-use Rattle.elimination_meaning.specs.Sublists.{Sublist, none, keep, skip}
-use Rattle.elimination_meaning.proofs.Sublists.{sub_all}
-use Rattle.geometry.specs.Joins.{last_of}
-use Rattle.geometry.specs.Points.{Point}
-use Rattle.guarded_meaning.specs.Elimination.{remaining_arcs, reduce_arcs, reduced_arcs}
 use Rattle.guarded_meaning.specs.Arcs.{points_of}
-use Rattle.guarded_meaning.specs.Laws.{UnguardedIndexLaw}
-use Rattle.guarded_meaning.specs.Lists.{EachTo, IsThinned}
 use Rattle.guarded_meaning.proofs.Thinned.{remaining_thinned}
 use Rattle.owned_values.proofs.Tests.{holds_of_chosen}
-use Rattle.topojson_types.specs.declared.transform.Transform.{Transform}
-use Rattle.topojson_types.specs.Decoding.{placed_arcs}
-use Rattle.topojson_types.specs.Topologies.{Contents}
-use Rattle.topojson_types.specs.Transforms.{place_on}
-use Rattle.simplified_topology.specs.Guarded.{arc_positions, guarded_indexes, guarded_contents, guarded_dropped, guarded_removed_count}
-use Rattle.simplified_topology.specs.GuardedLaws.{ArcsRetainedAreReduced, UnguardedIsSimplified}
-use Rattle.simplified_topology.specs.Simplified.{retained_arcs, simplified_by, dropped_by, removed_count_by, FromFirstToLast, EachFromFirstToLast}
-use Rattle.simplified_topology.specs.Thresholds.{placed_cells, reduced_indexes, simplified_contents, simplified_dropped, simplified_removed_count}
 use Rattle.simplified_topology.proofs.Celled.{arcs_map}
 use Rattle.simplified_topology.proofs.Retained.{Stands, all_stand, points_retained}
 

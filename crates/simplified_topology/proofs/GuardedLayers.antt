@@ -1,35 +1,7 @@
 -- What is built of layers at zero and then reduced at once is what is assembled of them.
 use Rattle.std.proofs.Common.{◌≡◌, ℕ, suc, ◌+◌, ◌-◌, ◌≤◌, Bool, true, false, cond, List, [], ◌∷◌, map, length, Option, None, Some, refl, sym, ap, ◌∙◌, subst, arith}
-use Rattle.std.specs.List.{AllByRecursion}
-use Rattle.build_meaning.specs.Built.{untrimmed, built, positions_of}
-use Rattle.build_meaning.specs.Laws.{AreSound}
+use Rattle.simplified_topology.proofs.Names.{AllByRecursion, or_empty, first_of, last_of, tail, Point, Axes, cell, linework, placed_arcs, Contents, objects_lines_and_rings, TopoObject, sub_all, numbered, NoneIsNew, ZeroLaw, reduce_arcs, guarded_by, ArcsRise, all_clean, AllUsed, all_used, arcs_long, each_stays, untrimmed, built, positions_of, AreSound, is_used, keep_from, line_renumbered, trimmed, arcs_of_layers, assembled, assembled_removed_count, celled, LiesBack, transform_of, all_indexes, spread, arc_positions, guarded_indexes, guarded_contents, guarded_removed_count, guarded_arc_indexes, TrimmedFirstIsAlike, GuardedIsAssembled, GuardedArcIndexesReach, AreOn, named_points, quantized, retained, retained_arcs, retained_whole, large_refs, objects_pruned, simplified_by, removed_count_by, FromFirstToLast, EachFromFirstToLast}
 use Rattle.build_meaning.specs.Layers.{Named, layers_of}
-use Rattle.build_meaning.specs.Trimming.{is_used, keep_from, line_renumbered, trimmed}
-use Rattle.build_meaning.proofs.Linework.{all_clean}
-use Rattle.build_meaning.proofs.Trimmed.{AllUsed, all_used}
-use Rattle.build_meaning.proofs.ValidIndexes.{arcs_long}
-use Rattle.build_meaning.proofs.Whole.{each_stays}
-use Rattle.elimination_meaning.specs.Elimination.{numbered}
-use Rattle.elimination_meaning.specs.Laws.{NoneIsNew, ZeroLaw}
-use Rattle.elimination_meaning.proofs.Sublists.{sub_all}
-use Rattle.geometry.specs.Joins.{or_empty, first_of, last_of}
-use Rattle.geometry.specs.Lists.{tail}
-use Rattle.geometry.specs.Points.{Point}
-use Rattle.grid_snap.specs.Axes.{Axes, cell}
-use Rattle.guarded_meaning.specs.Elimination.{reduce_arcs}
-use Rattle.guarded_meaning.specs.Guards.{guarded_by}
-use Rattle.guarded_meaning.specs.Laws.{ArcsRise}
-use Rattle.linework.specs.Linework.{linework}
-use Rattle.topojson_types.specs.declared.object.TopoObject.{TopoObject}
-use Rattle.topojson_types.specs.Decoding.{placed_arcs}
-use Rattle.topojson_types.specs.Topologies.{Contents, objects_lines_and_rings}
-use Rattle.simplified_topology.specs.Assembled.{arcs_of_layers, assembled, assembled_removed_count}
-use Rattle.simplified_topology.specs.Celled.{celled, LiesBack}
-use Rattle.simplified_topology.specs.GridTransforms.{transform_of}
-use Rattle.simplified_topology.specs.Guarded.{all_indexes, spread, arc_positions, guarded_indexes, guarded_contents, guarded_removed_count, guarded_arc_indexes}
-use Rattle.simplified_topology.specs.GuardedLaws.{TrimmedFirstIsAlike, GuardedIsAssembled, GuardedArcIndexesReach}
-use Rattle.simplified_topology.specs.Quantized.{AreOn, named_points, quantized}
-use Rattle.simplified_topology.specs.Simplified.{retained, retained_arcs, retained_whole, large_refs, objects_pruned, simplified_by, removed_count_by, FromFirstToLast, EachFromFirstToLast}
 use Rattle.simplified_topology.proofs.Again.{trimmed_again}
 use Rattle.simplified_topology.proofs.BuiltCells.{built_cells}
 use Rattle.simplified_topology.proofs.Celled.{all_lie_back, retained_celled}

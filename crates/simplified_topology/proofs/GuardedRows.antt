@@ -1,23 +1,10 @@
 -- Worked rows of topologies whose arcs are reduced at once, in whole units, computed from the definitions. The fold of a shape is opened by
 -- its kind.
 use Rattle.std.proofs.Common.{◌≡◌, ◌==◌, ℕ, ◌-◌, ℤ, pos, negsuc, true, false, List, [], ◌∷◌, ◌++◌, None, Some, refl, ap, ◌∙◌}
-use Rattle.geometry.specs.Areas.{cross, twice_area, shoelace}
+use Rattle.simplified_topology.proofs.Names.{prune-line, lines_and_rings-line, cross, twice_area, shoelace, number_of, Point, same, Contents, objects_lines_and_rings, TopoFeature, TopoObject, Many, reduce_arcs, goes_before, is_free, keeps_rings, trimmed, spread, guarded_indexes, guarded_contents, large_refs, objects_pruned, simplified_by}
 use Rattle.geometry.specs.declared.shape.Geometry.TheVariants as g
-use Rattle.geometry.specs.Joins.{number_of}
-use Rattle.geometry.specs.Points.{Point}
-use Rattle.geometry.specs.Rings.{same}
-use Rattle.geometry.proofs.Cases.{prune-line, lines_and_rings-line}
-use Rattle.guarded_meaning.specs.Elimination.{reduce_arcs, goes_before}
-use Rattle.guarded_meaning.specs.Guards.{is_free, keeps_rings}
 use Rattle.guarded_meaning.specs.Segments.{is_on, same_ends}
 use Rattle.guarded_meaning.specs.Triangles.{in_triangle}
-use Rattle.topojson_types.specs.declared.feature.TopoFeature.{TopoFeature}
-use Rattle.topojson_types.specs.declared.object.TopoObject.{TopoObject}
-use Rattle.topojson_types.specs.declared.object.TopoObject.TheVariants.{Many}
-use Rattle.topojson_types.specs.Topologies.{Contents, objects_lines_and_rings}
-use Rattle.build_meaning.specs.Trimming.{trimmed}
-use Rattle.simplified_topology.specs.Guarded.{spread, guarded_indexes, guarded_contents}
-use Rattle.simplified_topology.specs.Simplified.{large_refs, objects_pruned, simplified_by}
 use Rattle.simplified_topology.proofs.Assembled.{contents}
 
 abbrev at : ℕ → ℕ → Point

@@ -1,22 +1,6 @@
 -- What stays of a topology that is put on a grid: names, identifiers, properties, and the lengths of arcs.
 use Rattle.std.proofs.Common.{◌≡◌, ℕ, ◌+◌, ◌≤◌, max, List, [], ◌∷◌, ◌++◌, map, length, None, Some, refl, ap, ◌∙◌, arith}
-use Rattle.std.proofs.lemmas.List.{length-map}
-use Rattle.std.specs.List.{AllByRecursion}
-use Rattle.geojson_types.specs.Nesting.{option_nesting, properties_nesting}
-use Rattle.geojson_types.specs.Numbers.{IdHasNumbers, PropertiesHaveNumbers}
-use Rattle.geojson_types.specs.Texts.{IdHasTexts, PropertiesHaveTexts}
-use Rattle.geojson_types.proofs.Nestings.{option_pruned_nests}
-use Rattle.geometry.specs.Lists.{joined}
-use Rattle.geometry.specs.Points.{Point}
-use Rattle.grid_snap.specs.Axes.{cell}
-use Rattle.simplified_topology.specs.GridTransforms.{transform_of}
-use Rattle.simplified_topology.specs.Celled.{feature_celled, object_celled, objects_celled, celled}
-use Rattle.owned_values.proofs.Elements.{all_left, all_right, all_append}
-use Rattle.topojson_types.specs.declared.feature.TopoFeature.{TopoFeature}
-use Rattle.topojson_types.specs.declared.object.TopoObject.{TopoObject}
-use Rattle.topojson_types.specs.declared.transform.Transform.{Transform}
-use Rattle.topojson_types.specs.Topologies.{Contents, object_features}
-use Rattle.simplified_topology.specs.GridLaws.{Keeps, QuantizedKeeps}
+use Rattle.simplified_topology.proofs.Names.{length-map, AllByRecursion, all_left, all_right, all_append, joined, Point, option_pruned_nests, option_nesting, properties_nesting, IdHasNumbers, PropertiesHaveNumbers, IdHasTexts, PropertiesHaveTexts, cell, Contents, object_features, TopoFeature, TopoObject, Transform, feature_celled, object_celled, objects_celled, celled, Keeps, QuantizedKeeps, transform_of}
 
 module _ (f : Point → Point) where
   abbrev features_of : List (List ℕ × TopoObject) → List TopoFeature

@@ -1,15 +1,8 @@
 -- What stays of a topology whose arcs are reduced: names, identifiers and properties.
 use Rattle.std.proofs.Common.{◌≡◌, ℕ, Bool, List, [], ◌∷◌, map, Option, refl, ap, subst, arith}
-use Rattle.build_meaning.specs.Trimming.{feature_renumbered, object_renumbered, trimmed}
+use Rattle.simplified_topology.proofs.Names.{object_features, TopoFeature, TopoObject, feature_renumbered, object_renumbered, trimmed, labels, SimplifiedKeeps, Protection, no_protection, MarkedRefs, feature_spared, object_spared, objects_spared, spared_by, SparedKeeps, simplified_by}
 use Rattle.geojson_types.specs.declared.id.Id.{Id}
 use Rattle.json_value.specs.declared.json.Json.{Json}
-use Rattle.topojson_types.specs.declared.feature.TopoFeature.{TopoFeature}
-use Rattle.topojson_types.specs.declared.object.TopoObject.{TopoObject}
-use Rattle.topojson_types.specs.Topologies.{object_features}
-use Rattle.simplified_topology.specs.Laws.{labels, SimplifiedKeeps}
-use Rattle.simplified_topology.specs.Protected.{Protection, no_protection, MarkedRefs, feature_spared, object_spared, objects_spared, spared_by}
-use Rattle.simplified_topology.specs.ProtectedLaws.{SparedKeeps}
-use Rattle.simplified_topology.specs.Simplified.{simplified_by}
 use Rattle.simplified_topology.proofs.Spared.{whole_plain}
 
 abbrev Label : Type 0

@@ -1,37 +1,7 @@
 -- In each feature of layers the protected ring stays.
 use Rattle.std.proofs.Common.{◌≡◌, ℕ, ℤ, Bool, List, [], ◌∷◌, map, Option, None, Some, sym, ap, ◌∙◌, subst}
-use Rattle.std.specs.List.{AllByRecursion}
-use Rattle.std.proofs.lemmas.Simd.{map-map}
-use Rattle.build_meaning.specs.Built.{kept_refs, untrimmed, built}
-use Rattle.build_meaning.specs.Laws.{AreSound}
+use Rattle.simplified_topology.proofs.Names.{map-map, AllByRecursion, all_of_map, all_two, all_weaker, joined, map_some, Point, option_lines_and_rings, Featured, Axes, cell, linework, Contents, TopoFeature, NoneIsNew, ZeroLaw, ArcsRise, RingsStay, EachTo, AllUsed, all_used, each_stays, loses_nothing, kept_refs, untrimmed, built, AreSound, feature_by, is_used, keep_from, line_renumbered, renumbered, trimmed, arcs_of_layers, feature_celled, object_celled, celled, LiesBack, all_features, transform_of, arc_positions, greatest_ring, protected_of, protecting_contents, protecting_reduced, HasRing, ring_refs, protecting_arc_indexes, assembled_sparing, greatest_rings, BuiltFeaturesHaveRings, LayersShapesStay, AreOn, IsOn, quantized, feature_pruned, object_pruned}
 use Rattle.build_meaning.specs.Layers.{Named, layers_of}
-use Rattle.build_meaning.specs.Objects.{feature_by}
-use Rattle.build_meaning.specs.Trimming.{is_used, keep_from, line_renumbered, renumbered, trimmed}
-use Rattle.build_meaning.proofs.Trimmed.{AllUsed, all_used}
-use Rattle.build_meaning.proofs.Whole.{each_stays, loses_nothing}
-use Rattle.elimination_meaning.specs.Laws.{NoneIsNew, ZeroLaw}
-use Rattle.geojson_types.specs.Features.{Featured}
-use Rattle.geometry.specs.Lists.{joined, map_some}
-use Rattle.geometry.specs.Points.{Point}
-use Rattle.geometry.specs.Pruning.{option_lines_and_rings}
-use Rattle.grid_snap.specs.Axes.{Axes, cell}
-use Rattle.guarded_meaning.specs.Laws.{ArcsRise, RingsStay}
-use Rattle.guarded_meaning.specs.Lists.{EachTo}
-use Rattle.linework.specs.Linework.{linework}
-use Rattle.owned_values.proofs.Elements.{all_of_map, all_two, all_weaker}
-use Rattle.topojson_types.specs.declared.feature.TopoFeature.{TopoFeature}
-use Rattle.topojson_types.specs.Topologies.{Contents}
-use Rattle.simplified_topology.specs.Assembled.{arcs_of_layers}
-use Rattle.simplified_topology.specs.Celled.{feature_celled, object_celled, celled, LiesBack}
-use Rattle.simplified_topology.specs.GridLaws.{all_features}
-use Rattle.simplified_topology.specs.GridTransforms.{transform_of}
-use Rattle.simplified_topology.specs.Guarded.{arc_positions}
-use Rattle.simplified_topology.specs.Protected.{greatest_ring, protected_of, protecting_contents}
-use Rattle.simplified_topology.specs.ProtectedLaws.{protecting_reduced, HasRing}
-use Rattle.simplified_topology.specs.ProtectedLayers.{ring_refs, protecting_arc_indexes, assembled_sparing}
-use Rattle.simplified_topology.specs.ProtectedLayersLaws.{greatest_rings, BuiltFeaturesHaveRings, LayersShapesStay}
-use Rattle.simplified_topology.specs.Quantized.{AreOn, IsOn, quantized}
-use Rattle.simplified_topology.specs.Simplified.{feature_pruned, object_pruned}
 use Rattle.simplified_topology.proofs.OnGrid.{all_lie, built_on}
 use Rattle.simplified_topology.proofs.Protected.{features_over, each_of_objects, shapes_stay}
 use Rattle.simplified_topology.proofs.ProtectedLayers.{IsWholeFeature, ring_of_layer, features_of_layers, each_layer, is_assembled}

@@ -1,19 +1,7 @@
 -- What holds of each cell and of each feature of a topology, of what is left of it.
 use Rattle.std.proofs.Common.{ℕ, Bool, List, [], ◌∷◌, map}
-use Rattle.std.specs.List.{AllByRecursion}
-use Rattle.build_meaning.specs.Trimming.{is_used, line_renumbered, trimmed}
-use Rattle.build_meaning.proofs.ValidTrimmed.{all_kept}
-use Rattle.geometry.specs.Points.{Point}
-use Rattle.owned_values.proofs.Elements.{all_append, all_left, all_right}
-use Rattle.topojson_types.specs.declared.feature.TopoFeature.{TopoFeature}
-use Rattle.topojson_types.specs.declared.object.TopoObject.{TopoObject}
-use Rattle.topojson_types.specs.declared.object.TopoObject.TheVariants.{One, Many}
-use Rattle.geometry.specs.Lists.{joined}
-use Rattle.topojson_types.specs.Decoding.{placed_arcs}
-use Rattle.topojson_types.specs.Topologies.{Contents, object_features}
+use Rattle.simplified_topology.proofs.Names.{AllByRecursion, all_append, all_left, all_right, joined, Point, placed_arcs, Contents, object_features, TopoFeature, TopoObject, One, Many, all_kept, is_used, line_renumbered, trimmed, EachCell, Refs, feature_pruned, object_pruned, objects_pruned, large_refs, retained_arcs, retained_whole, simplified_by}
 use Rattle.topojson_types.specs.Validity.{option_places, features_places, objects_places}
-use Rattle.simplified_topology.specs.Celled.{EachCell}
-use Rattle.simplified_topology.specs.Simplified.{Refs, feature_pruned, object_pruned, objects_pruned, large_refs, retained_arcs, retained_whole, simplified_by}
 use Rattle.simplified_topology.proofs.ValidPruned.{option_stay}
 use Rattle.simplified_topology.proofs.ValidRetained.{all_retained}
 

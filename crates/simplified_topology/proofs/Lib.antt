@@ -13,6 +13,7 @@ mod GuardedRows
 pub mod Kept
 pub mod KeptLabels
 pub mod Left
+pub mod Names
 pub mod Simplified
 pub mod Lying
 pub mod Made

@@ -1,15 +1,9 @@
 -- Cells of a grid, by its transform.
 use Rattle.std.proofs.Common.{◌≡◌, ℕ, ◌*◌, ◌≤◌, sym, ap, ◌∙◌, arith, ℤ, pos, unsigned_abs, subst}
 use Rattle.std.proofs.Math.Nat.{mul-le-mul_left}
-use Rattle.geometry.specs.Points.{Point, IsPosition}
+use Rattle.simplified_topology.proofs.Names.{Point, IsPosition, settled, covered_within, covered_parts, number_within, Axes, IsAxis, IsGrid, number, cell, snapped, Settles, Axis, place_on, transform_of}
 use Rattle.geometry.specs.Units.{position_limit}
-use Rattle.grid_snap.specs.declared.axis.Axis.{Axis}
-use Rattle.grid_snap.specs.Axes.{Axes, IsAxis, IsGrid, number, cell, snapped}
-use Rattle.grid_snap.specs.Laws.{Settles}
-use Rattle.grid_snap.proofs.Settled.{settled, covered_within, covered_parts, number_within}
-use Rattle.topojson_types.specs.Transforms.{place_on}
 use Rattle.topojson_types.proofs.ExactTexts.{units_are_numbers, stands_exactly}
-use Rattle.simplified_topology.specs.GridTransforms.{transform_of}
 use Rattle.simplified_topology.specs.TransformLaws.{HasTransform, CellsLieThere, CellsAreOnGrid}
 
 at_most_all : (step last : ℕ) → 1 ≤ last → step ≤ last * step

@@ -1,18 +1,7 @@
 -- Objects that are made of layers and then pruned are made of them at once.
 use Rattle.std.proofs.Common.{rules, arith, ◌≡◌, Bool, List, [], ◌∷◌, map, Option, None, Some, refl}
-use Rattle.std.specs.List.{AllByRecursion}
-use Rattle.geojson_types.specs.Features.{Shape, Featured}
-use Rattle.geometry.specs.Lists.{then_some}
-use Rattle.geometry.specs.Points.{Point}
-use Rattle.geometry.specs.Pruning.{prune, option_lines_and_rings}
-use Rattle.geometry.proofs.Agreement.{agreed}
-use Rattle.geometry.proofs.Composition.{composed}
-use Rattle.owned_values.proofs.Elements.{all_left, all_right}
-use Rattle.topojson_types.specs.declared.feature.TopoFeature.{TopoFeature}
-use Rattle.topojson_types.specs.Topologies.{TopoShape}
+use Rattle.simplified_topology.proofs.Names.{AllByRecursion, all_left, all_right, agreed, composed, then_some, Point, prune, option_lines_and_rings, Shape, Featured, TopoShape, TopoFeature, Kept, features_by, objects_by, Refs, feature_pruned, objects_pruned}
 use Rattle.build_meaning.specs.Layers.{Named, features_lines_and_rings, named_lines_and_rings}
-use Rattle.build_meaning.specs.Objects.{Kept, features_by, objects_by}
-use Rattle.simplified_topology.specs.Simplified.{Refs, feature_pruned, objects_pruned}
 
 module _ (kept : Kept) (next : Refs) (at_once : Kept) where
   abbrev pub Gets : Bool × List Point → Type 0

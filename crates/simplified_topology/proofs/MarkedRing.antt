@@ -1,17 +1,7 @@
 -- The ring of a marked shape that has a mark is the one at the end of the way.
 use Rattle.std.proofs.Common.{◌≡◌, ℕ, suc, Bool, true, false, List, [], ◌∷◌, map, Option, None, Some, ◌⊎◌, inl, inr, refl, sym, ap, ◌∙◌, subst, arith}
-use Rattle.std.specs.List.{AllByRecursion}
-use Rattle.geometry.specs.declared.shape.Geometry.{Geometry}
+use Rattle.simplified_topology.proofs.Names.{AllByRecursion, all_append, all_weaker, in_append, in_right, lines_and_rings_at, by_kinds, joined, In, Placed, inside_part, of_parts, lines_and_rings, Geometry, from_map, outer_ring, outer_rings, into_part, along, unmarked, rings_marked, marked}
 use Rattle.geometry.specs.declared.shape.Geometry.TheVariants as g
-use Rattle.geometry.specs.Lists.{joined, In}
-use Rattle.geometry.specs.Paths.{Placed, inside_part, of_parts}
-use Rattle.geometry.specs.Pruning.{lines_and_rings}
-use Rattle.geometry.proofs.Cases.{lines_and_rings_at}
-use Rattle.geometry.proofs.Induction.{by_kinds}
-use Rattle.junctions.proofs.Members.{from_map}
-use Rattle.owned_values.proofs.Elements.{all_append, all_weaker}
-use Rattle.owned_values.proofs.Members.{in_append, in_right}
-use Rattle.simplified_topology.specs.OuterRings.{outer_ring, outer_rings, into_part, along, unmarked, rings_marked, marked}
 use Rattle.simplified_topology.proofs.Greatest.{Split, split}
 use Rattle.simplified_topology.proofs.GreatestLeft.{greatest_of, way_of}
 use Rattle.simplified_topology.proofs.Marks.{outer_rings_at, marked_at, marked-line, marked-lines, marked-area, marked-areas, marked-group, tagged}

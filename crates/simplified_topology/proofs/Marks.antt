@@ -1,19 +1,7 @@
 -- Marked shapes: the equations by kind, their lines and rings, and what is made of them where none has a mark.
 use Rattle.std.proofs.Common.{◌≡◌, ℕ, suc, Bool, true, false, List, [], ◌∷◌, map, Option, None, Some, refl, sym, ap, ◌∙◌}
-use Rattle.std.proofs.lemmas.List.{map-append}
-use Rattle.std.proofs.lemmas.Simd.{map-map}
-use Rattle.std.specs.List.{AllByRecursion}
-use Rattle.geometry.specs.declared.address.Cause.{Cause}
-use Rattle.geometry.specs.declared.shape.Geometry.{Geometry}
+use Rattle.simplified_topology.proofs.Names.{map-append, map-map, AllByRecursion, AtKinds, at_kinds, prune_at, prune-group, lines_and_rings_at, drop_causes_at, by_kinds, here, inner_cause, area_drop_causes, drop_causes, map_some, with_some, some_of, unless_empty, joined, of_parts, area_by, prune, lines_and_rings, Cause, Geometry, outer_rings_step, outer_rings, into_part, along, unmarked, rings_marked, marked_step, marked}
 use Rattle.geometry.specs.declared.shape.Geometry.TheVariants as g
-use Rattle.geometry.specs.DropCauses.{here, inner_cause, area_drop_causes, drop_causes}
-use Rattle.geometry.specs.Lists.{map_some, with_some, some_of, unless_empty, joined}
-use Rattle.geometry.specs.Paths.{of_parts}
-use Rattle.geometry.specs.Pruning.{area_by, prune, lines_and_rings}
-use Rattle.geometry.proofs.ByKind.{AtKinds, at_kinds}
-use Rattle.geometry.proofs.Cases.{prune_at, prune-group, lines_and_rings_at, drop_causes_at}
-use Rattle.geometry.proofs.Induction.{by_kinds}
-use Rattle.simplified_topology.specs.OuterRings.{outer_rings_step, outer_rings, into_part, along, unmarked, rings_marked, marked_step, marked}
 
 -- ---- the equations by kind
 

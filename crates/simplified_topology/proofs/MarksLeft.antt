@@ -1,11 +1,7 @@
 -- What is left of a marked shape is what is left of the shape, marked: its outer rings are those that are kept, in the same order, and each
 -- has a way of its own.
 use Rattle.std.proofs.Common.{arith, ◌≡◌, ◌==◌, ◌≤◌, ℕ, suc, false, List, [], ◌∷◌, ◌++◌, map, Option, None, Some, cond, refl, sym, ap, ◌∙◌}
-use Rattle.std.proofs.lemmas.Bool.Decides.{nat_tests}
-use Rattle.std.specs.List.{AllByRecursion}
-use Rattle.geometry.specs.Lists.{map_some, with_some, some_of}
-use Rattle.geometry.specs.Paths.{Placed, inside_part, of_parts}
-use Rattle.simplified_topology.specs.OuterRings.{into_part, along}
+use Rattle.simplified_topology.proofs.Names.{nat_tests, AllByRecursion, map_some, with_some, some_of, Placed, inside_part, of_parts, into_part, along}
 use Rattle.simplified_topology.proofs.RingKept.{into_here}
 
 -- ---- which rings are kept

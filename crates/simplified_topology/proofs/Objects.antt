@@ -1,19 +1,6 @@
 -- Objects that are pruned twice, and the lines and rings of pruned objects.
 use Rattle.std.proofs.Common.{rules, arith, ◌≡◌, ℕ, ℤ, Bool, List, [], ◌∷◌, map, Option, None, Some, refl, subst}
-use Rattle.std.proofs.lemmas.List.{map-append}
-use Rattle.std.specs.List.{AllByRecursion}
-use Rattle.geometry.specs.Lists.{then_some}
-use Rattle.geometry.specs.Points.{Point}
-use Rattle.geometry.specs.Pruning.{prune, option_lines_and_rings}
-use Rattle.geometry.proofs.Agreement.{agreed}
-use Rattle.geometry.proofs.Composition.{composed}
-use Rattle.topojson_types.specs.declared.feature.TopoFeature.{TopoFeature}
-use Rattle.topojson_types.specs.declared.object.TopoObject.{TopoObject}
-use Rattle.topojson_types.specs.declared.object.TopoObject.TheVariants.{One, Many}
-use Rattle.topojson_types.specs.Topologies.{TopoShape, object_features, features_lines_and_rings, objects_lines_and_rings}
-use Rattle.owned_values.proofs.Elements.{all_left, all_right, all_weaker}
-use Rattle.simplified_topology.specs.Simplified.{Refs, feature_pruned, object_pruned, objects_pruned}
-use Rattle.simplified_topology.specs.Protected.{no_protection}
+use Rattle.simplified_topology.proofs.Names.{map-append, AllByRecursion, all_left, all_right, all_weaker, agreed, composed, then_some, Point, prune, option_lines_and_rings, TopoShape, object_features, features_lines_and_rings, objects_lines_and_rings, TopoFeature, TopoObject, One, Many, no_protection, Refs, feature_pruned, object_pruned, objects_pruned}
 use Rattle.simplified_topology.proofs.Spared.{by_refs, objects_plain}
 use Rattle.simplified_topology.proofs.Spared as spared
 use Rattle.simplified_topology.proofs.Replaced.{lines_and_rings_replaced}

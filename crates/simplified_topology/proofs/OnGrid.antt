@@ -1,22 +1,11 @@
 -- Topologies whose positions lie on a grid, put on that grid.
 use Rattle.std.proofs.Common.{rules, arith, List, None, Some, refl}
-use Rattle.std.specs.List.{AllByRecursion}
-use Rattle.build_meaning.specs.Laws.{DecodesBack, IsValid}
-use Rattle.elimination_meaning.specs.Laws.{NoneIsNew}
-use Rattle.geometry.specs.Points.{Point}
-use Rattle.grid_snap.specs.Axes.{Axes, IsGrid, cell}
-use Rattle.simplified_topology.specs.GridTransforms.{transform_of}
+use Rattle.simplified_topology.proofs.Names.{AllByRecursion, all_weaker, Point, Axes, IsGrid, cell, Contents, NoneIsNew, DecodesBack, IsValid, LiesBack, IsOnGrid, EachCell, QuantizedIsValid, QuantizedDecodes, BuiltCellsAreOn, BuiltIsValidQuantized, BuiltDecodesQuantized, SimplifiesQuantized, transform_of, BuiltIsValidOnGrid, DecodesBackOnGrid, SimplifiesToBuilt, SimplifiesToBuiltOnGrid, IsOn, named_points}
 use Rattle.simplified_topology.proofs.Lying.{has_transform, lie_there, on_grid}
-use Rattle.simplified_topology.specs.Celled.{LiesBack, IsOnGrid, EachCell}
-use Rattle.simplified_topology.specs.Laws.{BuiltIsValidOnGrid, DecodesBackOnGrid, SimplifiesToBuilt, SimplifiesToBuiltOnGrid}
 use Rattle.simplified_topology.proofs.BuiltCells.{built_cells}
 use Rattle.simplified_topology.proofs.CelledDecoding.{celled_decodes}
 use Rattle.simplified_topology.proofs.ValidCelled.{celled_is_valid}
-use Rattle.owned_values.proofs.Elements.{all_weaker}
-use Rattle.topojson_types.specs.Topologies.{Contents}
 use Rattle.topojson_types.specs.Validity.{objects_places}
-use Rattle.simplified_topology.specs.Quantized.{IsOn, named_points}
-use Rattle.simplified_topology.specs.GridLaws.{QuantizedIsValid, QuantizedDecodes, BuiltCellsAreOn, BuiltIsValidQuantized, BuiltDecodesQuantized, SimplifiesQuantized}
 
 -- ---- cells of positions on the grid
 

@@ -1,40 +1,8 @@
 -- Topologies in which rings are protected: where none is, which arcs are left, and that each protected ring is left.
 use Rattle.std.proofs.Common.{arith, ◌≡◌, ℕ, ◌-◌, ◌≤◌, ℤ, Bool, true, not, List, [], ◌∷◌, map, length, Option, None, Some, inl, refl, sym, ap, ◌∙◌, subst}
-use Rattle.std.proofs.lemmas.List.{map-append}
-use Rattle.std.proofs.lemmas.Simd.{map-map}
-use Rattle.std.specs.List.{AllByRecursion}
-use Rattle.build_meaning.specs.Built.{positions_of}
-use Rattle.build_meaning.specs.Trimming.{is_used, keep_from, renumbered, line_renumbered, feature_renumbered, object_renumbered, trimmed}
-use Rattle.build_meaning.proofs.Trimmed.{AllUsed, all_renumbered, all_used}
-use Rattle.elimination_meaning.specs.Sublists.{Sublist}
-use Rattle.geometry.specs.DropCauses.{dropped_of_layers}
-use Rattle.geometry.specs.Joins.{arc_at, stitched}
-use Rattle.geometry.specs.Lists.{joined, map_some, then_some, with_some, some_of, In}
-use Rattle.geometry.specs.Paths.{Placed}
-use Rattle.geometry.specs.Points.{Point}
-use Rattle.geometry.specs.Pruning.{prune, lines_and_rings, option_lines_and_rings}
-use Rattle.geometry.proofs.Composition.{composed}
-use Rattle.guarded_meaning.specs.Elimination.{reduce_arcs, reduced_arcs}
-use Rattle.guarded_meaning.specs.Guards.{is_long, guarded_by}
-use Rattle.guarded_meaning.specs.Laws.{ArcsRise, CrossingsNeverRise, FewerArcsLaw, NoneStaysNone, RingsStay}
-use Rattle.guarded_meaning.specs.Lists.{EachTo}
-use Rattle.junctions.specs.Cleaning.{clean, is_short}
-use Rattle.owned_values.proofs.Elements.{all_append, all_left, all_right, all_of_map, all_two, all_weaker, each_of}
-use Rattle.owned_values.proofs.Members.{in_right}
-use Rattle.topojson_types.specs.declared.feature.TopoFeature.{TopoFeature}
-use Rattle.topojson_types.specs.declared.object.TopoObject.{TopoObject}
-use Rattle.topojson_types.specs.declared.object.TopoObject.TheVariants.{One, Many}
-use Rattle.topojson_types.specs.Decoding.{placed_arcs}
-use Rattle.topojson_types.specs.Topologies.{TopoShape, Contents, object_features, features_lines_and_rings, objects_lines_and_rings}
+use Rattle.simplified_topology.proofs.Names.{map-append, map-map, AllByRecursion, all_append, all_left, all_right, all_of_map, all_two, all_weaker, each_of, in_right, composed, dropped_of_layers, arc_at, stitched, joined, map_some, then_some, with_some, some_of, In, Placed, Point, prune, lines_and_rings, option_lines_and_rings, clean, is_short, placed_arcs, TopoShape, Contents, object_features, features_lines_and_rings, objects_lines_and_rings, TopoFeature, TopoObject, One, Many, Sublist, reduce_arcs, reduced_arcs, is_long, guarded_by, ArcsRise, CrossingsNeverRise, FewerArcsLaw, NoneStaysNone, RingsStay, EachTo, AllUsed, all_renumbered, all_used, positions_of, is_used, keep_from, renumbered, line_renumbered, feature_renumbered}
+use Rattle.simplified_topology.proofs.Names.{object_renumbered, trimmed, all_features, arc_positions, crossings_of, guarded_indexes, guarded_contents, guarded_dropped, guarded_removed_count, GuardedArcsAreReduced, GuardedIndexesReach, GuardedIsValid, GuardedKeeps, GuardedCrossingsNeverRise, GuardedNoneStaysNone, labels, outer_rings, marked, Protection, no_protection, greatest_ring, protected_of, protected_rings, cause_sparing, sparing, MarkedRefs, shape_marked, feature_spared, object_spared, spared_whole, spared_by, option_unprotected, spared_dropped, spared_removed_count, protecting_indexes, protecting_contents, protecting_dropped, protecting_removed_count, UnprotectedIsSimplified, UnprotectedIsGuarded, ProtectingIndexesReach, ProtectingIsValid, ProtectingKeeps, protecting_reduced, ProtectingArcsAreReduced, ProtectingCrossingsNeverRise, ProtectingNoneStaysNone, HasRing, ShapesStay, small_cause, large_refs, option_small, retained_arcs, simplified_by, dropped_by, removed_count_by, EachFromFirstToLast, retained_whole}
 use Rattle.topojson_types.specs.Validity.{IsArc, IsTopology}
-use Rattle.simplified_topology.specs.GridLaws.{all_features}
-use Rattle.simplified_topology.specs.Guarded.{arc_positions, crossings_of, guarded_indexes, guarded_contents, guarded_dropped, guarded_removed_count}
-use Rattle.simplified_topology.specs.GuardedLaws.{GuardedArcsAreReduced, GuardedIndexesReach, GuardedIsValid, GuardedKeeps, GuardedCrossingsNeverRise, GuardedNoneStaysNone}
-use Rattle.simplified_topology.specs.Laws.{labels}
-use Rattle.simplified_topology.specs.OuterRings.{outer_rings, marked}
-use Rattle.simplified_topology.specs.Protected.{Protection, no_protection, greatest_ring, protected_of, protected_rings, cause_sparing, sparing, MarkedRefs, shape_marked, feature_spared, object_spared, spared_whole, spared_by, option_unprotected, spared_dropped, spared_removed_count, protecting_indexes, protecting_contents, protecting_dropped, protecting_removed_count}
-use Rattle.simplified_topology.specs.ProtectedLaws.{UnprotectedIsSimplified, UnprotectedIsGuarded, ProtectingIndexesReach, ProtectingIsValid, ProtectingKeeps, protecting_reduced, ProtectingArcsAreReduced, ProtectingCrossingsNeverRise, ProtectingNoneStaysNone, HasRing, ShapesStay}
-use Rattle.simplified_topology.specs.Simplified.{small_cause, large_refs, option_small, retained_arcs, simplified_by, dropped_by, removed_count_by, EachFromFirstToLast, retained_whole}
 use Rattle.simplified_topology.proofs.Again.{all_hold}
 use Rattle.simplified_topology.proofs.Greatest.{greatest_is}
 use Rattle.simplified_topology.proofs.Guarded.{retained_are_reduced, placed_retained, placed_left, placed_through, sub_left}

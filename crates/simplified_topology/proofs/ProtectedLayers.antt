@@ -1,45 +1,9 @@
 -- What is built of layers at zero and then reduced at once, where of each feature the ring that encloses most is protected, is what is
 -- assembled of them.
 use Rattle.std.proofs.Common.{arith, ◌≡◌, ℕ, ◌≤◌, ℤ, Bool, true, false, cond, List, [], ◌∷◌, ◌++◌, map, length, Option, None, Some, refl, sym, ap, ◌∙◌, subst}
-use Rattle.std.proofs.lemmas.List.{map-append}
-use Rattle.std.specs.List.{AllByRecursion}
-use Rattle.build_meaning.specs.Built.{kept_refs, untrimmed, built}
-use Rattle.build_meaning.specs.Expected.{unless}
-use Rattle.build_meaning.specs.Laws.{AreSound}
+use Rattle.simplified_topology.proofs.Names.{map-append, AllByRecursion, all_append, all_left, all_right, all_two, all_weaker, agreed, joined, map_some, then_some, some_of, Point, prune, lines_and_rings, option_lines_and_rings, Collapsed, Shape, Featured, clean, is_short, Stroke, linework, TopoShape, Contents, object_features, TopoFeature, TopoObject, Many, sub_all, EndsStay, NoneIsNew, ZeroLaw, reduce_arcs, is_long, guarded_by, ArcsRise, Line, untrimmed_is_valid, each_stays, loses_nothing, kept_refs, untrimmed, built, unless, AreSound, feature_by, features_by, objects_by}
+use Rattle.simplified_topology.proofs.Names.{is_used, keep_from, renumbered, trimmed, arcs_of_layers, own_refs, EachCell, arc_positions, spread, marked, enclosed, greatest_ring, protected_of, protected_rings, MarkedRefs, sparing, shape_marked, feature_spared, objects_spared, spared_by, spared_removed_count, protecting_indexes, protecting_contents, protecting_removed_count, drafted_refs, greatest_of_layers, ring_refs, layers_rings, layer_shape_marked, protecting_arc_indexes, unprotected_refs, feature_sparing, assembled_sparing, assembled_sparing_removed_count, greatest_rings, SparingIsOfLayers, BuiltRingsAreOfLayers, ProtectingArcIndexesAreOfLayers, ProtectingIsAssembled, ProtectingArcIndexesReach, AssembledSparingIsValid, AssembledSparingIsOn, IsOn, named_points, quantized, small_cause, large_refs, retained_arcs, EachFromFirstToLast}
 use Rattle.build_meaning.specs.Layers.{Named, layers_of, features_lines_and_rings, named_lines_and_rings}
-use Rattle.build_meaning.specs.Objects.{feature_by, features_by, objects_by}
-use Rattle.build_meaning.specs.Trimming.{is_used, keep_from, renumbered, trimmed}
-use Rattle.build_meaning.proofs.Linework.{Line}
-use Rattle.build_meaning.proofs.ValidUntrimmed.{untrimmed_is_valid}
-use Rattle.build_meaning.proofs.Whole.{each_stays, loses_nothing}
-use Rattle.elimination_meaning.specs.Laws.{EndsStay, NoneIsNew, ZeroLaw}
-use Rattle.elimination_meaning.proofs.Sublists.{sub_all}
-use Rattle.geojson_types.specs.Features.{Shape, Featured}
-use Rattle.geometry.specs.declared.address.Cause.TheVariants.{Collapsed}
-use Rattle.geometry.specs.Lists.{joined, map_some, then_some, some_of}
-use Rattle.geometry.specs.Points.{Point}
-use Rattle.geometry.specs.Pruning.{prune, lines_and_rings, option_lines_and_rings}
-use Rattle.geometry.proofs.Agreement.{agreed}
-use Rattle.guarded_meaning.specs.Elimination.{reduce_arcs}
-use Rattle.guarded_meaning.specs.Guards.{is_long, guarded_by}
-use Rattle.guarded_meaning.specs.Laws.{ArcsRise}
-use Rattle.junctions.specs.Cleaning.{clean, is_short}
-use Rattle.junctions.specs.declared.stroke.Stroke.{Stroke}
-use Rattle.linework.specs.Linework.{linework}
-use Rattle.owned_values.proofs.Elements.{all_append, all_left, all_right, all_two, all_weaker}
-use Rattle.topojson_types.specs.declared.feature.TopoFeature.{TopoFeature}
-use Rattle.topojson_types.specs.declared.object.TopoObject.{TopoObject}
-use Rattle.topojson_types.specs.declared.object.TopoObject.TheVariants.{Many}
-use Rattle.topojson_types.specs.Topologies.{TopoShape, Contents, object_features}
-use Rattle.simplified_topology.specs.Assembled.{arcs_of_layers, own_refs}
-use Rattle.simplified_topology.specs.Celled.{EachCell}
-use Rattle.simplified_topology.specs.Guarded.{arc_positions, spread}
-use Rattle.simplified_topology.specs.OuterRings.{marked}
-use Rattle.simplified_topology.specs.Protected.{enclosed, greatest_ring, protected_of, protected_rings, MarkedRefs, sparing, shape_marked, feature_spared, objects_spared, spared_by, spared_removed_count, protecting_indexes, protecting_contents, protecting_removed_count}
-use Rattle.simplified_topology.specs.ProtectedLayers.{drafted_refs, greatest_of_layers, ring_refs, layers_rings, layer_shape_marked, protecting_arc_indexes, unprotected_refs, feature_sparing, assembled_sparing, assembled_sparing_removed_count}
-use Rattle.simplified_topology.specs.ProtectedLayersLaws.{greatest_rings, SparingIsOfLayers, BuiltRingsAreOfLayers, ProtectingArcIndexesAreOfLayers, ProtectingIsAssembled, ProtectingArcIndexesReach, AssembledSparingIsValid, AssembledSparingIsOn}
-use Rattle.simplified_topology.specs.Quantized.{IsOn, named_points, quantized}
-use Rattle.simplified_topology.specs.Simplified.{small_cause, large_refs, retained_arcs, EachFromFirstToLast}
 use Rattle.simplified_topology.proofs.GreatestLeft.{way_of, ring_in, RingAgrees, ring_left, spared_left}
 use Rattle.simplified_topology.proofs.Guarded.{each_through, sub_left}
 use Rattle.simplified_topology.proofs.GuardedLayers.{spread_through, layers_long, built_arcs, built_positions}

@@ -1,26 +1,10 @@
 -- Worked rows of layers in which of each feature the ring that encloses most is protected, computed from the definitions. The fold of a shape
 -- is opened by its kind.
 use Rattle.std.proofs.Common.{◌≡◌, ℕ, ◌+◌, pos, Bool, true, false, List, [], ◌∷◌, map, Option, None, Some, refl, ap, ◌∙◌}
-use Rattle.geojson_types.specs.Features.{Shape}
-use Rattle.geometry.specs.Areas.{shoelace}
-use Rattle.geometry.specs.declared.address.Cause.{Cause}
-use Rattle.geometry.specs.declared.address.Cause.TheVariants.{Collapsed, Small, Outer}
+use Rattle.simplified_topology.proofs.Names.{drop_causes-areas, shoelace, area_drop_causes, drop_causes, dropped_of_layers, map_some, with_some, Placed, of_parts, Point, same, Cause, Collapsed, Small, Outer, Shape, Stroke, placed_lines_and_rings_at, linework, all_arcs, marked, drafted_refs, greatest_of_layers, layers_rings, unprotected_cause, unprotected_cause_by, assembled_sparing_dropped, retained_arcs}
 use Rattle.geometry.specs.declared.address.Dropped.{Dropped}
 use Rattle.geometry.specs.declared.shape.Geometry.TheVariants as g
-use Rattle.geometry.specs.DropCauses.{area_drop_causes, drop_causes, dropped_of_layers}
-use Rattle.geometry.specs.Lists.{map_some, with_some}
-use Rattle.geometry.specs.Paths.{Placed, of_parts}
-use Rattle.geometry.specs.Points.{Point}
-use Rattle.geometry.specs.Rings.{same}
-use Rattle.geometry.proofs.Cases.{drop_causes-areas}
-use Rattle.junctions.specs.declared.stroke.Stroke.{Stroke}
-use Rattle.linework.specs.Linework.{linework}
-use Rattle.linework.proofs.Placing.{placed_lines_and_rings_at}
-use Rattle.build_meaning.specs.Built.{all_arcs}
 use Rattle.build_meaning.specs.Layers.{Named, layers_of}
-use Rattle.simplified_topology.specs.OuterRings.{marked}
-use Rattle.simplified_topology.specs.ProtectedLayers.{drafted_refs, greatest_of_layers, layers_rings, unprotected_cause, unprotected_cause_by, assembled_sparing_dropped}
-use Rattle.simplified_topology.specs.Simplified.{retained_arcs}
 use Rattle.simplified_topology.proofs.Marks.{outer_rings_at, marked-areas}
 
 abbrev at : ℕ → ℕ → Point

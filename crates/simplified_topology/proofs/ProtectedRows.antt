@@ -1,23 +1,8 @@
 -- Worked rows of topologies in which rings are protected, in whole units, computed from the definitions. The fold of a shape is opened by
 -- its kind.
 use Rattle.std.proofs.Common.{◌≡◌, ℕ, ◌+◌, ℤ, pos, negsuc, true, false, List, [], ◌∷◌, None, Some, refl, ap, ◌∙◌}
-use Rattle.geometry.specs.Areas.{cross, twice_area, shoelace}
-use Rattle.geometry.specs.declared.address.Cause.TheVariants.{Small}
+use Rattle.simplified_topology.proofs.Names.{drop_causes-area, drop_causes-areas, cross, twice_area, shoelace, number_of, Placed, Point, same, Small, TopoShape, Contents, TopoFeature, TopoObject, Many, reduce_arcs, goes_before, keeps_rings, guarded_by, outer_rings, marked, greatest_ring, protected_rings, protecting_indexes, sparing, objects_spared, spared_dropped, large_refs}
 use Rattle.geometry.specs.declared.shape.Geometry.TheVariants as g
-use Rattle.geometry.specs.Joins.{number_of}
-use Rattle.geometry.specs.Paths.{Placed}
-use Rattle.geometry.specs.Points.{Point}
-use Rattle.geometry.specs.Rings.{same}
-use Rattle.geometry.proofs.Cases.{drop_causes-area, drop_causes-areas}
-use Rattle.guarded_meaning.specs.Elimination.{reduce_arcs, goes_before}
-use Rattle.guarded_meaning.specs.Guards.{keeps_rings, guarded_by}
-use Rattle.topojson_types.specs.declared.feature.TopoFeature.{TopoFeature}
-use Rattle.topojson_types.specs.declared.object.TopoObject.{TopoObject}
-use Rattle.topojson_types.specs.declared.object.TopoObject.TheVariants.{Many}
-use Rattle.topojson_types.specs.Topologies.{TopoShape, Contents}
-use Rattle.simplified_topology.specs.OuterRings.{outer_rings, marked}
-use Rattle.simplified_topology.specs.Protected.{greatest_ring, protected_rings, protecting_indexes, sparing, objects_spared, spared_dropped}
-use Rattle.simplified_topology.specs.Simplified.{large_refs}
 use Rattle.simplified_topology.proofs.Assembled.{contents}
 use Rattle.simplified_topology.proofs.Marks.{outer_rings_at, marked-line, marked-area, marked-areas, marked-group, left-area, left-areas}
 

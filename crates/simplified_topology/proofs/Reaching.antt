@@ -1,17 +1,8 @@
 -- The indexes that reduction leaves of an arc reach from its first cell to its last, so a topology that is reduced is valid.
 use Rattle.std.proofs.Common.{◌≡◌, ℕ, suc, ◌+◌, ◌-◌, ◌≤◌, List, [], ◌∷◌, ◌++◌, map, length, Option, Some, refl, sym, ap, ◌∙◌, subst, arith}
-use Rattle.std.specs.List.{AllByRecursion}
-use Rattle.std.proofs.lemmas.List.{length-append, length-map}
-use Rattle.elimination_meaning.specs.Elimination.{reduce}
+use Rattle.simplified_topology.proofs.Names.{length-append, length-map, AllByRecursion, all_weaker, Point, Transform, reduce, last_end, split_last, IndexesReach, ReducedIsValid, FromFirstToLast, EachFromFirstToLast, placed_cells, reduced_indexes, simplified_contents}
 use Rattle.elimination_meaning.proofs.Ends.{index_ends_stay}
-use Rattle.geometry.specs.Points.{Point}
-use Rattle.owned_values.proofs.Elements.{all_weaker}
-use Rattle.topojson_types.specs.declared.transform.Transform.{Transform}
 use Rattle.topojson_types.specs.Validity.{IsArc}
-use Rattle.build_meaning.proofs.ValidEnds.{last_end, split_last}
-use Rattle.simplified_topology.specs.Laws.{IndexesReach, ReducedIsValid}
-use Rattle.simplified_topology.specs.Simplified.{FromFirstToLast, EachFromFirstToLast}
-use Rattle.simplified_topology.specs.Thresholds.{placed_cells, reduced_indexes, simplified_contents}
 use Rattle.simplified_topology.proofs.Valid.{simplified_is_valid}
 
 placed_length : (transform : Option Transform) (cells : List Point) → length (placed_cells transform cells) ≡ length cells

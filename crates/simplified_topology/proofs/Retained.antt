@@ -1,19 +1,7 @@
 -- The positions that are retained by the indexes that reduction leaves are the reduced line.
 use Rattle.std.proofs.Common.{◌≡◌, ℕ, suc, Bool, ◌+◌, List, [], ◌∷◌, map, length, Some, refl, ap, ◌∙◌, arith}
-use Rattle.std.specs.List.{AllByRecursion}
-use Rattle.elimination_meaning.specs.Elimination.{Vertex, numbered, remaining, reduce, reduced}
-use Rattle.elimination_meaning.specs.Laws.{ZeroLaw}
+use Rattle.simplified_topology.proofs.Names.{AllByRecursion, all_parts, all_map, all_of_map, all_two, all_weaker, map_agree, at, with_some, Point, sub_all, Vertex, numbered, remaining, reduce, reduced, ZeroLaw, kept_of_map, keep_from, RetainedIsReduced, retained, retained_arcs}
 use Rattle.elimination_meaning.proofs.Steps.{eliminate_sub}
-use Rattle.elimination_meaning.proofs.Sublists.{sub_all}
-use Rattle.geometry.specs.Lists.{with_some}
-use Rattle.geometry.specs.Points.{Point}
-use Rattle.geometry.specs.Joins.{at}
-use Rattle.build_meaning.specs.Trimming.{keep_from}
-use Rattle.build_meaning.proofs.Trimmed.{kept_of_map}
-use Rattle.simplified_topology.specs.Laws.{RetainedIsReduced}
-use Rattle.simplified_topology.specs.Simplified.{retained, retained_arcs}
-use Rattle.owned_values.proofs.Elements.{all_parts, all_map, all_of_map, all_two, all_weaker}
-use Rattle.owned_values.proofs.Lists.{map_agree}
 
 -- the vertex stands in the line at its index
 abbrev pub Stands : List Point → Vertex → Type 0

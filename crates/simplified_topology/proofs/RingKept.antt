@@ -1,18 +1,7 @@
 -- A ring that has a mark is among the outer rings of what is left of the shape, where what is given for a marked ring is made of it.
 use Rattle.std.proofs.Common.{arith, ◌≡◌, ◌==◌, ℕ, suc, Bool, true, false, List, [], ◌∷◌, map, Option, None, Some, cond, ◌⊎◌, inl, inr, refl, sym, ap, ◌∙◌, subst}
-use Rattle.std.proofs.lemmas.Bool.Decides.{nat_tests}
-use Rattle.std.proofs.lemmas.List.{map-append}
-use Rattle.std.specs.List.{AllByRecursion}
-use Rattle.geometry.specs.declared.shape.Geometry.{Geometry}
+use Rattle.simplified_topology.proofs.Names.{nat_tests, map-append, AllByRecursion, in_left, in_right, in_append, lines_and_rings_at, by_kinds, map_some, with_some, some_of, unless_empty, joined, In, Placed, inside_part, of_parts, area_by, prune, lines_and_rings, Geometry, from_map, outer_ring, outer_rings, into_part, along, rings_marked, marked}
 use Rattle.geometry.specs.declared.shape.Geometry.TheVariants as g
-use Rattle.geometry.specs.Lists.{map_some, with_some, some_of, unless_empty, joined, In}
-use Rattle.geometry.specs.Paths.{Placed, inside_part, of_parts}
-use Rattle.geometry.specs.Pruning.{area_by, prune, lines_and_rings}
-use Rattle.geometry.proofs.Cases.{lines_and_rings_at}
-use Rattle.geometry.proofs.Induction.{by_kinds}
-use Rattle.junctions.proofs.Members.{from_map}
-use Rattle.owned_values.proofs.Members.{in_left, in_right, in_append}
-use Rattle.simplified_topology.specs.OuterRings.{outer_ring, outer_rings, into_part, along, rings_marked, marked}
 use Rattle.simplified_topology.proofs.Marks.{outer_rings_at, left-area, left-areas, left-group}
 
 -- ---- lists

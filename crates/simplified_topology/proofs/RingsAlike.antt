@@ -1,30 +1,7 @@
 -- The protected rings of a topology, and what is left where they are, before arcs are left out or cells are put in place of positions and
 -- after.
 use Rattle.std.proofs.Common.{◌≡◌, ℕ, ℤ, Bool, true, false, not, List, [], ◌∷◌, map, Option, None, Some, refl, sym, ap, ◌∙◌, subst}
-use Rattle.std.proofs.lemmas.Simd.{map-map}
-use Rattle.std.specs.List.{AllByRecursion}
-use Rattle.build_meaning.specs.Trimming.{keep_from, renumbered, line_renumbered}
-use Rattle.build_meaning.proofs.Trimmed.{AllUsed, all_renumbered}
-use Rattle.geometry.specs.declared.shape.Geometry.{Geometry}
-use Rattle.geometry.specs.Areas.{twice_ring_area}
-use Rattle.geometry.specs.Joins.{stitched}
-use Rattle.geometry.specs.Lists.{map_some, then_some, with_some, some_of, joined}
-use Rattle.geometry.specs.Paths.{Placed}
-use Rattle.geometry.specs.Points.{Point}
-use Rattle.geometry.specs.Pruning.{prune, lines_and_rings, option_lines_and_rings}
-use Rattle.geometry.proofs.Agreement.{agreed}
-use Rattle.geometry.proofs.Composition.{composed}
-use Rattle.guarded_meaning.specs.Guards.{is_long}
-use Rattle.junctions.specs.Cleaning.{clean, is_short}
-use Rattle.owned_values.proofs.Elements.{all_left, all_right, all_of_map, all_weaker}
-use Rattle.topojson_types.specs.declared.feature.TopoFeature.{TopoFeature}
-use Rattle.topojson_types.specs.declared.object.TopoObject.{TopoObject}
-use Rattle.topojson_types.specs.declared.object.TopoObject.TheVariants.{One, Many}
-use Rattle.topojson_types.specs.Topologies.{TopoShape, object_features, features_lines_and_rings, objects_lines_and_rings}
-use Rattle.simplified_topology.specs.Celled.{feature_celled, object_celled, objects_celled}
-use Rattle.simplified_topology.specs.OuterRings.{marked}
-use Rattle.simplified_topology.specs.Protected.{enclosed, greatest_ring, protected_of, protected_rings, MarkedRefs, sparing, shape_marked, feature_spared, object_spared, objects_spared}
-use Rattle.simplified_topology.specs.Simplified.{Refs, large_refs, feature_pruned, object_pruned, objects_pruned}
+use Rattle.simplified_topology.proofs.Names.{map-map, AllByRecursion, all_left, all_right, all_of_map, all_weaker, agreed, composed, twice_ring_area, stitched, map_some, then_some, with_some, some_of, joined, Placed, Point, prune, lines_and_rings, option_lines_and_rings, Geometry, clean, is_short, TopoShape, object_features, features_lines_and_rings, objects_lines_and_rings, TopoFeature, TopoObject, One, Many, is_long, AllUsed, all_renumbered, keep_from, renumbered, line_renumbered, feature_celled, object_celled, objects_celled, marked, enclosed, greatest_ring, protected_of, protected_rings, MarkedRefs, sparing, shape_marked, feature_spared, object_spared, objects_spared, Refs, large_refs, feature_pruned, object_pruned, objects_pruned}
 use Rattle.simplified_topology.proofs.Again.{all_hold}
 use Rattle.simplified_topology.proofs.GreatestLeft.{way_of, ring_in, RingAgrees, ring_left, spared_left}
 use Rattle.simplified_topology.proofs.Protected.{features_over, each_of_objects}

@@ -1,24 +1,7 @@
 -- Worked rows of topologies whose arcs are reduced, computed from the definitions. The fold of a shape is opened by its kind.
 use Rattle.std.proofs.Common.{◌≡◌, ◌==◌, ℕ, ◌-◌, ℤ, pos, negsuc, Bool, true, false, List, [], ◌∷◌, Option, None, Some, refl, ap, ◌∙◌}
-use Rattle.std.specs.List.{list_any}
-use Rattle.elimination_meaning.specs.Elimination.{is_before, reduce}
-use Rattle.geometry.specs.Areas.{cross, twice_area, shoelace}
-use Rattle.geometry.specs.declared.address.Cause.TheVariants.{Small, Outer}
+use Rattle.simplified_topology.proofs.Names.{list_any, prune-line, prune-area, lines_and_rings-line, lines_and_rings-area, drop_causes-area, drop_causes-line, cross, twice_area, shoelace, drop_causes, number_of, Point, prune, same, Small, Outer, TopoShape, Contents, objects_lines_and_rings, TopoFeature, TopoObject, One, Many, is_before, reduce, positions_of, is_used, keep_from, line_renumbered, trimmed, retained_arcs, small_cause, large_refs, retained_whole, simplified_by, dropped_by, removed_count_by, reduced_indexes, simplified_contents, simplified_dropped, simplified_removed_count}
 use Rattle.geometry.specs.declared.shape.Geometry.TheVariants as g
-use Rattle.geometry.specs.DropCauses.{drop_causes}
-use Rattle.geometry.specs.Points.{Point}
-use Rattle.geometry.specs.Pruning.{prune}
-use Rattle.geometry.specs.Rings.{same}
-use Rattle.geometry.proofs.Cases.{prune-line, prune-area, lines_and_rings-line, lines_and_rings-area, drop_causes-area, drop_causes-line}
-use Rattle.topojson_types.specs.declared.feature.TopoFeature.{TopoFeature}
-use Rattle.topojson_types.specs.declared.object.TopoObject.{TopoObject}
-use Rattle.topojson_types.specs.declared.object.TopoObject.TheVariants.{One, Many}
-use Rattle.geometry.specs.Joins.{number_of}
-use Rattle.topojson_types.specs.Topologies.{TopoShape, Contents, objects_lines_and_rings}
-use Rattle.build_meaning.specs.Built.{positions_of}
-use Rattle.build_meaning.specs.Trimming.{is_used, keep_from, line_renumbered, trimmed}
-use Rattle.simplified_topology.specs.Simplified.{retained_arcs, small_cause, large_refs, retained_whole, simplified_by, dropped_by, removed_count_by}
-use Rattle.simplified_topology.specs.Thresholds.{reduced_indexes, simplified_contents, simplified_dropped, simplified_removed_count}
 
 abbrev at : ℕ → ℕ → Point
 at x y = record { x = pos x; y = pos y }

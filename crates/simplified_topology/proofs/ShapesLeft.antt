@@ -1,14 +1,7 @@
 -- What is left of a marked shape is what is left of the shape, marked: shapes, by kind.
 use Rattle.std.proofs.Common.{◌≡◌, ℕ, Bool, true, false, List, [], ◌∷◌, map, Option, None, Some, refl, sym, ap, ◌∙◌, subst}
-use Rattle.std.specs.List.{AllByRecursion}
-use Rattle.geometry.specs.declared.shape.Geometry.{Geometry}
+use Rattle.simplified_topology.proofs.Names.{AllByRecursion, prune-point, prune-points, prune-line, prune-lines, prune-area, prune-areas, prune-group, by_kinds, map_some, with_some, some_of, unless_empty, Placed, alone, of_parts, area_by, prune, Geometry, outer_ring, outer_rings, ends_here, along, unmarked, rings_marked, marked}
 use Rattle.geometry.specs.declared.shape.Geometry.TheVariants as g
-use Rattle.geometry.specs.Lists.{map_some, with_some, some_of, unless_empty}
-use Rattle.geometry.specs.Paths.{Placed, alone, of_parts}
-use Rattle.geometry.specs.Pruning.{area_by, prune}
-use Rattle.geometry.proofs.Cases.{prune-point, prune-points, prune-line, prune-lines, prune-area, prune-areas, prune-group}
-use Rattle.geometry.proofs.Induction.{by_kinds}
-use Rattle.simplified_topology.specs.OuterRings.{outer_ring, outer_rings, ends_here, along, unmarked, rings_marked, marked}
 use Rattle.simplified_topology.proofs.Marks.{outer_rings_at, marked_at, marked-line, marked-lines, marked-area, marked-areas, marked-group, left-point, left-points, left-line, left-lines, left-area, left-areas, left-group}
 use Rattle.simplified_topology.proofs.MarksLeft as parts
 use Rattle.simplified_topology.proofs.MarksLeft.{Follows, nothing, made, left_out, weaker}

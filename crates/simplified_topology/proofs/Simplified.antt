@@ -1,35 +1,11 @@
 -- What is built of layers at a threshold and a limit of zero and then reduced by both is what is built of them by both.
 use Rattle.std.proofs.Common.{rules, arith, ◌≡◌, ℕ, ℤ, Bool, false, cond, List, map, None, Some, refl, sym, ap, ◌∙◌, subst}
-use Rattle.std.specs.List.{AllByRecursion}
-use Rattle.arc_table.specs.Arcs.{index_in}
+use Rattle.simplified_topology.proofs.Names.{AllByRecursion, all_weaker, all_two, then_some, Point, Small, clean, is_short, Stroke, linework, pieces, from_start, objects_lines_and_rings, TopoObject, index_in, reduced, DirectionLaw, ZeroLaw, Line, StandsIn, each_stands, own_apart, own_in, AllUsed, all_renumbered, all_used, loses_nothing, all_arcs, kept_refs, untrimmed, built, cleaned, own_pieces, own_cause, rebuilt, is_small, kept_line, AreSound, whole_line, objects_by, is_used, keep_from, renumbered, line_renumbered, trimmed, SimplifiesToBuilt, small_cause, large_refs, objects_pruned, simplified_by, simplified_contents}
 use Rattle.arc_table.proofs.Stitching.{same_stitched}
-use Rattle.cutter.specs.Pieces.{pieces, from_start}
 use Rattle.cutter.specs.Places.{In, Apart, interior}
-use Rattle.elimination_meaning.specs.Elimination.{reduced}
-use Rattle.elimination_meaning.specs.Laws.{DirectionLaw, ZeroLaw}
-use Rattle.geometry.specs.declared.address.Cause.TheVariants.{Small}
-use Rattle.geometry.specs.Lists.{then_some}
-use Rattle.geometry.specs.Points.{Point}
-use Rattle.junctions.specs.Cleaning.{clean, is_short}
 use Rattle.junctions.specs.Cuts.{is_cut}
-use Rattle.linework.specs.Linework.{linework}
-use Rattle.junctions.specs.declared.stroke.Stroke.{Stroke}
-use Rattle.topojson_types.specs.declared.object.TopoObject.{TopoObject}
-use Rattle.topojson_types.specs.Topologies.{objects_lines_and_rings}
-use Rattle.build_meaning.specs.Built.{all_arcs, kept_refs, untrimmed, built}
-use Rattle.build_meaning.specs.Expected.{cleaned, own_pieces, own_cause, rebuilt, is_small, kept_line}
-use Rattle.build_meaning.specs.Laws.{AreSound, whole_line}
 use Rattle.build_meaning.specs.Layers.{Named, layers_of, named_lines_and_rings}
-use Rattle.build_meaning.specs.Objects.{objects_by}
-use Rattle.build_meaning.specs.Trimming.{is_used, keep_from, renumbered, line_renumbered, trimmed}
 use Rattle.build_meaning.proofs.DecodingLines.{pieces_back}
-use Rattle.build_meaning.proofs.Linework.{Line, StandsIn, each_stands, own_apart, own_in}
-use Rattle.owned_values.proofs.Elements.{all_weaker, all_two}
-use Rattle.build_meaning.proofs.Trimmed.{AllUsed, all_renumbered, all_used}
-use Rattle.build_meaning.proofs.Whole.{loses_nothing}
-use Rattle.simplified_topology.specs.Laws.{SimplifiesToBuilt}
-use Rattle.simplified_topology.specs.Simplified.{small_cause, large_refs, objects_pruned, simplified_by}
-use Rattle.simplified_topology.specs.Thresholds.{simplified_contents}
 use Rattle.simplified_topology.proofs.Again.{all_hold, left_with, trimmed_again}
 use Rattle.simplified_topology.proofs.Made.{objects_made}
 use Rattle.simplified_topology.proofs.Objects.{objects_then, objects_left}

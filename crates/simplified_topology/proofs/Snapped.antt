@@ -1,29 +1,12 @@
 -- Layers that are snapped to the grid over them lie on it, and are as sound as before.
 use Rattle.std.proofs.Common.{rules, arith, ◌≡◌, ℕ, ◌≤◌, true, List, [], ◌∷◌, map, Option, None, Some, refl, ap}
-use Rattle.std.specs.List.{AllByRecursion}
-use Rattle.build_meaning.specs.Laws.{IsSound, AreSound}
+use Rattle.simplified_topology.proofs.Names.{AllByRecursion, all_weaker, all_left, all_right, all_append, all_map, by_kinds, moved_at, option_points_moved, map_some, Point, nesting_at, Featured, Shape, nesting, option_nesting, feature_nesting, FeatureHasNumbers, option_points, features_points, FeatureHasTexts, settled, Axes, IsGrid, covers, snapped, grid_over, Settles, IsSound, AreSound, IsSnapped, SnappedAreOn, EachFeature, SnappedKeep, named_points, IsCount, AreInputs, snapped_named, IsOn}
 use Rattle.build_meaning.specs.Layers.{Named, names_of}
-use Rattle.geojson_types.specs.Features.{Featured, Shape}
 use Rattle.geojson_types.specs.Moving.{moved, moved_feature}
-use Rattle.geojson_types.specs.Nesting.{nesting, option_nesting, feature_nesting}
-use Rattle.geojson_types.specs.Numbers.{FeatureHasNumbers}
-use Rattle.geojson_types.specs.Texts.{FeatureHasTexts}
-use Rattle.geojson_types.specs.Places.{option_points, features_points}
-use Rattle.geojson_types.proofs.Nestings.{nesting_at}
-use Rattle.geometry.specs.Lists.{map_some}
-use Rattle.geometry.specs.Points.{Point}
-use Rattle.geometry.proofs.Induction.{by_kinds}
-use Rattle.geometry.proofs.MovedShapes.{moved_at, option_points_moved}
-use Rattle.grid_snap.specs.Axes.{Axes, IsGrid, covers, snapped, grid_over}
-use Rattle.grid_snap.specs.Laws.{Settles}
 use Rattle.grid_snap.proofs.Layered.{snapped_sound}
 use Rattle.grid_snap.proofs.Least.{covers_all, grid_made}
-use Rattle.grid_snap.proofs.Settled.{settled}
 use Rattle.json_value.specs.Depth.{greatest}
 use Rattle.simplified_topology.proofs.Again.{all_hold}
-use Rattle.owned_values.proofs.Elements.{all_weaker, all_left, all_right, all_append, all_map}
-use Rattle.simplified_topology.specs.Quantized.{named_points, IsCount, AreInputs, snapped_named, IsOn}
-use Rattle.simplified_topology.specs.GridLaws.{IsSnapped, SnappedAreOn, EachFeature, SnappedKeep}
 
 names_stay : (g : Option Axes) (ls : Named) → names_of (snapped_named g ls) ≡ names_of ls
 names_stay None ls = refl

@@ -2,28 +2,10 @@
 use Rattle.std.proofs.Common.{◌≡◌, ℕ, pos, false, List, [], ◌∷◌, ◌++◌, Option, None, Some, refl, ap, ◌∙◌}
 use Rattle.std.specs.Fmt.{digits}
 use Rattle.std.specs.Prelude.{codes}
-use Rattle.build_meaning.specs.Built.{all_arcs}
-use Rattle.build_meaning.specs.Expected.{cleaned, own_cause}
+use Rattle.simplified_topology.proofs.Names.{points_at, prune-line, prune-point, moved_at, Point, prune, same, Collapsed, units_text, Shape, shape_points, Axes, number, cell, snapped, grid_over, Axis, TopoShape, Contents, Many, all_arcs, cleaned, own_cause, celled, transform_of, named_points, named_grid, snapped_named, quantized}
 use Rattle.build_meaning.specs.Layers.{Named}
-use Rattle.decimal_text.specs.Scaling.{units_text}
-use Rattle.geojson_types.specs.Features.{Shape}
 use Rattle.geojson_types.specs.Moving.{moved}
-use Rattle.geojson_types.specs.Places.{shape_points}
-use Rattle.geometry.specs.declared.address.Cause.TheVariants.{Collapsed}
 use Rattle.geometry.specs.declared.shape.Geometry.TheVariants as g
-use Rattle.geometry.specs.Points.{Point}
-use Rattle.geometry.specs.Pruning.{prune}
-use Rattle.geometry.specs.Rings.{same}
-use Rattle.geometry.proofs.Cases.{prune-line, prune-point}
-use Rattle.geometry.proofs.MovedShapes.{moved_at}
-use Rattle.geometry.proofs.ByKind.{points_at}
-use Rattle.grid_snap.specs.declared.axis.Axis.{Axis}
-use Rattle.grid_snap.specs.Axes.{Axes, number, cell, snapped, grid_over}
-use Rattle.simplified_topology.specs.GridTransforms.{transform_of}
-use Rattle.simplified_topology.specs.Celled.{celled}
-use Rattle.topojson_types.specs.declared.object.TopoObject.TheVariants.{Many}
-use Rattle.topojson_types.specs.Topologies.{TopoShape, Contents}
-use Rattle.simplified_topology.specs.Quantized.{named_points, named_grid, snapped_named, quantized}
 
 abbrev at : ℕ → ℕ → Point
 at x y = record { x = pos x; y = pos y }

@@ -1,19 +1,7 @@
 -- Objects in which rings are protected: what is made of them where none is, their names, and their lines and rings.
 use Rattle.std.proofs.Common.{◌≡◌, ℕ, ℤ, Bool, false, List, [], ◌∷◌, map, Option, None, Some, refl, sym, ap, subst, arith}
-use Rattle.std.specs.List.{AllByRecursion}
-use Rattle.geometry.specs.Lists.{then_some, map_some}
-use Rattle.geometry.specs.Points.{Point}
-use Rattle.geometry.specs.Pruning.{prune, lines_and_rings, option_lines_and_rings}
-use Rattle.owned_values.proofs.Elements.{all_append, all_left, all_right, all_of_map, all_weaker}
-use Rattle.topojson_types.specs.declared.feature.TopoFeature.{TopoFeature}
-use Rattle.topojson_types.specs.declared.object.TopoObject.{TopoObject}
-use Rattle.topojson_types.specs.declared.object.TopoObject.TheVariants.{One, Many}
-use Rattle.topojson_types.specs.Decoding.{placed_arcs}
-use Rattle.topojson_types.specs.Topologies.{TopoShape, Contents, object_features, features_lines_and_rings, objects_lines_and_rings}
+use Rattle.simplified_topology.proofs.Names.{AllByRecursion, all_append, all_left, all_right, all_of_map, all_weaker, then_some, map_some, Point, prune, lines_and_rings, option_lines_and_rings, placed_arcs, TopoShape, Contents, object_features, features_lines_and_rings, objects_lines_and_rings, TopoFeature, TopoObject, One, Many, marked, Protection, no_protection, MarkedRefs, shape_marked, feature_spared, object_spared, objects_spared, sparing, spared_whole, Refs, feature_pruned, object_pruned, objects_pruned, large_refs, retained_arcs, retained_whole}
 use Rattle.build_meaning.proofs.LinesAndRings.{lines_and_rings_left}
-use Rattle.simplified_topology.specs.OuterRings.{marked}
-use Rattle.simplified_topology.specs.Protected.{Protection, no_protection, MarkedRefs, shape_marked, feature_spared, object_spared, objects_spared, sparing, spared_whole}
-use Rattle.simplified_topology.specs.Simplified.{Refs, feature_pruned, object_pruned, objects_pruned, large_refs, retained_arcs, retained_whole}
 use Rattle.simplified_topology.proofs.Marks.{without_mark, left_plain, lines_and_rings_back}
 
 abbrev Named_objects : Type 0

@@ -1,30 +1,7 @@
 -- What is left of a topology where rings are protected, before the arcs that no line uses are left out and after, and on a grid.
 use Rattle.std.proofs.Common.{◌≡◌, ◌==◌, ℕ, ◌-◌, ℤ, Bool, true, false, cond, List, map, Option, None, Some, refl, sym, ap, ◌∙◌, subst}
-use Rattle.std.specs.List.{AllByRecursion, list_any}
+use Rattle.simplified_topology.proofs.Names.{AllByRecursion, list_any, all_weaker, number_of, Point, Cause, Axes, cell, placed_arcs, Contents, objects_lines_and_rings, place_on, TopoObject, Transform, reduce_arcs, guarded_by, AllUsed, all_used, kept_of_map, positions_of, unless, is_used, keep_from, line_renumbered, renumbered, trimmed, objects_celled, celled, LiesBack, transform_of, arc_positions, spread, Protection, greatest_ring, protected_rings, sparing, objects_spared, spared_whole, spared_by, spared_removed_count, protecting_indexes, protecting_contents, protecting_removed_count, greatest_rings, TrimmedFirstIsAlikeSparing, IsAlikeOnGrid, ProtectingOnGrid, IsOn, small_cause, large_refs, retained_arcs, objects_pruned}
 use Rattle.std.specs.Prelude.{sum}
-use Rattle.build_meaning.specs.Built.{positions_of}
-use Rattle.build_meaning.specs.Expected.{unless}
-use Rattle.build_meaning.specs.Trimming.{is_used, keep_from, line_renumbered, renumbered, trimmed}
-use Rattle.build_meaning.proofs.Trimmed.{AllUsed, all_used, kept_of_map}
-use Rattle.geometry.specs.declared.address.Cause.{Cause}
-use Rattle.geometry.specs.Joins.{number_of}
-use Rattle.geometry.specs.Points.{Point}
-use Rattle.grid_snap.specs.Axes.{Axes, cell}
-use Rattle.guarded_meaning.specs.Elimination.{reduce_arcs}
-use Rattle.guarded_meaning.specs.Guards.{guarded_by}
-use Rattle.owned_values.proofs.Elements.{all_weaker}
-use Rattle.topojson_types.specs.declared.object.TopoObject.{TopoObject}
-use Rattle.topojson_types.specs.declared.transform.Transform.{Transform}
-use Rattle.topojson_types.specs.Decoding.{placed_arcs}
-use Rattle.topojson_types.specs.Topologies.{Contents, objects_lines_and_rings}
-use Rattle.topojson_types.specs.Transforms.{place_on}
-use Rattle.simplified_topology.specs.Celled.{objects_celled, celled, LiesBack}
-use Rattle.simplified_topology.specs.GridTransforms.{transform_of}
-use Rattle.simplified_topology.specs.Guarded.{arc_positions, spread}
-use Rattle.simplified_topology.specs.Protected.{Protection, greatest_ring, protected_rings, sparing, objects_spared, spared_whole, spared_by, spared_removed_count, protecting_indexes, protecting_contents, protecting_removed_count}
-use Rattle.simplified_topology.specs.ProtectedLayersLaws.{greatest_rings, TrimmedFirstIsAlikeSparing, IsAlikeOnGrid, ProtectingOnGrid}
-use Rattle.simplified_topology.specs.Quantized.{IsOn}
-use Rattle.simplified_topology.specs.Simplified.{small_cause, large_refs, retained_arcs, objects_pruned}
 use Rattle.simplified_topology.proofs.Again.{trimmed_again}
 use Rattle.simplified_topology.proofs.Celled.{arcs_map, all_lie_back, retained_lie, objects_lines, trimmed_celled}
 use Rattle.simplified_topology.proofs.Guarded.{placed_left}

@@ -1,30 +1,8 @@
 -- What holds of each cell and of each feature of a topology holds of what is left of it where rings are protected.
 use Rattle.std.proofs.Common.{arith, ◌≡◌, ℕ, suc, ◌+◌, ◌≤◌, max, Bool, List, [], ◌∷◌, map, Option, None, Some, refl, sym, ap, ◌∙◌}
-use Rattle.std.specs.List.{AllByRecursion}
-use Rattle.build_meaning.specs.Trimming.{is_used, line_renumbered, trimmed}
-use Rattle.build_meaning.proofs.ValidTrimmed.{all_kept}
-use Rattle.geojson_types.specs.Nesting.{nesting, option_nesting, properties_nesting}
-use Rattle.geojson_types.proofs.Nestings.{nesting_at, option_pruned_nests}
-use Rattle.geometry.specs.declared.shape.Geometry.{Geometry}
-use Rattle.geometry.specs.Lists.{joined, map_some, then_some}
-use Rattle.geometry.specs.Points.{Point}
-use Rattle.geometry.specs.Pruning.{prune}
-use Rattle.geometry.proofs.Induction.{by_kinds}
+use Rattle.simplified_topology.proofs.Names.{AllByRecursion, all_append, all_left, all_right, by_kinds, joined, map_some, then_some, Point, prune, Geometry, nesting_at, option_pruned_nests, nesting, option_nesting, properties_nesting, placed_arcs, TopoShape, Contents, object_features, TopoFeature, TopoObject, One, Many, all_kept, is_used, line_renumbered, trimmed, EachCell, all_features, along, into_part, unmarked, rings_marked, marked, Protection, MarkedRefs, sparing, shape_marked, feature_spared, object_spared, objects_spared, spared_whole, spared_by, SparedCellsAreOn, SparedNestsNoDeeper, IsOn, Refs, feature_pruned, large_refs, retained_arcs}
 use Rattle.json_value.specs.Depth.{greatest}
-use Rattle.owned_values.proofs.Elements.{all_append, all_left, all_right}
-use Rattle.topojson_types.specs.declared.feature.TopoFeature.{TopoFeature}
-use Rattle.topojson_types.specs.declared.object.TopoObject.{TopoObject}
-use Rattle.topojson_types.specs.declared.object.TopoObject.TheVariants.{One, Many}
-use Rattle.topojson_types.specs.Decoding.{placed_arcs}
-use Rattle.topojson_types.specs.Topologies.{TopoShape, Contents, object_features}
 use Rattle.topojson_types.specs.Validity.{option_places, features_places, objects_places}
-use Rattle.simplified_topology.specs.Celled.{EachCell}
-use Rattle.simplified_topology.specs.GridLaws.{all_features}
-use Rattle.simplified_topology.specs.OuterRings.{along, into_part, unmarked, rings_marked, marked}
-use Rattle.simplified_topology.specs.Protected.{Protection, MarkedRefs, sparing, shape_marked, feature_spared, object_spared, objects_spared, spared_whole, spared_by}
-use Rattle.simplified_topology.specs.ProtectedLayersLaws.{SparedCellsAreOn, SparedNestsNoDeeper}
-use Rattle.simplified_topology.specs.Quantized.{IsOn}
-use Rattle.simplified_topology.specs.Simplified.{Refs, feature_pruned, large_refs, retained_arcs}
 use Rattle.simplified_topology.proofs.Left.{arcs_have, objects_have, objects_stay}
 use Rattle.simplified_topology.proofs.Marks.{marked_at, marked-group}
 use Rattle.simplified_topology.proofs.ValidPruned.{places_stay}

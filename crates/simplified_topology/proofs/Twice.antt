@@ -1,8 +1,7 @@
 -- Unused arcs left out twice.
 use Rattle.std.proofs.Common.{◌≡◌, ℕ, zero, suc, ◌+◌, Bool, true, false, cond, ◌&&◌, List, [], ◌∷◌, refl, ap, ◌∙◌, arith}
-use Rattle.std.proofs.lemmas.Bool.Decides.{nat_tests}
+use Rattle.simplified_topology.proofs.Names.{nat_tests, keep_from, new_index_from}
 use Rattle.std.proofs.Common.{◌==◌}
-use Rattle.build_meaning.specs.Trimming.{keep_from, new_index_from}
 
 -- v is what passes u and then, by its number among those, w
 abbrev pub Both : (ℕ → Bool) → (ℕ → Bool) → (ℕ → Bool) → ℕ → ℕ → Type 0

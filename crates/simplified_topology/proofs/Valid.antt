@@ -1,24 +1,7 @@
 -- A topology whose arcs are reduced stays valid.
 use Rattle.std.proofs.Common.{arith, ◌≡◌, ℕ, ◌≤◌, ℤ, Bool, true, cond, List, map, length, Option, Some, sym, ap, ◌∙◌, subst}
-use Rattle.std.specs.List.{AllByRecursion}
-use Rattle.geometry.specs.declared.address.Cause.{Cause}
-use Rattle.geometry.specs.Points.{Point}
-use Rattle.geojson_types.specs.Features.{is_some_list}
-use Rattle.topojson_types.specs.declared.object.TopoObject.{TopoObject}
-use Rattle.topojson_types.specs.Decoding.{placed_arcs}
-use Rattle.geometry.specs.Joins.{arc_at, Meet, Closes}
-use Rattle.topojson_types.specs.Topologies.{Contents, objects_lines_and_rings}
+use Rattle.simplified_topology.proofs.Names.{AllByRecursion, all_weaker, all_two, arc_at, Meet, Closes, Point, Cause, is_some_list, placed_arcs, Contents, objects_lines_and_rings, TopoObject, AllUsed, all_renumbered, all_used, meet_as, close_as, all_kept, all_below, of_objects, unless, is_used, keep_from, renumbered, line_renumbered, trimmed, SimplifiedIsValid, Protection, no_protection, sparing, objects_spared, spared_whole, spared_by, SparedIsValid, small_cause, large_refs, objects_pruned, retained_arcs, simplified_by, EachFromFirstToLast}
 use Rattle.topojson_types.specs.Validity.{AreDistinct, AreInRange, IsJoined, IsClosed, IsArc, IsObject, IsTopology}
-use Rattle.build_meaning.specs.Expected.{unless}
-use Rattle.build_meaning.specs.Trimming.{is_used, keep_from, renumbered, line_renumbered, trimmed}
-use Rattle.owned_values.proofs.Elements.{all_weaker, all_two}
-use Rattle.build_meaning.proofs.Trimmed.{AllUsed, all_renumbered, all_used}
-use Rattle.build_meaning.proofs.ValidEnds.{meet_as, close_as}
-use Rattle.build_meaning.proofs.ValidTrimmed.{all_kept, all_below, of_objects}
-use Rattle.simplified_topology.specs.Laws.{SimplifiedIsValid}
-use Rattle.simplified_topology.specs.Protected.{Protection, no_protection, sparing, objects_spared, spared_whole, spared_by}
-use Rattle.simplified_topology.specs.ProtectedLaws.{SparedIsValid}
-use Rattle.simplified_topology.specs.Simplified.{small_cause, large_refs, objects_pruned, retained_arcs, simplified_by, EachFromFirstToLast}
 use Rattle.simplified_topology.proofs.Spared.{by_refs, objects_plain, whole_plain, names_stay, objects_left}
 use Rattle.simplified_topology.proofs.ValidRetained.{retained_length, named_retained, retained_are_arcs}
 use Rattle.simplified_topology.proofs.ValidPruned.{MarkedGivesSome, objects_are}

@@ -1,22 +1,8 @@
 -- A topology on a grid is valid where the topology is whose positions its cells stand for.
 use Rattle.std.proofs.Common.{rules, arith, ◌≡◌, ℕ, ◌≤◌, ℤ, true, List, [], ◌∷◌, map, Option, None, Some, refl, sym, ap, ◌∙◌, subst}
-use Rattle.std.specs.List.{AllByRecursion}
-use Rattle.std.proofs.lemmas.List.{length-map}
+use Rattle.simplified_topology.proofs.Names.{length-map, AllByRecursion, all_left, all_right, all_two, all_map, all_weaker, or_empty, arc_at, first_of, last_of, Meet, Closes, map_some, Point, IsPosition, is_some_list, Contents, object_features, IsTransform, TopoFeature, TopoObject, Transform, feature_celled, objects_celled, celled, IsOnGrid, EachCell, CelledIsValid, Refs}
 use Rattle.elimination_meaning.proofs.Direction.{map_reverse}
-use Rattle.geojson_types.specs.Features.{is_some_list}
-use Rattle.geometry.specs.Lists.{map_some}
-use Rattle.geometry.specs.Points.{Point, IsPosition}
-use Rattle.owned_values.proofs.Elements.{all_left, all_right, all_two, all_map, all_weaker}
-use Rattle.topojson_types.specs.declared.feature.TopoFeature.{TopoFeature}
-use Rattle.topojson_types.specs.declared.object.TopoObject.{TopoObject}
-use Rattle.topojson_types.specs.declared.transform.Transform.{Transform}
-use Rattle.geometry.specs.Joins.{or_empty, arc_at, first_of, last_of, Meet, Closes}
-use Rattle.topojson_types.specs.Topologies.{Contents, object_features}
-use Rattle.topojson_types.specs.Transforms.{IsTransform}
 use Rattle.topojson_types.specs.Validity.{option_places, features_places, objects_places, IsPlace, IsFeature, IsObject, IsArc, IsTopology}
-use Rattle.simplified_topology.specs.Celled.{feature_celled, objects_celled, celled, IsOnGrid, EachCell}
-use Rattle.simplified_topology.specs.Laws.{CelledIsValid}
-use Rattle.simplified_topology.specs.Simplified.{Refs}
 use Rattle.simplified_topology.proofs.Celled.{at_map, objects_lines}
 use Rattle.simplified_topology.proofs.ValidPruned.{GivesSome, option_full, option_stay, option_single}
 

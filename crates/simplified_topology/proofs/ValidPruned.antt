@@ -2,26 +2,10 @@
 -- where what is given for a line that has an element has one, its Points and MultiPoints stay where they are, and it is no group unless it
 -- was one.
 use Rattle.std.proofs.Common.{arith, ◌≡◌, ℕ, suc, ℤ, Bool, true, false, List, [], ◌∷◌, map, Option, None, Some, refl, sym, ap, ◌∙◌, subst}
-use Rattle.std.specs.List.{AllByRecursion, list_all}
+use Rattle.simplified_topology.proofs.Names.{AllByRecursion, list_all, all_append, all_left, all_right, all_map, all_two, all_weaker, by_kinds, some_mapped, map_some, then_some, with_some, some_of, unless_empty, joined, Point, area_by, prune, is_some_list, full_at, full-group, places_at, single_at, TopoShape, TopoFeature, TopoObject, Transform, has_rings, has_option, no_places, line_places, lines_places, area_places, areas_places, line_full, lines_full, area_full, with_area, areas_full, into_part, ends_here, along, unmarked, rings_marked, marked, Protection, MarkedRefs, shape_marked, feature_spared, object_spared, objects_spared, Refs}
 use Rattle.std.proofs.lemmas.Bool.{and_from, and_parts}
 use Rattle.geometry.specs.declared.shape.Geometry.TheVariants as g
-use Rattle.geojson_types.specs.Features.{is_some_list}
-use Rattle.geometry.specs.Lists.{map_some, then_some, with_some, some_of, unless_empty, joined}
-use Rattle.geometry.specs.Points.{Point}
-use Rattle.geometry.specs.Pruning.{area_by, prune}
-use Rattle.geometry.proofs.MovedShapes.{some_mapped}
-use Rattle.geometry.proofs.Induction.{by_kinds}
-use Rattle.topojson_types.proofs.ByKind.{full_at, full-group, places_at, single_at}
-use Rattle.topojson_types.specs.declared.feature.TopoFeature.{TopoFeature}
-use Rattle.topojson_types.specs.declared.object.TopoObject.{TopoObject}
-use Rattle.topojson_types.specs.declared.transform.Transform.{Transform}
-use Rattle.topojson_types.specs.Topologies.{TopoShape}
 use Rattle.topojson_types.specs.Validity.{is_full, is_full_option, places, option_places, is_single, is_single_option, IsPlace, IsFeature, IsObject}
-use Rattle.owned_values.proofs.Elements.{all_append, all_left, all_right, all_map, all_two, all_weaker}
-use Rattle.build_meaning.proofs.ValidShapes.{has_rings, has_option, no_places, line_places, lines_places, area_places, areas_places, line_full, lines_full, area_full, with_area, areas_full}
-use Rattle.simplified_topology.specs.OuterRings.{into_part, ends_here, along, unmarked, rings_marked, marked}
-use Rattle.simplified_topology.specs.Protected.{Protection, MarkedRefs, shape_marked, feature_spared, object_spared, objects_spared}
-use Rattle.simplified_topology.specs.Simplified.{Refs}
 use Rattle.simplified_topology.proofs.Marks.{left_plain, some_made, left-point, left-points, left-line, left-lines, left-area, left-areas, left-group}
 use Rattle.simplified_topology.proofs.Spared.{by_refs}
 

@@ -1,13 +1,7 @@
 -- Arcs of which cells are retained from the first to the last begin and end as before.
 use Rattle.std.proofs.Common.{◌≡◌, ℕ, zero, suc, ◌≤◌, ℤ, pos, negsuc, List, [], ◌∷◌, length, Option, None, Some, refl, ap, ◌∙◌, arith}
-use Rattle.std.specs.List.{AllByRecursion}
-use Rattle.geometry.specs.Lists.{with_some}
-use Rattle.geometry.specs.Points.{Point}
-use Rattle.topojson_types.specs.declared.transform.Transform.{Transform}
-use Rattle.geometry.specs.Joins.{at, or_empty, arc_at, first_of, last_of}
+use Rattle.simplified_topology.proofs.Names.{AllByRecursion, at, or_empty, arc_at, first_of, last_of, with_some, Point, Transform, SameEnds, last_reverse, first_reverse, retained, retained_arcs, FromFirstToLast, EachFromFirstToLast}
 use Rattle.topojson_types.specs.Validity.{IsPlace, IsArc}
-use Rattle.build_meaning.proofs.ValidEnds.{SameEnds, last_reverse, first_reverse}
-use Rattle.simplified_topology.specs.Simplified.{retained, retained_arcs, FromFirstToLast, EachFromFirstToLast}
 
 -- ---- one arc
 

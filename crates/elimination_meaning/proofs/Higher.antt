@@ -9,7 +9,7 @@ use Rattle.elimination_meaning.proofs.Steps.{Holds, eliminate_sub}
 use Rattle.elimination_meaning.proofs.Sublists.{sub_map}
 use Rattle.elimination_meaning.proofs.Turned.{go_on}
 
-sub_length : {X : Type 0} {xs ys : List X} → Sublist xs ys → length xs ≤ length ys
+pub sub_length : {X : Type 0} {xs ys : List X} → Sublist xs ys → length xs ≤ length ys
 sub_length none = omega arith
 sub_length (keep s) = omega (arith, sub_length s)
 sub_length (skip s) = omega (arith, sub_length s)

@@ -1,22 +1,22 @@
 -- The indexes that stay are some of those of the line, in their order, and among them its ends.
-use Rattle.std.proofs.Common.{◌≡◌, ℕ, ◌+◌, ◌-◌, ◌<◌, List, [], ◌∷◌, ◌++◌, length, map, refl, ap, sym, ◌∙◌, subst, arith}
+use Rattle.std.proofs.Common.{◌≡◌, ℕ, ◌+◌, ◌-◌, ◌<◌, List, [], ◌∷◌, ◌++◌, length, map, refl, ap, sym, subst, arith}
 use Rattle.std.specs.List.{AllByRecursion}
-use Rattle.std.proofs.lemmas.List.{length-append, map-append}
+use Rattle.std.proofs.lemmas.List.{length-append}
 use Rattle.geometry.specs.Points.{Point}
 use Rattle.elimination_meaning.specs.Elimination.{numbered, reduce}
 use Rattle.elimination_meaning.specs.Laws.{IndexesRise}
 use Rattle.elimination_meaning.specs.Rising.{RisesTo, RisesOver}
 use Rattle.elimination_meaning.specs.Sublists.{Sublist, none, keep, skip}
-use Rattle.elimination_meaning.proofs.Ends.{eliminate_ends, numbered_ends}
-use Rattle.elimination_meaning.proofs.Steps.{eliminate_sub, vertex}
+use Rattle.elimination_meaning.proofs.Ends.{index_ends_stay}
+use Rattle.elimination_meaning.proofs.Steps.{eliminate_sub}
 use Rattle.elimination_meaning.proofs.Sublists.{sub_all, sub_map}
 
 -- each is under all that follow it
-abbrev AreRising : List ℕ → Type 0
+abbrev pub AreRising : List ℕ → Type 0
 AreRising [] = Unit {0}
 AreRising (i ∷ is) = AllByRecursion (λ j. i < j) is × AreRising is
 
-sub_rising : {is js : List ℕ} → Sublist is js → AreRising js → AreRising is
+pub sub_rising : {is js : List ℕ} → Sublist is js → AreRising js → AreRising is
 sub_rising none h = h
 sub_rising (keep {x} s) h = (sub_all (λ j. x < j) s h.0, sub_rising s h.1)
 sub_rising (skip s) h = sub_rising s h.1
@@ -25,7 +25,7 @@ numbered_over : (k i : ℕ) (ps : List Point) → k < i → AllByRecursion (λ j
 numbered_over k i [] h = tt
 numbered_over k i (p ∷ ps) h = (h, numbered_over k (i + 1) ps (omega (arith, h)))
 
-numbered_rising : (i : ℕ) (ps : List Point) → AreRising (map (λ v. v.index) (numbered i ps))
+pub numbered_rising : (i : ℕ) (ps : List Point) → AreRising (map (λ v. v.index) (numbered i ps))
 numbered_rising i [] = tt
 numbered_rising i (p ∷ ps) = (numbered_over i (i + 1) ps (omega arith), numbered_rising (i + 1) ps)
 
@@ -47,16 +47,9 @@ reduce_rising : (t : ℕ) (ps : List Point) → AreRising (reduce t ps)
 unfolding reduce
 reduce_rising t ps = sub_rising (sub_map (λ v. v.index) (eliminate_sub (length ps) t (numbered 0 ps))) (numbered_rising 0 ps)
 
--- the indexes of a line with both ends apart
-between_ends : (t : ℕ) (p q : Point) (ps : List Point) → (is : List ℕ) × (reduce t (p ∷ (ps ++ (q ∷ []))) ≡ 0 ∷ (is ++ ((1 + length ps) ∷ [])))
-unfolding reduce
-between_ends t p q ps =
-    let h = eliminate_ends (length (p ∷ (ps ++ (q ∷ [])))) t _ _ _ (numbered_ends p q ps) in
-    (map (λ v. v.index) h.inner, ap (map (λ v. v.index)) h.shape ∙ ap (λ l. 0 ∷ l) (map-append (λ v. v.index) h.inner (vertex (1 + length ps) q ∷ [])))
-
 rises_between : (t : ℕ) (p q : Point) (ps : List Point) → RisesOver (length (p ∷ (ps ++ (q ∷ [])))) (reduce t (p ∷ (ps ++ (q ∷ []))))
 rises_between t p q ps =
-    let b = between_ends t p q ps in
+    let b = index_ends_stay t p q ps in
     let rising : AreRising (0 ∷ (b.0 ++ ((1 + length ps) ∷ []))) = subst (λ l. AreRising l) b.1 (reduce_rising t (p ∷ (ps ++ (q ∷ [])))) in
     let n : length (p ∷ (ps ++ (q ∷ []))) - 1 ≡ 1 + length ps = omega (arith, length-append ps (q ∷ [])) in
     subst (λ l. RisesOver (length (p ∷ (ps ++ (q ∷ [])))) l) (sym b.1)

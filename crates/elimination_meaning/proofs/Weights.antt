@@ -12,11 +12,11 @@ use Rattle.elimination_meaning.proofs.Turned.{go_on}
 
 -- ---- filters
 
-filter_all : {X : Type 0} (r : X → Bool) → ((x : X) → r x ≡ true) → (xs : List X) → filter r xs ≡ xs
+pub filter_all : {X : Type 0} (r : X → Bool) → ((x : X) → r x ≡ true) → (xs : List X) → filter r xs ≡ xs
 filter_all r f [] = refl
 filter_all r f (x ∷ xs) = ap (λ b. if b then x ∷ filter r xs else filter r xs) (f x) ∙ ap (λ l. x ∷ l) (filter_all r f xs)
 
-filter_both : {X : Type 0} (p q r : X → Bool) → ((x : X) → r x ≡ (if q x then p x else false)) → (xs : List X) → filter p (filter q xs) ≡ filter r xs
+pub filter_both : {X : Type 0} (p q r : X → Bool) → ((x : X) → r x ≡ (if q x then p x else false)) → (xs : List X) → filter p (filter q xs) ≡ filter r xs
 filter_both p q r f [] = refl
 filter_both p q r f (x ∷ xs) = grind (arith, filter_both p q r f xs)
 

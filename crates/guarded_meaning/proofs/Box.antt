@@ -1,8 +1,8 @@
 -- A triangle lies in the box round its corners.
 use Rattle.std.proofs.Common.{◌≡◌, ◌≢◌, Bool, true, false, not, ◌&&◌, ◌||◌, ℤ, pos, int_lt, int_le, ◌-ℤ◌, ◌*ℤ◌, ◌+ℤ◌, ◌<ℤ◌, ◌≤ℤ◌, ◌⊎◌, inl, inr, sym, ◌∙◌, arith}
-use Rattle.guarded_meaning.proofs.Names.{and_parts, or_cases, not-true, Decides-int_eq, ints, cross, Point, IsInBox, BoxLaw, is_left, is_right, is_flat, is_between, is_on, none_left, none_right, in_triangle}
+use Rattle.guarded_meaning.proofs.Names.{and_parts, or_cases, not-true, Decides-int_eq, ints, zero-*ℤ, *ℤ-zero, sub_times, times_sub, cross, Point, IsInBox, BoxLaw, is_left, is_right, is_flat, is_between, is_on, none_left, none_right, in_triangle}
 use Rattle.guarded_meaning.proofs.Crosses.{turned, cross_round, cross_parts, three_ways, three_ways_up}
-use Rattle.guarded_meaning.proofs.Signs.{below_or, over_over, under_under, over_under, under_over, at_least_over, at_least_under, at_most_over, at_most_under}
+use Rattle.guarded_meaning.proofs.Signs.{below_or, over_under, at_least_under}
 use Rattle.guarded_meaning.proofs.Tests.{cross_ways}
 
 -- ---- three weights of one sign, and three numbers of one sign: the weights are nothing
@@ -12,27 +12,6 @@ at_most j x r e h k = on (below_or (pos 0) j)
   where
     on : ((pos 0 <ℤ j) ⊎ (j ≤ℤ pos 0)) → (j ≤ℤ pos 0)
     on (inl m) = absurd (omega (arith, ints, e, k, over_under j x m h))
-    on (inr m) = m
-
-at_most_too : (j x r : ℤ) → j *ℤ x +ℤ r ≡ pos 0 → (pos 0 <ℤ x) → (pos 0 ≤ℤ r) → (j ≤ℤ pos 0)
-at_most_too j x r e h k = on (below_or (pos 0) j)
-  where
-    on : ((pos 0 <ℤ j) ⊎ (j ≤ℤ pos 0)) → (j ≤ℤ pos 0)
-    on (inl m) = absurd (omega (arith, ints, e, k, over_over j x m h))
-    on (inr m) = m
-
-at_least : (j x r : ℤ) → j *ℤ x +ℤ r ≡ pos 0 → (x <ℤ pos 0) → (pos 0 ≤ℤ r) → (pos 0 ≤ℤ j)
-at_least j x r e h k = on (below_or j (pos 0))
-  where
-    on : ((j <ℤ pos 0) ⊎ (pos 0 ≤ℤ j)) → (pos 0 ≤ℤ j)
-    on (inl m) = absurd (omega (arith, ints, e, k, under_under j x m h))
-    on (inr m) = m
-
-at_least_too : (j x r : ℤ) → j *ℤ x +ℤ r ≡ pos 0 → (pos 0 <ℤ x) → (r ≤ℤ pos 0) → (pos 0 ≤ℤ j)
-at_least_too j x r e h k = on (below_or j (pos 0))
-  where
-    on : ((j <ℤ pos 0) ⊎ (pos 0 ≤ℤ j)) → (pos 0 ≤ℤ j)
-    on (inl m) = absurd (omega (arith, ints, e, k, under_over j x m h))
     on (inr m) = m
 
 abbrev AllOver : ℤ → ℤ → ℤ → Type 0
@@ -58,43 +37,27 @@ module _ (j k l x y z : ℤ) (e : j *ℤ x +ℤ (k *ℤ y +ℤ l *ℤ z) ≡ pos
       let h = at_most l z (j *ℤ x +ℤ k *ℤ y) third hz (omega (arith, ints, a, b)) in
       omega (arith, ints, f, g, h, w.0, w.1, w.2)
 
-  over_right : AllOver j k l → (pos 0 <ℤ x) → (pos 0 <ℤ y) → (pos 0 <ℤ z) → j +ℤ (k +ℤ l) ≡ pos 0
-  over_right w hx hy hz =
-      let a = at_least_over j x w.0 hx in
-      let b = at_least_over k y w.1 hy in
-      let c = at_least_over l z w.2 hz in
-      let f = at_most_too j x (k *ℤ y +ℤ l *ℤ z) e hx (omega (arith, ints, b, c)) in
-      let g = at_most_too k y (j *ℤ x +ℤ l *ℤ z) second hy (omega (arith, ints, a, c)) in
-      let h = at_most_too l z (j *ℤ x +ℤ k *ℤ y) third hz (omega (arith, ints, a, b)) in
-      omega (arith, ints, f, g, h, w.0, w.1, w.2)
+-- weights and numbers of the other sign have the same products
+abbrev opposite : ℤ → ℤ
+opposite x = pos 0 -ℤ x
 
-  under_left : AllUnder j k l → (x <ℤ pos 0) → (y <ℤ pos 0) → (z <ℤ pos 0) → j +ℤ (k +ℤ l) ≡ pos 0
-  under_left w hx hy hz =
-      let a = at_most_under j x w.0 hx in
-      let b = at_most_under k y w.1 hy in
-      let c = at_most_under l z w.2 hz in
-      let f = at_least j x (k *ℤ y +ℤ l *ℤ z) e hx (omega (arith, ints, b, c)) in
-      let g = at_least k y (j *ℤ x +ℤ l *ℤ z) second hy (omega (arith, ints, a, c)) in
-      let h = at_least l z (j *ℤ x +ℤ k *ℤ y) third hz (omega (arith, ints, a, b)) in
-      omega (arith, ints, f, g, h, w.0, w.1, w.2)
+opposite_times : (x y : ℤ) → opposite x *ℤ y ≡ opposite (x *ℤ y)
+opposite_times x y = omega (arith, ints, sub_times (pos 0) x y, zero-*ℤ y)
 
-  under_right : AllUnder j k l → (pos 0 <ℤ x) → (pos 0 <ℤ y) → (pos 0 <ℤ z) → j +ℤ (k +ℤ l) ≡ pos 0
-  under_right w hx hy hz =
-      let a = at_most_over j x w.0 hx in
-      let b = at_most_over k y w.1 hy in
-      let c = at_most_over l z w.2 hz in
-      let f = at_least_too j x (k *ℤ y +ℤ l *ℤ z) e hx (omega (arith, ints, b, c)) in
-      let g = at_least_too k y (j *ℤ x +ℤ l *ℤ z) second hy (omega (arith, ints, a, c)) in
-      let h = at_least_too l z (j *ℤ x +ℤ k *ℤ y) third hz (omega (arith, ints, a, b)) in
-      omega (arith, ints, f, g, h, w.0, w.1, w.2)
+times_opposite : (x y : ℤ) → x *ℤ opposite y ≡ opposite (x *ℤ y)
+times_opposite x y = omega (arith, ints, times_sub (pos 0) y x, *ℤ-zero x)
 
-  one_sign_left : AllOver j k l ⊎ AllUnder j k l → (x <ℤ pos 0) → (y <ℤ pos 0) → (z <ℤ pos 0) → j +ℤ (k +ℤ l) ≡ pos 0
-  one_sign_left (inl w) hx hy hz = over_left w hx hy hz
-  one_sign_left (inr w) hx hy hz = under_left w hx hy hz
+one_sign_left : (j k l x y z : ℤ) → j *ℤ x +ℤ (k *ℤ y +ℤ l *ℤ z) ≡ pos 0 → AllOver j k l ⊎ AllUnder j k l → (x <ℤ pos 0) → (y <ℤ pos 0) → (z <ℤ pos 0) → j +ℤ (k +ℤ l) ≡ pos 0
+one_sign_left j k l x y z e (inl w) hx hy hz = over_left j k l x y z e w hx hy hz
+one_sign_left j k l x y z e (inr w) hx hy hz =
+    let h = over_left (opposite j) (opposite k) (opposite l) x y z (omega (arith, ints, e, opposite_times j x, opposite_times k y, opposite_times l z))
+        (omega (arith, ints, w.0), omega (arith, ints, w.1), omega (arith, ints, w.2)) hx hy hz in
+    omega (arith, ints, h)
 
-  one_sign_right : AllOver j k l ⊎ AllUnder j k l → (pos 0 <ℤ x) → (pos 0 <ℤ y) → (pos 0 <ℤ z) → j +ℤ (k +ℤ l) ≡ pos 0
-  one_sign_right (inl w) hx hy hz = over_right w hx hy hz
-  one_sign_right (inr w) hx hy hz = under_right w hx hy hz
+one_sign_right : (j k l x y z : ℤ) → j *ℤ x +ℤ (k *ℤ y +ℤ l *ℤ z) ≡ pos 0 → AllOver j k l ⊎ AllUnder j k l → (pos 0 <ℤ x) → (pos 0 <ℤ y) → (pos 0 <ℤ z) → j +ℤ (k +ℤ l) ≡ pos 0
+one_sign_right j k l x y z e w hx hy hz =
+    one_sign_left j k l (opposite x) (opposite y) (opposite z) (omega (arith, ints, e, times_opposite j x, times_opposite k y, times_opposite l z)) w
+    (omega (arith, ints, hx)) (omega (arith, ints, hy)) (omega (arith, ints, hz))
 
 -- ---- on a side
 

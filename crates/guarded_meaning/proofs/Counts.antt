@@ -1,6 +1,7 @@
 -- No more pairs of segments meet badly when a corner that is free goes.
 use Rattle.std.proofs.Common.{◌≡◌, ℕ, ◌+◌, ◌≤◌, Bool, true, false, List, [], ◌∷◌, ◌++◌, length, map, ◌⊎◌, inl, inr, refl, ap, sym, ◌∙◌, subst, if◌then◌else◌, arith}
 use Rattle.guarded_meaning.proofs.Names.{and_parts, not-false, true≢false, length-append, map-append, filter-append, AllByRecursion, filter, all_of, all_map, each_of, in_left, in_right, same_is, In, joined, Point, same, sub_same, sub_chain, Vertex, numbered, Sublist, none, keep, skip, ArcCorner, arc_corner_at, all_corners, Neighbours, neighbours_at, segment_of, all_neighbours, is_pair_of, arc_segments, segments, crossings, left_by, points_of, HasOwnIndexes, remaining_arcs, reduced_arcs, is_free, keeps_rings, guarded_by, CrossingsNeverRise, NoneStaysNone, FewerArcsLaw, Segment, segment, has_length, meets_badly, bad_pairs}
+use Rattle.elimination_meaning.proofs.Higher.{sub_length}
 use Rattle.guarded_meaning.proofs.Lists.{passed_says, filter_map, sub_right, sub_both, sub_passed}
 use Rattle.guarded_meaning.proofs.Free.{Avoids, avoids, met_before}
 use Rattle.guarded_meaning.proofs.Kept.{eliminate_keeps, points_numbered}
@@ -14,13 +15,8 @@ met s ss = length (filter (meets_badly s) ss)
 
 -- ---- fewer segments
 
-sub_shorter : {X : Type 0} {xs ys : List X} → Sublist xs ys → length xs ≤ length ys
-sub_shorter none = omega arith
-sub_shorter (keep s) = let h = sub_shorter s in omega (arith, h)
-sub_shorter (skip s) = let h = sub_shorter s in omega (arith, h)
-
 met_fewer : (s : Segment) {xs ys : List Segment} → Sublist xs ys → met s xs ≤ met s ys
-met_fewer s h = sub_shorter (sub_passed (meets_badly s) h)
+met_fewer s h = sub_length (sub_passed (meets_badly s) h)
 
 pairs_fewer : {xs ys : List Segment} → Sublist xs ys → bad_pairs xs ≤ bad_pairs ys
 pairs_fewer none = omega arith

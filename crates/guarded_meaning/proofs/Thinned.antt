@@ -1,7 +1,8 @@
 -- The arcs stay as many, each with its ends and without new positions, and no corner that is left may go.
 use Rattle.std.proofs.Common.{◌≡◌, ℕ, zero, suc, ◌+◌, ◌-◌, ◌<◌, ◌≤◌, true, List, [], ◌∷◌, ◌++◌, length, map, Option, Some, None, refl, ap, sym, ◌∙◌, subst, arith}
-use Rattle.guarded_meaning.proofs.Names.{length-append, AllByRecursion, filter, all_weaker, all_append, all_map, joined, map_some, Point, Holds, sub_same, sub_chain, sub_map, sub_filter, sub_all, Vertex, without, numbered, Sublist, none, keep, skip, HasOwnIndexes, ArcCorner, arc_corners, all_corners, left_by, points_of, first_corner, Guard, goes, next_arcs, eliminate_arcs, remaining_arcs, reduced_arcs, reduce_arcs, ThinnedLaw, ArcsRise, NoneGoes, EachTo, last_after, HasEndsOf, IsThinned}
+use Rattle.guarded_meaning.proofs.Names.{length-append, AllByRecursion, filter, all_weaker, all_append, all_map, joined, map_some, Point, Holds, sub_same, sub_chain, sub_map, sub_filter, Vertex, without, numbered, Sublist, HasOwnIndexes, ArcCorner, arc_corners, all_corners, left_by, points_of, first_corner, Guard, goes, next_arcs, eliminate_arcs, remaining_arcs, reduced_arcs, reduce_arcs, ThinnedLaw, ArcsRise, NoneGoes, EachTo, last_after, HasEndsOf, IsThinned}
 use Rattle.elimination_meaning.specs.Rising.{RisesTo, RisesOver}
+pub use Rattle.elimination_meaning.proofs.Rising.{AreRising, sub_rising, numbered_rising}
 use Rattle.guarded_meaning.proofs.Kept.{next_holds, eliminate_keeps, points_numbered}
 use Rattle.guarded_meaning.proofs.Removal.{IsTaken, all_taken, in_next_arc, later_arcs, own_indexes_left, all_numbered_own}
 use Rattle.guarded_meaning.proofs.Unguarded.{length_joined}
@@ -104,23 +105,6 @@ thinned_law guard t arcs = subst (EachTo IsThinned (points_of (remaining_arcs gu
     (each_map (λ v. v.point) (remaining_arcs guard t arcs) (map (numbered 0) arcs) (remaining_thinned guard t arcs))
 
 -- ---- indexes
-
-abbrev pub AreRising : List ℕ → Type 0
-AreRising [] = Unit {0}
-AreRising (i ∷ is) = AllByRecursion (λ j. i < j) is × AreRising is
-
-pub sub_rising : {is js : List ℕ} → Sublist is js → AreRising js → AreRising is
-sub_rising none h = h
-sub_rising (keep {x} s) h = (sub_all (λ j. x < j) s h.0, sub_rising s h.1)
-sub_rising (skip s) h = sub_rising s h.1
-
-numbered_over : (k i : ℕ) (ps : List Point) → k < i → AllByRecursion (λ j. k < j) (map (λ v. v.index) (numbered i ps))
-numbered_over k i [] h = tt
-numbered_over k i (p ∷ ps) h = (h, numbered_over k (i + 1) ps (omega (arith, h)))
-
-pub numbered_rising : (i : ℕ) (ps : List Point) → AreRising (map (λ v. v.index) (numbered i ps))
-numbered_rising i [] = tt
-numbered_rising i (p ∷ ps) = (numbered_over i (i + 1) ps (omega arith), numbered_rising (i + 1) ps)
 
 last_numbered : (i : ℕ) (ps : List Point) → last_after i (map (λ v. v.index) (numbered (i + 1) ps)) ≡ i + length ps
 last_numbered i [] = omega arith

@@ -1,17 +1,10 @@
 -- What stays at a threshold under a guard are the ends, what never goes, and what has a weight that isn't under it.
 use Rattle.std.proofs.Common.{◌≡◌, ℕ, zero, suc, ◌+◌, ◌<◌, ◌≤◌, max, Bool, true, false, not, ◌&&◌, ◌==◌, nat_lt, List, [], ◌∷◌, length, map, Option, Some, None, ◌⊎◌, inl, inr, refl, ap, sym, ◌∙◌, if◌then◌else◌, arith}
 use Rattle.guarded_meaning.proofs.Names.{and_parts, and_from, and_left, and_right, cases_lt, both_ways, ltb-true, lt-ltb, le-ltb, false_from_ne_true, nat_tests, filter_agree, filter, joined, Vertex, numbered, is_kept_at, ArcCorner, Place, place_at, is_place_of, without_at, left_by, Guard, goes_before, goes, next_corner, next_arcs, eliminate_arcs, KeptByWeight, weight_from, weight, passing}
+use Rattle.elimination_meaning.proofs.Weights.{filter_both, filter_all}
 use Rattle.guarded_meaning.proofs.First.{next_law, no_next_law, next_is, none_is_next}
 
 -- ---- those that pass
-
-filter_both : {X : Type 0} (p q r : X → Bool) → ((x : X) → r x ≡ (if q x then p x else false)) → (xs : List X) → filter p (filter q xs) ≡ filter r xs
-filter_both p q r f [] = refl
-filter_both p q r f (x ∷ xs) = grind (arith, filter_both p q r f xs)
-
-filter_all : {X : Type 0} (r : X → Bool) → ((x : X) → r x ≡ true) → (xs : List X) → filter r xs ≡ xs
-filter_all r f [] = refl
-filter_all r f (x ∷ xs) = ap (λ b. if b then x ∷ filter r xs else filter r xs) (f x) ∙ ap (λ l. x ∷ l) (filter_all r f xs)
 
 passing_both : (p q r : Place → Bool) → ((x : Place) → r x ≡ (if q x then p x else false)) → (k : ℕ) (arcs : List (List Vertex)) → passing p k (passing q k arcs) ≡ passing r k arcs
 passing_both p q r f k [] = refl

@@ -1,5 +1,5 @@
 -- What is said of a fault: its code, its name, and the numbers that it has.
-use Rattle.std.specs.Prelude.{ℕ, List, codes, Option, None, Some}
+use Rattle.std.specs.Prelude.{ℕ, List, codes, Option, None, Some, option_map}
 use Rattle.byte_ends.specs.declared.source.ReadFault.{ReadFault}
 use Rattle.byte_ends.specs.declared.source.ReadFault.TheVariants as read
 use Rattle.json_reading.specs.declared.fault.JsonFault.{JsonFault}
@@ -10,140 +10,74 @@ use Rattle.inputs.specs.declared.fault.BuildFault.{BuildFault}
 use Rattle.inputs.specs.declared.fault.BuildFault.TheVariants as build
 use Rattle.inputs.specs.declared.file_fault.FileFault.{FileFault}
 use Rattle.inputs.specs.declared.file_fault.FileFault.TheVariants as file
+use Rattle.reports.specs.declared.fault_members.FaultMembers.{FaultMembers}
 use Rattle.reports.specs.declared.run_report.RunFault.{RunFault}
 use Rattle.reports.specs.declared.run_report.RunFault.TheVariants.{Words, Build, File, Memory}
 
--- ---- a file that isn't read to its end, or is no JSON text
+-- what is said of a fault
+pub record Said : Type 0 where
+  -- the code, as the fault's line has it, but for a fault that has none
+  pub code : Option (List ℕ)
+  -- the name, as the fault's line has it, or the words of a fault that has neither
+  pub name : List ℕ
+  -- the number of the layer that the fault is in, if any
+  pub layer : Option ℕ
+  -- the number of the feature that the fault is in, if any
+  pub feature : Option ℕ
+  -- how many bytes in front of the input are UTF-8, where not all are
+  pub at : Option ℕ
+  -- how many bytes of the output were taken, where writing failed
+  pub sent : Option ℕ
 
-abbrev pub read_code : ReadFault → List ℕ
-read_code read.Read = codes "F1"
-read_code read.TooLong = codes "F2"
-read_code read.Memory = codes "F3"
+-- that in code
+abbrev pub said_by : FaultMembers → Said
+said_by m = record { code = option_map (λ c. c.now) m.code; name = m.name.now; layer = m.layer; feature = m.feature; at = m.at; sent = m.sent }
 
-abbrev pub read_name : ReadFault → List ℕ
-read_name read.Read = codes "Read"
-read_name read.TooLong = codes "TooLong"
-read_name read.Memory = codes "Memory"
+abbrev pub without_numbers : Option (List ℕ) → List ℕ → Said
+without_numbers code name = record { code = code; name = name; layer = None; feature = None; at = None; sent = None }
 
-abbrev pub json_code : JsonFault → List ℕ
-json_code (json.NotUtf8 at) = codes "J1"
-json_code (json.Malformed at why) = codes "J2"
-json_code json.Memory = codes "J3"
+abbrev pub plain : List ℕ → List ℕ → Said
+plain code name = without_numbers (Some code) name
 
-abbrev pub json_name : JsonFault → List ℕ
-json_name (json.NotUtf8 at) = codes "NotUtf8"
-json_name (json.Malformed at why) = codes "Malformed"
-json_name json.Memory = codes "Memory"
+abbrev pub in_layer : ℕ → Said → Said
+in_layer layer s = record s { layer = Some layer }
 
--- how many bytes in front are UTF-8, where not all are
-abbrev pub json_at : JsonFault → Option ℕ
-json_at (json.NotUtf8 at) = Some at
-json_at (json.Malformed at why) = None
-json_at json.Memory = None
+-- ---- each fault
 
--- ---- a build
+-- of a file that isn't read to its end
+abbrev pub of_read : ReadFault → Said
+of_read read.Read = plain (codes "F1") (codes "Read")
+of_read read.TooLong = plain (codes "F2") (codes "TooLong")
+of_read read.Memory = plain (codes "F3") (codes "Memory")
 
-abbrev pub build_code : BuildFault → List ℕ
-build_code (build.EmptyName layer) = codes "B1"
-build_code (build.DuplicateName layer) = codes "B2"
-build_code (build.Read layer fault) = read_code fault
-build_code (build.Json layer fault) = json_code fault
-build_code (build.Geo layer fault) = geo.code fault.kind
-build_code (build.Write sent) = codes "B6"
-build_code build.Memory = codes "B7"
+-- of a file that is no JSON text
+abbrev pub of_json : JsonFault → Said
+of_json (json.NotUtf8 at) = record (plain (codes "J1") (codes "NotUtf8")) { at = Some at }
+of_json (json.Malformed at why) = plain (codes "J2") (codes "Malformed")
+of_json json.Memory = plain (codes "J3") (codes "Memory")
 
-abbrev pub build_name : BuildFault → List ℕ
-build_name (build.EmptyName layer) = codes "EmptyName"
-build_name (build.DuplicateName layer) = codes "DuplicateName"
-build_name (build.Read layer fault) = read_name fault
-build_name (build.Json layer fault) = json_name fault
-build_name (build.Geo layer fault) = geo.name fault.kind
-build_name (build.Write sent) = codes "Write"
-build_name build.Memory = codes "Memory"
+-- of a build
+abbrev pub of_build : BuildFault → Said
+of_build (build.EmptyName layer) = in_layer layer (plain (codes "B1") (codes "EmptyName"))
+of_build (build.DuplicateName layer) = in_layer layer (plain (codes "B2") (codes "DuplicateName"))
+of_build (build.Read layer fault) = in_layer layer (of_read fault)
+of_build (build.Json layer fault) = in_layer layer (of_json fault)
+of_build (build.Geo layer fault) = in_layer layer (record (plain (geo.code fault.kind) (geo.name fault.kind)) { feature = fault.feature })
+of_build (build.Write sent) = record (plain (codes "B6") (codes "Write")) { sent = Some sent }
+of_build build.Memory = plain (codes "B7") (codes "Memory")
 
--- the number of the layer that the fault is in, if any
-abbrev pub build_layer : BuildFault → Option ℕ
-build_layer (build.EmptyName layer) = Some layer
-build_layer (build.DuplicateName layer) = Some layer
-build_layer (build.Read layer fault) = Some layer
-build_layer (build.Json layer fault) = Some layer
-build_layer (build.Geo layer fault) = Some layer
-build_layer (build.Write sent) = None
-build_layer build.Memory = None
+-- of the file of a topology
+abbrev pub of_file : FileFault → Said
+of_file (file.Read fault) = of_read fault
+of_file (file.Json fault) = of_json fault
+of_file (file.Topo fault) = plain (topo.code fault) (topo.name fault)
+of_file file.NoObject = plain (codes "E4") (codes "NoObject")
+of_file (file.Write sent) = record (plain (codes "E5") (codes "Write")) { sent = Some sent }
+of_file file.Memory = plain (codes "E6") (codes "Memory")
 
--- the number of the feature that the fault is in, if any
-abbrev pub build_feature : BuildFault → Option ℕ
-build_feature (build.Geo layer fault) = fault.feature
-build_feature fault = None
-
--- ---- the file of a topology
-
-abbrev pub file_code : FileFault → List ℕ
-file_code (file.Read fault) = read_code fault
-file_code (file.Json fault) = json_code fault
-file_code (file.Topo fault) = topo.code fault
-file_code file.NoObject = codes "E4"
-file_code (file.Write sent) = codes "E5"
-file_code file.Memory = codes "E6"
-
-abbrev pub file_name : FileFault → List ℕ
-file_name (file.Read fault) = read_name fault
-file_name (file.Json fault) = json_name fault
-file_name (file.Topo fault) = topo.name fault
-file_name file.NoObject = codes "NoObject"
-file_name (file.Write sent) = codes "Write"
-file_name file.Memory = codes "Memory"
-
--- ---- a run
-
--- the code, as the fault's line has it, but for a fault that has none
-abbrev pub code : RunFault → Option (List ℕ)
-code (Words words) = None
-code (Build fault) = Some (build_code fault.now)
-code (File fault) = Some (file_code fault.now)
-code Memory = None
-
--- the name, as the fault's line has it, or the words of a fault that has neither
-abbrev pub name : RunFault → List ℕ
-name (Words words) = words.now
-name (Build fault) = build_name fault.now
-name (File fault) = file_name fault.now
-name Memory = codes "Memory"
-
--- the number of the layer that the fault is in, if any
-abbrev pub layer : RunFault → Option ℕ
-layer (Build fault) = build_layer fault.now
-layer fault = None
-
--- the number of the feature that the fault is in, if any
-abbrev pub feature : RunFault → Option ℕ
-feature (Build fault) = build_feature fault.now
-feature fault = None
-
-abbrev pub build_at : BuildFault → Option ℕ
-build_at (build.Json layer fault) = json_at fault
-build_at fault = None
-
-abbrev pub file_at : FileFault → Option ℕ
-file_at (file.Json fault) = json_at fault
-file_at fault = None
-
--- how many bytes in front of the input are UTF-8, where not all are
-abbrev pub at : RunFault → Option ℕ
-at (Build fault) = build_at fault.now
-at (File fault) = file_at fault.now
-at fault = None
-
-abbrev pub build_sent : BuildFault → Option ℕ
-build_sent (build.Write sent) = Some sent
-build_sent fault = None
-
-abbrev pub file_sent : FileFault → Option ℕ
-file_sent (file.Write sent) = Some sent
-file_sent fault = None
-
--- how many bytes of the output were taken, where writing failed
-abbrev pub sent : RunFault → Option ℕ
-sent (Build fault) = build_sent fault.now
-sent (File fault) = file_sent fault.now
-sent fault = None
+-- of a run
+abbrev pub said : RunFault → Said
+said (Words words) = without_numbers None words.now
+said (Build fault) = of_build fault.now
+said (File fault) = of_file fault.now
+said Memory = without_numbers None (codes "Memory")

@@ -1,6 +1,7 @@
 -- What is built of layers at zero and then reduced at once is what is assembled of them.
 use Rattle.std.proofs.Common.{◌≡◌, ℕ, suc, ◌+◌, ◌-◌, ◌≤◌, Bool, true, false, cond, List, [], ◌∷◌, map, length, Option, None, Some, refl, sym, ap, ◌∙◌, subst, arith}
 use Rattle.simplified_topology.proofs.Names.{AllByRecursion, or_empty, first_of, last_of, tail, Point, Axes, cell, linework, placed_arcs, Contents, objects_lines_and_rings, TopoObject, sub_all, numbered, NoneIsNew, ZeroLaw, reduce_arcs, guarded_by, ArcsRise, all_clean, AllUsed, all_used, arcs_long, each_stays, untrimmed, built, positions_of, AreSound, is_used, keep_from, line_renumbered, trimmed, arcs_of_layers, assembled, assembled_removed_count, celled, LiesBack, transform_of, all_indexes, spread, arc_positions, guarded_indexes, guarded_contents, guarded_removed_count, guarded_arc_indexes, TrimmedFirstIsAlike, GuardedIsAssembled, GuardedArcIndexesReach, AreOn, named_points, quantized, retained, retained_arcs, retained_whole, large_refs, objects_pruned, simplified_by, removed_count_by, FromFirstToLast, EachFromFirstToLast}
+use Rattle.elimination_meaning.proofs.Steps.{numbered_points}
 use Rattle.build_meaning.specs.Layers.{Named, layers_of}
 use Rattle.simplified_topology.proofs.Again.{trimmed_again}
 use Rattle.simplified_topology.proofs.BuiltCells.{built_cells}
@@ -12,12 +13,8 @@ use Rattle.simplified_topology.proofs.Simplified.{objects_same, left_used}
 
 -- ---- all numbers
 
-points_stay : (i : ℕ) (ps : List Point) → map (λ v. v.point) (numbered i ps) ≡ ps
-points_stay i [] = refl
-points_stay i (p ∷ ps) = ap (λ qs. p ∷ qs) (points_stay (i + 1) ps)
-
 pub all_retained : (ps : List Point) → retained (all_indexes ps) ps ≡ ps
-all_retained ps = points_retained ps (numbered 0 ps) (all_stand ps) ∙ points_stay 0 ps
+all_retained ps = points_retained ps (numbered 0 ps) (all_stand ps) ∙ numbered_points 0 ps
 
 last_index : (i : ℕ) (p : Point) (ps : List Point) → last_of (map (λ v. v.index) (numbered i (p ∷ ps))) ≡ Some (i + length ps)
 last_index i p [] = ap Some (omega arith)

@@ -3,16 +3,10 @@ use Rattle.std.proofs.Common.{◌≡◌, ℕ, ℤ, Bool, List, [], ◌∷◌, ma
 use Rattle.simplified_topology.proofs.Names.{map-map, AllByRecursion, all_of_map, all_two, all_weaker, joined, map_some, Point, option_lines_and_rings, Featured, Axes, cell, linework, Contents, TopoFeature, NoneIsNew, ZeroLaw, ArcsRise, RingsStay, EachTo, AllUsed, all_used, each_stays, loses_nothing, kept_refs, untrimmed, built, AreSound, feature_by, is_used, keep_from, line_renumbered, renumbered, trimmed, arcs_of_layers, feature_celled, object_celled, celled, LiesBack, all_features, transform_of, arc_positions, greatest_ring, protected_of, protecting_contents, protecting_reduced, HasRing, ring_refs, protecting_arc_indexes, assembled_sparing, greatest_rings, BuiltFeaturesHaveRings, LayersShapesStay, AreOn, IsOn, quantized, feature_pruned, object_pruned}
 use Rattle.build_meaning.specs.Layers.{Named, layers_of}
 use Rattle.simplified_topology.proofs.OnGrid.{all_lie, built_on}
-use Rattle.simplified_topology.proofs.Protected.{features_over, each_of_objects, shapes_stay}
+use Rattle.simplified_topology.proofs.Protected.{each_to_made, features_over, each_of_objects, shapes_stay}
 use Rattle.simplified_topology.proofs.ProtectedLayers.{IsWholeFeature, ring_of_layer, features_of_layers, each_layer, is_assembled}
 use Rattle.simplified_topology.proofs.RingsAlike.{pruned_features, ring_alike, ring_celled, celled_features}
 use Rattle.simplified_topology.proofs.SparedAlike.{positions_alike, placed_same}
-
--- ---- lists
-
-each_made : {A B : Type 0} (R : B → A → Type 0) (make : A → B) (xs : List A) → AllByRecursion (λ x. R (make x) x) xs → EachTo R (map make xs) xs
-each_made R make [] h = tt
-each_made R make (x ∷ xs) h = (h.0, each_made R make xs h.1)
 
 each_further : {A B C : Type 0} (R : B → A → Type 0) (S : C → A → Type 0) (make : B → C) → ((b : B) (a : A) → R b a → S (make b) a) → (ys : List B) (xs : List A) → EachTo R ys xs → EachTo S (map make ys) xs
 each_further R S make f [] [] h = tt
@@ -76,7 +70,7 @@ module _ (zero : ZeroLaw) (ls : Named) (sound : AreSound ls) where
   built_have =
       subst (λ fs. EachTo (RingOf (arc_positions (built 0 0 ls))) fs features) (sym features_are)
       (subst (λ arcs. EachTo (RingOf arcs) (map by_new_refs features) features) (sym positions_are)
-      (each_made (RingOf (keep_from used 0 (arcs_of_layers ls))) by_new_refs features
+      (each_to_made (RingOf (keep_from used 0 (arcs_of_layers ls))) by_new_refs features
       (all_two IsUsed (IsWholeFeature ls) (λ f. RingOf (keep_from used 0 (arcs_of_layers ls)) (by_new_refs f) f) has_ring features each_used (each_layer ls ls (loses_nothing zero ls sound)))))
 
   -- ---- on a grid

@@ -161,7 +161,7 @@ all_giving {B = B} Y g (x ∷ xs) h = on (g x) refl h (all_giving Y g xs)
     on None e k f = ((λ b d. let z : None ≡ Some b = sym e ∙ d in cc), f k)
     on (Some c) e k f = ((λ b d. subst Y (same c b (sym e ∙ d)) k.0), f k.1)
 
-each_to_made : {A B : Type 0} (R : B → A → Type 0) (g : A → B) (xs : List A) → AllByRecursion (λ x. R (g x) x) xs → EachTo R (map g xs) xs
+pub each_to_made : {A B : Type 0} (R : B → A → Type 0) (g : A → B) (xs : List A) → AllByRecursion (λ x. R (g x) x) xs → EachTo R (map g xs) xs
 each_to_made R g [] h = tt
 each_to_made R g (x ∷ xs) h = (h.0, each_to_made R g xs h.1)
 

@@ -1,6 +1,6 @@
 -- What is built of layers at zero and then reduced at once, where of each feature the ring that encloses most is protected, is what is
 -- assembled of them.
-use Rattle.std.proofs.Common.{arith, ◌≡◌, ℕ, ◌≤◌, ℤ, Bool, true, false, cond, List, [], ◌∷◌, ◌++◌, map, length, Option, None, Some, refl, sym, ap, ◌∙◌, subst}
+use Rattle.std.proofs.Common.{arith, ◌≡◌, ℕ, ◌≤◌, ℤ, Bool, true, false, cond, List, [], ◌∷◌, ◌++◌, map, length, Option, None, Some, refl, sym, ap, ◌∙◌, subst, map-id}
 use Rattle.simplified_topology.proofs.Names.{map-append, AllByRecursion, all_append, all_left, all_right, all_two, all_weaker, agreed, joined, map_some, then_some, some_of, Point, prune, lines_and_rings, option_lines_and_rings, Collapsed, Shape, Featured, clean, is_short, Stroke, linework, TopoShape, Contents, object_features, TopoFeature, TopoObject, Many, sub_all, EndsStay, NoneIsNew, ZeroLaw, reduce_arcs, is_long, guarded_by, ArcsRise, Line, untrimmed_is_valid, each_stays, loses_nothing, kept_refs, untrimmed, built, unless, AreSound, feature_by, features_by, objects_by}
 use Rattle.simplified_topology.proofs.Names.{is_used, keep_from, renumbered, trimmed, arcs_of_layers, own_refs, EachCell, arc_positions, spread, marked, enclosed, greatest_ring, protected_of, protected_rings, MarkedRefs, sparing, shape_marked, feature_spared, objects_spared, spared_by, spared_removed_count, protecting_indexes, protecting_contents, protecting_removed_count, drafted_refs, greatest_of_layers, ring_refs, layers_rings, layer_shape_marked, protecting_arc_indexes, unprotected_refs, feature_sparing, assembled_sparing, assembled_sparing_removed_count, greatest_rings, SparingIsOfLayers, BuiltRingsAreOfLayers, ProtectingArcIndexesAreOfLayers, ProtectingIsAssembled, ProtectingArcIndexesReach, AssembledSparingIsValid, AssembledSparingIsOn, IsOn, named_points, quantized, small_cause, large_refs, retained_arcs, EachFromFirstToLast}
 use Rattle.build_meaning.specs.Layers.{Named, layers_of, features_lines_and_rings, named_lines_and_rings}
@@ -10,7 +10,7 @@ use Rattle.simplified_topology.proofs.GuardedLayers.{spread_through, layers_long
 use Rattle.simplified_topology.proofs.MarkedRing.{MarkPasses, marks_pass}
 use Rattle.simplified_topology.proofs.Marks.{without_mark}
 use Rattle.simplified_topology.proofs.OnGrid.{built_on}
-use Rattle.simplified_topology.proofs.RingsAlike.{as_they_are, as_it_is, all_marked, rings_made}
+use Rattle.simplified_topology.proofs.RingsAlike.{as_it_is, all_marked, rings_made}
 use Rattle.simplified_topology.proofs.ShapesLeft.{keeping_mark}
 use Rattle.simplified_topology.proofs.Simplified.{IsWholeAtZero, no_small}
 use Rattle.simplified_topology.proofs.SparedAlike.{trimmed_rings, trimmed_first, protecting_on_grid}
@@ -109,7 +109,7 @@ module _ (ls : Named) where
       ∙ rings_made (ring_refs ls) (protected_of (greatest_ring arcs)) (λ refs. refs) (feature_by refs_at_zero) fs
       (all_weaker IsWholeFeature (λ f. protected_of (greatest_ring arcs) (feature_by refs_at_zero f) ≡ map_some (λ refs. refs) (ring_refs ls f))
       (λ f h. ring_of_layer f.shape h ∙ sym (as_it_is (ring_refs ls f))) fs (each_layer ls whole))
-      ∙ as_they_are (layers_rings ls)
+      ∙ map-id (layers_rings ls)
 
   -- ---- what is left
 

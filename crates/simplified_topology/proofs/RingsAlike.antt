@@ -1,6 +1,6 @@
 -- The protected rings of a topology, and what is left where they are, before arcs are left out or cells are put in place of positions and
 -- after.
-use Rattle.std.proofs.Common.{◌≡◌, ℕ, ℤ, Bool, true, false, not, List, [], ◌∷◌, map, Option, None, Some, refl, sym, ap, ◌∙◌, subst}
+use Rattle.std.proofs.Common.{◌≡◌, ℕ, ℤ, Bool, true, false, not, List, [], ◌∷◌, map, Option, None, Some, refl, sym, ap, ◌∙◌, subst, map-id}
 use Rattle.simplified_topology.proofs.Names.{map-map, AllByRecursion, all_left, all_right, all_of_map, all_weaker, agreed, composed, twice_ring_area, stitched, map_some, then_some, with_some, some_of, joined, Placed, Point, prune, lines_and_rings, option_lines_and_rings, Geometry, clean, is_short, TopoShape, object_features, features_lines_and_rings, objects_lines_and_rings, TopoFeature, TopoObject, One, Many, is_long, AllUsed, all_renumbered, keep_from, renumbered, line_renumbered, feature_celled, object_celled, objects_celled, marked, enclosed, greatest_ring, protected_of, protected_rings, MarkedRefs, sparing, shape_marked, feature_spared, object_spared, objects_spared, Refs, large_refs, feature_pruned, object_pruned, objects_pruned}
 use Rattle.simplified_topology.proofs.Again.{all_hold}
 use Rattle.simplified_topology.proofs.GreatestLeft.{way_of, ring_in, RingAgrees, ring_left, spared_left}
@@ -11,10 +11,6 @@ use Rattle.simplified_topology.proofs.Simplified.{refs_same}
 
 pub same_some : {X : Type 0} (a b : X) → Some a ≡ Some b → a ≡ b
 same_some a b e = cc
-
-pub as_they_are : {X : Type 0} (xs : List X) → map (λ x. x) xs ≡ xs
-as_they_are [] = refl
-as_they_are (x ∷ xs) = ap (λ ys. x ∷ ys) (as_they_are xs)
 
 pub as_it_is : {X : Type 0} (o : Option X) → map_some (λ x. x) o ≡ o
 as_it_is None = refl
@@ -225,7 +221,7 @@ module _ (cell : Point → Point) (arcs : List (List Point)) where
       ∙ rings_made (protected_of (greatest_ring arcs)) (protected_of (greatest_ring arcs)) (λ refs. refs) (feature_celled cell) (joined (map (λ o. object_features o.1) os))
       (all_hold (λ f. protected_of (greatest_ring arcs) (feature_celled cell f) ≡ map_some (λ refs. refs) (protected_of (greatest_ring arcs) f))
       (λ f. ring_celled f.shape ∙ sym (as_it_is (protected_of (greatest_ring arcs) f))) (joined (map (λ o. object_features o.1) os)))
-      ∙ as_they_are (protected_rings (greatest_ring arcs) os)
+      ∙ map-id (protected_rings (greatest_ring arcs) os)
 
   module _ (left : MarkedRefs) where
     shape_celled : (s : Option TopoShape) → then_some (λ t. prune (λ (p : Point). p) left (shape_marked (greatest_ring arcs) t)) (then_some (prune cell same_refs) s)

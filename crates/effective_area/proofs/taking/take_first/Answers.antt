@@ -1,4 +1,4 @@
-use Rattle.std.proofs.Common.{◌++◌, arith, refl}
+use Rattle.std.proofs.Common.{◌++◌, arith, rules, refl}
 use Rattle.std.specs.BinaryHeap.{heap_items}
 use Rattle.effective_area.proofs.Counts.{by_none, turn_counted}
 use Rattle.effective_area.proofs.Queues.{pushed_after}
@@ -34,45 +34,35 @@ note_area-requires-clause-fits c = grind (arith, turn_fits)
 pub note_area-requires-2-clause-fits : goal.note_area-requires-2-clause-fits
 note_area-requires-2-clause-fits c = grind (arith, turn_fits, unlinks_on)
 
-pub push_first-requires-clause-inner : goal.push_first-requires-clause-inner
-push_first-requires-clause-inner c =
+pub push_first-requires : goal.push_first-requires
+push_first-requires c =
     let s = c.requires.state in
     let h = s.2.sound c.in-Some.entry (c.in-Some.ensures.left.member c.in-Some.entry refl) in
     let r = new_ready c.args.t c.args.arc.now c.args.links.now c.note_area-2.new.links (c.args.sorted.now.items ++ heap_items c.args.heap.now) (c.pop_current.new.sorted.items ++ heap_items c.pop_current.new.heap) s.0 s.1 c.in-Some.entry c.ahead-first.result c.following-last.result s.2 c.in-Some.ensures.left c.in-Some.ensures.current
     (unlinks_on c.args.arc.now c.args.links.now c.note_area.new.links c.note_area-2.new.links c.in-Some.entry.before c.in-Some.entry.corner.index c.in-Some.entry.after c.in-Some.entry.after (unlinks_on c.args.arc.now c.args.links.now c.unlink.new.links c.note_area.new.links c.in-Some.entry.before c.in-Some.entry.corner.index c.in-Some.entry.after c.in-Some.entry.before c.unlink.ensures.links c.note_area.ensures.cached) c.note_area-2.ensures.cached)
     (renews c.args.arc.now c.args.links.now c.unlink.new.links c.note_area.new.links c.note_area-2.new.links c.in-Some.entry.before c.in-Some.entry.after (omega (arith, h.before, h.after)) c.unlink.ensures.areas c.note_area.ensures.cached c.note_area-2.ensures.cached)
     c.ahead-first.ensures.first c.ahead-first.ensures.inside c.following-last.ensures.last c.following-last.ensures.inside in
-    r.before
+    record {
+      inner = r.before;
+      outer = r.ahead;
+      size = search rules;
+      order = search rules;
+    }
 
-pub push_first-requires-clause-outer : goal.push_first-requires-clause-outer
-push_first-requires-clause-outer c =
+pub push_first-requires-2 : goal.push_first-requires-2
+push_first-requires-2 c =
     let s = c.requires.state in
     let h = s.2.sound c.in-Some.entry (c.in-Some.ensures.left.member c.in-Some.entry refl) in
     let r = new_ready c.args.t c.args.arc.now c.args.links.now c.note_area-2.new.links (c.args.sorted.now.items ++ heap_items c.args.heap.now) (c.pop_current.new.sorted.items ++ heap_items c.pop_current.new.heap) s.0 s.1 c.in-Some.entry c.ahead-first.result c.following-last.result s.2 c.in-Some.ensures.left c.in-Some.ensures.current
     (unlinks_on c.args.arc.now c.args.links.now c.note_area.new.links c.note_area-2.new.links c.in-Some.entry.before c.in-Some.entry.corner.index c.in-Some.entry.after c.in-Some.entry.after (unlinks_on c.args.arc.now c.args.links.now c.unlink.new.links c.note_area.new.links c.in-Some.entry.before c.in-Some.entry.corner.index c.in-Some.entry.after c.in-Some.entry.before c.unlink.ensures.links c.note_area.ensures.cached) c.note_area-2.ensures.cached)
     (renews c.args.arc.now c.args.links.now c.unlink.new.links c.note_area.new.links c.note_area-2.new.links c.in-Some.entry.before c.in-Some.entry.after (omega (arith, h.before, h.after)) c.unlink.ensures.areas c.note_area.ensures.cached c.note_area-2.ensures.cached)
     c.ahead-first.ensures.first c.ahead-first.ensures.inside c.following-last.ensures.last c.following-last.ensures.inside in
-    r.ahead
-
-pub push_first-requires-2-clause-inner : goal.push_first-requires-2-clause-inner
-push_first-requires-2-clause-inner c =
-    let s = c.requires.state in
-    let h = s.2.sound c.in-Some.entry (c.in-Some.ensures.left.member c.in-Some.entry refl) in
-    let r = new_ready c.args.t c.args.arc.now c.args.links.now c.note_area-2.new.links (c.args.sorted.now.items ++ heap_items c.args.heap.now) (c.pop_current.new.sorted.items ++ heap_items c.pop_current.new.heap) s.0 s.1 c.in-Some.entry c.ahead-first.result c.following-last.result s.2 c.in-Some.ensures.left c.in-Some.ensures.current
-    (unlinks_on c.args.arc.now c.args.links.now c.note_area.new.links c.note_area-2.new.links c.in-Some.entry.before c.in-Some.entry.corner.index c.in-Some.entry.after c.in-Some.entry.after (unlinks_on c.args.arc.now c.args.links.now c.unlink.new.links c.note_area.new.links c.in-Some.entry.before c.in-Some.entry.corner.index c.in-Some.entry.after c.in-Some.entry.before c.unlink.ensures.links c.note_area.ensures.cached) c.note_area-2.ensures.cached)
-    (renews c.args.arc.now c.args.links.now c.unlink.new.links c.note_area.new.links c.note_area-2.new.links c.in-Some.entry.before c.in-Some.entry.after (omega (arith, h.before, h.after)) c.unlink.ensures.areas c.note_area.ensures.cached c.note_area-2.ensures.cached)
-    c.ahead-first.ensures.first c.ahead-first.ensures.inside c.following-last.ensures.last c.following-last.ensures.inside in
-    r.after
-
-pub push_first-requires-2-clause-outer : goal.push_first-requires-2-clause-outer
-push_first-requires-2-clause-outer c =
-    let s = c.requires.state in
-    let h = s.2.sound c.in-Some.entry (c.in-Some.ensures.left.member c.in-Some.entry refl) in
-    let r = new_ready c.args.t c.args.arc.now c.args.links.now c.note_area-2.new.links (c.args.sorted.now.items ++ heap_items c.args.heap.now) (c.pop_current.new.sorted.items ++ heap_items c.pop_current.new.heap) s.0 s.1 c.in-Some.entry c.ahead-first.result c.following-last.result s.2 c.in-Some.ensures.left c.in-Some.ensures.current
-    (unlinks_on c.args.arc.now c.args.links.now c.note_area.new.links c.note_area-2.new.links c.in-Some.entry.before c.in-Some.entry.corner.index c.in-Some.entry.after c.in-Some.entry.after (unlinks_on c.args.arc.now c.args.links.now c.unlink.new.links c.note_area.new.links c.in-Some.entry.before c.in-Some.entry.corner.index c.in-Some.entry.after c.in-Some.entry.before c.unlink.ensures.links c.note_area.ensures.cached) c.note_area-2.ensures.cached)
-    (renews c.args.arc.now c.args.links.now c.unlink.new.links c.note_area.new.links c.note_area-2.new.links c.in-Some.entry.before c.in-Some.entry.after (omega (arith, h.before, h.after)) c.unlink.ensures.areas c.note_area.ensures.cached c.note_area-2.ensures.cached)
-    c.ahead-first.ensures.first c.ahead-first.ensures.inside c.following-last.ensures.last c.following-last.ensures.inside in
-    r.following
+    record {
+      inner = r.after;
+      outer = r.following;
+      size = search rules;
+      order = search rules;
+    }
 
 pub returns-clause-taken : goal.returns-clause-taken
 returns-clause-taken c left vs s =

@@ -1,5 +1,5 @@
 -- Segments that don't meet badly, since they lie apart.
-use Rattle.std.proofs.Common.{◌≡◌, true, ◌&&◌, ℤ, pos, ◌-ℤ◌, ◌*ℤ◌, ◌+ℤ◌, ◌<ℤ◌, ◌≤ℤ◌, ◌⊎◌, inl, inr, ap, refl, arith}
+use Rattle.std.proofs.Common.{◌≡◌, true, ◌&&◌, ℤ, pos, ◌-ℤ◌, ◌*ℤ◌, ◌+ℤ◌, ◌<ℤ◌, ◌≤ℤ◌, ◌⊎◌, inl, inr, ap, arith}
 use Rattle.std.proofs.lemmas.Int.{ints}
 use Rattle.std.proofs.lemmas.Bool.{and_parts, or_cases, or_left}
 use Rattle.geometry.specs.Areas.{cross}
@@ -67,7 +67,7 @@ module _ (a b c d : Point) where
 
 -- ---- two segments, of which one is beyond the other
 
-pub same_says : (s t : Segment) → same_ends s t ≡ true → ((s.from ≡ t.from) × (s.to ≡ t.to)) ⊎ ((s.from ≡ t.to) × (s.to ≡ t.from))
+same_says : (s t : Segment) → same_ends s t ≡ true → ((s.from ≡ t.from) × (s.to ≡ t.to)) ⊎ ((s.from ≡ t.to) × (s.to ≡ t.from))
 unfolding same_ends
 same_says s t h = on (or_cases (same s.from t.from && same s.to t.to) (same s.from t.to && same s.to t.from) h)
   where
@@ -83,105 +83,62 @@ on_triangle a b q h = or_left (is_on a b q) _ h
 in_box : (a b q : Point) → touches a b q ≡ true → IsInBox a a b q
 in_box a b q h = box_law a a b q (on_triangle a b q (touches_says a b q h).0)
 
-module _ (s t : Segment) where
-  abbrev Left : Type 0
-  Left = (s.from.x <ℤ t.from.x) × (s.from.x <ℤ t.to.x) × (s.to.x <ℤ t.from.x) × (s.to.x <ℤ t.to.x)
+-- two segments that neither are one, nor cross, nor touch don't meet badly
+pub never : (s t : Segment) → (((s.from ≡ t.from) × (s.to ≡ t.to)) ⊎ ((s.from ≡ t.to) × (s.to ≡ t.from)) → ⊥) → (Parted s.from s.to t.from t.to → Parted t.from t.to s.from s.to → ⊥)
+    → ((touches s.from s.to t.from ≡ true) ⊎ (touches s.from s.to t.to ≡ true) → ⊥) → ((touches t.from t.to s.from ≡ true) ⊎ (touches t.from t.to s.to ≡ true) → ⊥) → meets_badly s t ≡ true → ⊥
+never s t no_same no_cross no_touch no_touch_by b = on (bad_says s t b)
+  where
+    on : (same_ends s t ≡ true) ⊎ ((crosses s t ≡ true) ⊎ ((is_touched s t ≡ true) ⊎ (is_touched t s ≡ true))) → ⊥
+    on (inl k) = no_same (same_says s t k)
+    on (inr (inl k)) = let m = crosses_says s.from s.to t.from t.to k in no_cross m.0 m.1
+    on (inr (inr (inl k))) = no_touch (or_cases (touches s.from s.to t.from) (touches s.from s.to t.to) k)
+    on (inr (inr (inr k))) = no_touch_by (or_cases (touches t.from t.to s.from) (touches t.from t.to s.to) k)
 
-  abbrev Below : Type 0
-  Below = (s.from.y <ℤ t.from.y) × (s.from.y <ℤ t.to.y) × (s.to.y <ℤ t.from.y) × (s.to.y <ℤ t.to.y)
+-- a coordinate, by which what lies on a segment is between its ends
+record Axis : Type 0 where
+  along : Point → ℤ
+  low : (a b q : Point) → touches a b q ≡ true → (k : ℤ) → (k ≤ℤ along a) → (k ≤ℤ along b) → (k ≤ℤ along q)
+  high : (a b q : Point) → touches a b q ≡ true → (k : ℤ) → (along a ≤ℤ k) → (along b ≤ℤ k) → (along q ≤ℤ k)
+  uncrossed : (a b c d : Point) → Parted a b c d → Parted c d a b → (along a <ℤ along d) → (along b <ℤ along d) → (along d ≤ℤ along c) → ⊥
 
-  left_crosses : Left → Parted s.from s.to t.from t.to → Parted t.from t.to s.from s.to → ⊥
-  left_crosses h p q = on (below_or t.from.x t.to.x)
+module _ (axis : Axis) (s t : Segment) where
+  abbrev Before : Type 0
+  Before = (axis.along s.from <ℤ axis.along t.from) × (axis.along s.from <ℤ axis.along t.to) × (axis.along s.to <ℤ axis.along t.from) × (axis.along s.to <ℤ axis.along t.to)
+
+  before_same : Before → ((s.from ≡ t.from) × (s.to ≡ t.to)) ⊎ ((s.from ≡ t.to) × (s.to ≡ t.from)) → ⊥
+  before_same h (inl e) = let x = ap axis.along e.0 in omega (arith, ints, x, h.0)
+  before_same h (inr e) = let x = ap axis.along e.0 in omega (arith, ints, x, h.1)
+
+  before_crosses : Before → Parted s.from s.to t.from t.to → Parted t.from t.to s.from s.to → ⊥
+  before_crosses h p q = on (below_or (axis.along t.from) (axis.along t.to))
     where
-      on : ((t.from.x <ℤ t.to.x) ⊎ (t.to.x ≤ℤ t.from.x)) → ⊥
-      on (inl k) = not_across s.from s.to t.to t.from (others_turned s.from s.to t.from t.to p) (line_turned t.from t.to s.from s.to q) h.0 h.2 (omega (arith, ints, k))
-      on (inr k) = not_across s.from s.to t.from t.to p q h.1 h.3 k
+      on : ((axis.along t.from <ℤ axis.along t.to) ⊎ (axis.along t.to ≤ℤ axis.along t.from)) → ⊥
+      on (inl k) = axis.uncrossed s.from s.to t.to t.from (others_turned s.from s.to t.from t.to p) (line_turned t.from t.to s.from s.to q) h.0 h.2 (omega (arith, ints, k))
+      on (inr k) = axis.uncrossed s.from s.to t.from t.to p q h.1 h.3 k
 
-  below_crosses : Below → Parted s.from s.to t.from t.to → Parted t.from t.to s.from s.to → ⊥
-  below_crosses h p q = on (below_or t.from.y t.to.y)
-    where
-      on : ((t.from.y <ℤ t.to.y) ⊎ (t.to.y ≤ℤ t.from.y)) → ⊥
-      on (inl k) = not_up s.from s.to t.to t.from (others_turned s.from s.to t.from t.to p) (line_turned t.from t.to s.from s.to q) h.0 h.2 (omega (arith, ints, k))
-      on (inr k) = not_up s.from s.to t.from t.to p q h.1 h.3 k
+  before_touched : Before → (touches s.from s.to t.from ≡ true) ⊎ (touches s.from s.to t.to ≡ true) → ⊥
+  before_touched h (inl k) = let m = axis.high s.from s.to t.from k (axis.along t.from -ℤ pos 1) (omega (arith, ints, h.0)) (omega (arith, ints, h.2)) in omega (arith, ints, m)
+  before_touched h (inr k) = let m = axis.high s.from s.to t.to k (axis.along t.to -ℤ pos 1) (omega (arith, ints, h.1)) (omega (arith, ints, h.3)) in omega (arith, ints, m)
 
-  left_on : Left → (q : Point) → (q ≡ t.from) ⊎ (q ≡ t.to) → touches s.from s.to q ≡ true → ⊥
-  left_on h q e k = on e
-    where
-      at : (q.x ≤ℤ (q.x -ℤ pos 1)) → ⊥
-      at m = omega (arith, ints, m)
+  before_touching : Before → (touches t.from t.to s.from ≡ true) ⊎ (touches t.from t.to s.to ≡ true) → ⊥
+  before_touching h (inl k) = let m = axis.low t.from t.to s.from k (axis.along s.from +ℤ pos 1) (omega (arith, ints, h.0)) (omega (arith, ints, h.1)) in omega (arith, ints, m)
+  before_touching h (inr k) = let m = axis.low t.from t.to s.to k (axis.along s.to +ℤ pos 1) (omega (arith, ints, h.2)) (omega (arith, ints, h.3)) in omega (arith, ints, m)
 
-      on : (q ≡ t.from) ⊎ (q ≡ t.to) → ⊥
-      on (inl f) = let x = ap (λ (p : Point). p.x) f in at ((in_box s.from s.to q k).right (q.x -ℤ pos 1) (omega (arith, ints, x, h.0)) (omega (arith, ints, x, h.0)) (omega (arith, ints, x, h.2)))
-      on (inr f) = let x = ap (λ (p : Point). p.x) f in at ((in_box s.from s.to q k).right (q.x -ℤ pos 1) (omega (arith, ints, x, h.1)) (omega (arith, ints, x, h.1)) (omega (arith, ints, x, h.3)))
+  before_never : Before → meets_badly s t ≡ true → ⊥
+  before_never h = never s t (before_same h) (before_crosses h) (before_touched h) (before_touching h)
 
-  below_on : Below → (q : Point) → (q ≡ t.from) ⊎ (q ≡ t.to) → touches s.from s.to q ≡ true → ⊥
-  below_on h q e k = on e
-    where
-      at : (q.y ≤ℤ (q.y -ℤ pos 1)) → ⊥
-      at m = omega (arith, ints, m)
+pub left_never : (s t : Segment) → (s.from.x <ℤ t.from.x) × (s.from.x <ℤ t.to.x) × (s.to.x <ℤ t.from.x) × (s.to.x <ℤ t.to.x) → meets_badly s t ≡ true → ⊥
+left_never s t h = before_never (record {
+  along = λ p. p.x;
+  low = λ a b q h k m n. (in_box a b q h).left k m m n;
+  high = λ a b q h k m n. (in_box a b q h).right k m m n;
+  uncrossed = not_across;
+}) s t h
 
-      on : (q ≡ t.from) ⊎ (q ≡ t.to) → ⊥
-      on (inl f) = let y = ap (λ (p : Point). p.y) f in at ((in_box s.from s.to q k).above (q.y -ℤ pos 1) (omega (arith, ints, y, h.0)) (omega (arith, ints, y, h.0)) (omega (arith, ints, y, h.2)))
-      on (inr f) = let y = ap (λ (p : Point). p.y) f in at ((in_box s.from s.to q k).above (q.y -ℤ pos 1) (omega (arith, ints, y, h.1)) (omega (arith, ints, y, h.1)) (omega (arith, ints, y, h.3)))
-
-  left_by : Left → (q : Point) → (q ≡ s.from) ⊎ (q ≡ s.to) → touches t.from t.to q ≡ true → ⊥
-  left_by h q e k = on e
-    where
-      at : ((q.x +ℤ pos 1) ≤ℤ q.x) → ⊥
-      at m = omega (arith, ints, m)
-
-      on : (q ≡ s.from) ⊎ (q ≡ s.to) → ⊥
-      on (inl f) = let x = ap (λ (p : Point). p.x) f in at ((in_box t.from t.to q k).left (q.x +ℤ pos 1) (omega (arith, ints, x, h.0)) (omega (arith, ints, x, h.0)) (omega (arith, ints, x, h.1)))
-      on (inr f) = let x = ap (λ (p : Point). p.x) f in at ((in_box t.from t.to q k).left (q.x +ℤ pos 1) (omega (arith, ints, x, h.2)) (omega (arith, ints, x, h.2)) (omega (arith, ints, x, h.3)))
-
-  below_by : Below → (q : Point) → (q ≡ s.from) ⊎ (q ≡ s.to) → touches t.from t.to q ≡ true → ⊥
-  below_by h q e k = on e
-    where
-      at : ((q.y +ℤ pos 1) ≤ℤ q.y) → ⊥
-      at m = omega (arith, ints, m)
-
-      on : (q ≡ s.from) ⊎ (q ≡ s.to) → ⊥
-      on (inl f) = let y = ap (λ (p : Point). p.y) f in at ((in_box t.from t.to q k).below (q.y +ℤ pos 1) (omega (arith, ints, y, h.0)) (omega (arith, ints, y, h.0)) (omega (arith, ints, y, h.1)))
-      on (inr f) = let y = ap (λ (p : Point). p.y) f in at ((in_box t.from t.to q k).below (q.y +ℤ pos 1) (omega (arith, ints, y, h.2)) (omega (arith, ints, y, h.2)) (omega (arith, ints, y, h.3)))
-
-  left_same : Left → ((s.from ≡ t.from) × (s.to ≡ t.to)) ⊎ ((s.from ≡ t.to) × (s.to ≡ t.from)) → ⊥
-  left_same h (inl e) = let x = ap (λ (p : Point). p.x) e.0 in omega (arith, ints, x, h.0)
-  left_same h (inr e) = let x = ap (λ (p : Point). p.x) e.0 in omega (arith, ints, x, h.1)
-
-  below_same : Below → ((s.from ≡ t.from) × (s.to ≡ t.to)) ⊎ ((s.from ≡ t.to) × (s.to ≡ t.from)) → ⊥
-  below_same h (inl e) = let y = ap (λ (p : Point). p.y) e.0 in omega (arith, ints, y, h.0)
-  below_same h (inr e) = let y = ap (λ (p : Point). p.y) e.0 in omega (arith, ints, y, h.1)
-
-  pub left_never : Left → meets_badly s t ≡ true → ⊥
-  left_never h b = on (bad_says s t b)
-    where
-      touched : (touches s.from s.to t.from ≡ true) ⊎ (touches s.from s.to t.to ≡ true) → ⊥
-      touched (inl k) = left_on h t.from (inl refl) k
-      touched (inr k) = left_on h t.to (inr refl) k
-
-      touching : (touches t.from t.to s.from ≡ true) ⊎ (touches t.from t.to s.to ≡ true) → ⊥
-      touching (inl k) = left_by h s.from (inl refl) k
-      touching (inr k) = left_by h s.to (inr refl) k
-
-      on : (same_ends s t ≡ true) ⊎ ((crosses s t ≡ true) ⊎ ((is_touched s t ≡ true) ⊎ (is_touched t s ≡ true))) → ⊥
-      on (inl k) = left_same h (same_says s t k)
-      on (inr (inl k)) = let m = crosses_says s.from s.to t.from t.to k in left_crosses h m.0 m.1
-      on (inr (inr (inl k))) = touched (or_cases (touches s.from s.to t.from) (touches s.from s.to t.to) k)
-      on (inr (inr (inr k))) = touching (or_cases (touches t.from t.to s.from) (touches t.from t.to s.to) k)
-
-  pub below_never : Below → meets_badly s t ≡ true → ⊥
-  below_never h b = on (bad_says s t b)
-    where
-      touched : (touches s.from s.to t.from ≡ true) ⊎ (touches s.from s.to t.to ≡ true) → ⊥
-      touched (inl k) = below_on h t.from (inl refl) k
-      touched (inr k) = below_on h t.to (inr refl) k
-
-      touching : (touches t.from t.to s.from ≡ true) ⊎ (touches t.from t.to s.to ≡ true) → ⊥
-      touching (inl k) = below_by h s.from (inl refl) k
-      touching (inr k) = below_by h s.to (inr refl) k
-
-      on : (same_ends s t ≡ true) ⊎ ((crosses s t ≡ true) ⊎ ((is_touched s t ≡ true) ⊎ (is_touched t s ≡ true))) → ⊥
-      on (inl k) = below_same h (same_says s t k)
-      on (inr (inl k)) = let m = crosses_says s.from s.to t.from t.to k in below_crosses h m.0 m.1
-      on (inr (inr (inl k))) = touched (or_cases (touches s.from s.to t.from) (touches s.from s.to t.to) k)
-      on (inr (inr (inr k))) = touching (or_cases (touches t.from t.to s.from) (touches t.from t.to s.to) k)
+pub below_never : (s t : Segment) → (s.from.y <ℤ t.from.y) × (s.from.y <ℤ t.to.y) × (s.to.y <ℤ t.from.y) × (s.to.y <ℤ t.to.y) → meets_badly s t ≡ true → ⊥
+below_never s t h = before_never (record {
+  along = λ p. p.y;
+  low = λ a b q h k m n. (in_box a b q h).below k m m n;
+  high = λ a b q h k m n. (in_box a b q h).above k m m n;
+  uncrossed = not_up;
+}) s t h

@@ -1,20 +1,20 @@
 -- Segments that don't meet badly, since the ends of one lie on one side of the other, but for an end that both have.
 use Rattle.std.proofs.Common.{◌≡◌, Bool, true, false, pos, ◌<ℤ◌, ◌≤ℤ◌, ◌⊎◌, inl, inr, refl, sym, subst, arith}
 use Rattle.std.proofs.lemmas.Int.{ints}
-use Rattle.std.proofs.lemmas.Bool.{or_cases, or_parts, or_left, both_ways}
+use Rattle.std.proofs.lemmas.Bool.{or_parts, or_left, both_ways}
 use Rattle.geometry.specs.Areas.{cross}
 use Rattle.geometry.specs.Points.{Point}
 use Rattle.geometry.specs.Rings.{same}
 use Rattle.geometry.proofs.Points.{same_self}
 use Rattle.guarded_meaning.specs.Laws.{IsBeyondNone}
-use Rattle.guarded_meaning.specs.Segments.{Segment, is_on, is_end, touches, crosses, is_touched, same_ends, meets_badly}
+use Rattle.guarded_meaning.specs.Segments.{Segment, is_on, is_end, touches, meets_badly}
 use Rattle.guarded_meaning.specs.Triangles.{in_triangle}
 use Rattle.guarded_meaning.proofs.Crosses.{cross_is}
 use Rattle.guarded_meaning.proofs.Sides.{side_law, flat_says}
 use Rattle.guarded_meaning.proofs.Signs.{below_or}
-use Rattle.guarded_meaning.proofs.Step.{Parted, crosses_says, touches_says, bad_says}
+use Rattle.guarded_meaning.proofs.Step.{Parted, touches_says}
 use Rattle.guarded_reduction.specs.Blocks.{Off}
-use Rattle.guarded_reduction.proofs.Apart.{same_says}
+use Rattle.guarded_reduction.proofs.Apart.{never}
 
 -- both ends of a segment are off a line, or one is, and the other is an end of the segment along that line
 abbrev pub IsSided : Bool → Segment → Segment → Type 0
@@ -169,15 +169,9 @@ module _ (l : Bool) (s t : Segment) where
   no_touch_by (inr (inl h)) q e k = not_touched_first l s.from s.to t.from t.to q h.0 h.1 e k
   no_touch_by (inr (inr h)) q e k = not_touched_second l s.from s.to t.from t.to q h.0 h.1 e k
 
-  pub sided_never : IsSided l s t → meets_badly s t ≡ true → ⊥
-  sided_never h b = on (bad_says s t b)
-    where
-      touching : (touches t.from t.to s.from ≡ true) ⊎ (touches t.from t.to s.to ≡ true) → ⊥
-      touching (inl k) = no_touch_by h s.from (inl refl) k
-      touching (inr k) = no_touch_by h s.to (inr refl) k
+  no_touching : IsSided l s t → (touches t.from t.to s.from ≡ true) ⊎ (touches t.from t.to s.to ≡ true) → ⊥
+  no_touching h (inl k) = no_touch_by h s.from (inl refl) k
+  no_touching h (inr k) = no_touch_by h s.to (inr refl) k
 
-      on : (same_ends s t ≡ true) ⊎ ((crosses s t ≡ true) ⊎ ((is_touched s t ≡ true) ⊎ (is_touched t s ≡ true))) → ⊥
-      on (inl k) = no_same h (same_says s t k)
-      on (inr (inl k)) = no_cross h (crosses_says s.from s.to t.from t.to k).0
-      on (inr (inr (inl k))) = no_touch h (or_cases (touches s.from s.to t.from) (touches s.from s.to t.to) k)
-      on (inr (inr (inr k))) = touching (or_cases (touches t.from t.to s.from) (touches t.from t.to s.to) k)
+  pub sided_never : IsSided l s t → meets_badly s t ≡ true → ⊥
+  sided_never h = never s t (no_same h) (λ p q. no_cross h p) (no_touch h) (no_touching h)

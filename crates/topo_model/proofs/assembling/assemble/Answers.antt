@@ -1,4 +1,4 @@
-use Rattle.std.proofs.Common.{length, map, ap, sym, subst, ◌∙◌}
+use Rattle.std.proofs.Common.{rules, length, map, ap, sym, subst, ◌∙◌}
 use Rattle.std.proofs.lemmas.Result.{IfOk-weaker}
 use Rattle.simplified_topology.specs.Simplified.{EachFromFirstToLast, retained_arcs}
 use Rattle.topo_model.proofs.Assembled.{table_arcs}
@@ -21,20 +21,17 @@ pub assemble_retained-requires-clause-counts : goal.assemble_retained-requires-c
 assemble_retained-requires-clause-counts c =
     c.deref.ensures.value ∙ c.in_ok-counts.ensures ∙ ap (map length) (c.arcs.ensures ∙ ap (λ t. t.arcs) c.requires.table ∙ table_arcs c.args.layers.items)
 
-pub returns-clause-topology : goal.returns-clause-topology
-returns-clause-topology c =
-    IfOk-weaker c.assemble_retained.result _ _
-    (λ r h. h (map (λ k. k.items) c.args.kept.now) (c.in_ok-retained.ensures ∙ ap (retained_arcs (map (λ k. k.items) c.args.kept.now)) (c.arcs-2.ensures ∙ ap (λ t. t.arcs) c.requires.table ∙ table_arcs c.args.layers.items)))
-    c.assemble_retained.ensures.topology
-
-pub returns-clause-dropped : goal.returns-clause-dropped
-returns-clause-dropped c =
-    IfOk-weaker c.assemble_retained.result _ _
-    (λ r h. h (map (λ k. k.items) c.args.kept.now) (c.in_ok-retained.ensures ∙ ap (retained_arcs (map (λ k. k.items) c.args.kept.now)) (c.arcs-2.ensures ∙ ap (λ t. t.arcs) c.requires.table ∙ table_arcs c.args.layers.items)))
-    c.assemble_retained.ensures.dropped
-
-pub returns-clause-removed_count : goal.returns-clause-removed_count
-returns-clause-removed_count c =
-    IfOk-weaker c.assemble_retained.result _ _
-    (λ r h. h (map (λ k. k.items) c.args.kept.now) (c.in_ok-retained.ensures ∙ ap (retained_arcs (map (λ k. k.items) c.args.kept.now)) (c.arcs-2.ensures ∙ ap (λ t. t.arcs) c.requires.table ∙ table_arcs c.args.layers.items)))
-    c.assemble_retained.ensures.removed_count
+pub returns : goal.returns
+returns c =
+    record {
+      few = search rules;
+      topology = IfOk-weaker c.assemble_retained.result _ _
+          (λ r h. h (map (λ k. k.items) c.args.kept.now) (c.in_ok-retained.ensures ∙ ap (retained_arcs (map (λ k. k.items) c.args.kept.now)) (c.arcs-2.ensures ∙ ap (λ t. t.arcs) c.requires.table ∙ table_arcs c.args.layers.items)))
+          c.assemble_retained.ensures.topology;
+      dropped = IfOk-weaker c.assemble_retained.result _ _
+          (λ r h. h (map (λ k. k.items) c.args.kept.now) (c.in_ok-retained.ensures ∙ ap (retained_arcs (map (λ k. k.items) c.args.kept.now)) (c.arcs-2.ensures ∙ ap (λ t. t.arcs) c.requires.table ∙ table_arcs c.args.layers.items)))
+          c.assemble_retained.ensures.dropped;
+      removed_count = IfOk-weaker c.assemble_retained.result _ _
+          (λ r h. h (map (λ k. k.items) c.args.kept.now) (c.in_ok-retained.ensures ∙ ap (retained_arcs (map (λ k. k.items) c.args.kept.now)) (c.arcs-2.ensures ∙ ap (λ t. t.arcs) c.requires.table ∙ table_arcs c.args.layers.items)))
+          c.assemble_retained.ensures.removed_count;
+    }

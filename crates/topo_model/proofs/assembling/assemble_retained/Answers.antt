@@ -1,3 +1,4 @@
+use Rattle.std.proofs.Common.{rules}
 use Rattle.std.proofs.lemmas.Result.{IfOk-weaker}
 use Rattle.topo_model.proofs.Assembled.{draft_of}
 use Rattle.topo_model.proofs.assembling.assemble_retained.Goals as goal
@@ -11,17 +12,12 @@ assemble_draft-requires-clause-draft c =
       counts_are = c.requires.counts;
     }
 
-pub returns-clause-topology : goal.returns-clause-topology
-returns-clause-topology c =
+pub returns : goal.returns
+returns c =
     let d = draft_of _ _ _ c.requires.refs c.requires.sound c.requires.names c.in_ok-objects.ensures in
-    IfOk-weaker c.assemble_draft.result _ _ (λ r h kept picks. h _ kept d picks) c.assemble_draft.ensures.topology
-
-pub returns-clause-dropped : goal.returns-clause-dropped
-returns-clause-dropped c =
-    let d = draft_of _ _ _ c.requires.refs c.requires.sound c.requires.names c.in_ok-objects.ensures in
-    IfOk-weaker c.assemble_draft.result _ _ (λ r h kept picks. h _ kept d picks) c.assemble_draft.ensures.dropped
-
-pub returns-clause-removed_count : goal.returns-clause-removed_count
-returns-clause-removed_count c =
-    let d = draft_of _ _ _ c.requires.refs c.requires.sound c.requires.names c.in_ok-objects.ensures in
-    IfOk-weaker c.assemble_draft.result _ _ (λ r h kept picks. h _ kept d picks c.requires.counts) c.assemble_draft.ensures.removed_count
+    record {
+      few = search rules;
+      topology = IfOk-weaker c.assemble_draft.result _ _ (λ r h kept picks. h _ kept d picks) c.assemble_draft.ensures.topology;
+      dropped = IfOk-weaker c.assemble_draft.result _ _ (λ r h kept picks. h _ kept d picks) c.assemble_draft.ensures.dropped;
+      removed_count = IfOk-weaker c.assemble_draft.result _ _ (λ r h kept picks. h _ kept d picks c.requires.counts) c.assemble_draft.ensures.removed_count;
+    }

@@ -29,8 +29,8 @@ without_unused-requires-clause-ranged c =
     ∙ ap (objects_along kept ways) c.as_mut_slice.ensures.value in
     subst (λ os. AllByRecursion (λ b. AreInRange (length c.args.retained.items) b.1) (objects_lines_and_rings os)) (sym large) c.requires.ranged
 
-pub returns-clause-left : goal.returns-clause-left
-returns-clause-left c =
+pub returns : goal.returns
+returns c =
     let kept : MarkedRefs = sparing (large_refs c.args.ring_limit (placed_arcs (option_copied c.args.transform) c.args.retained.items)) in
     let ways : Ways = map (map_some (λ v. v.items)) c.args.ways.now in
     let pruned = c.in_ok-dropped.ensures.objects ∙ ap (λ arcs. large_along c.args.ring_limit (placed_arcs (option_copied c.args.transform) arcs) ways c.as_mut_slice.result.now) c.deref.ensures.value in
@@ -39,21 +39,13 @@ returns-clause-left c =
     let between = take c.args.objects.len (c.leave_out_dropped.new.objects ++ drop (length c.leave_out_dropped.new.objects) c.args.objects.items) in
     let left = put_back (line_renumbered (is_used c.as_mut_slice-2.result.now)) c.args.objects.len between c.as_mut_slice-2.result.now c.without_unused.new.objects
     (c.args.objects.ok.0 ∙ sym (along_long kept ways c.args.objects.items between back)) c.as_mut_slice-2.ensures.value c.in_ok-arcs.ensures.objects in
-    finished c.args.ring_limit ways c.args.objects.items c.as_mut_slice-2.result.now (take c.args.objects.len (c.without_unused.new.objects ++ drop (length c.without_unused.new.objects) between))
-    c.args.retained.items c.in_ok-arcs.arcs.items (option_copied c.args.transform) (c.as_mut_slice-2.ensures.value ∙ back) left c.in_ok-arcs.ensures.arcs
-
-pub returns-clause-dropped : goal.returns-clause-dropped
-returns-clause-dropped c =
-    let ways : Ways = map (map_some (λ v. v.items)) c.args.ways.now in
-    c.in_ok-dropped.ensures.dropped ∙ ap (λ arcs. objects_drops (record { arcs = placed_arcs (option_copied c.args.transform) arcs; limit = c.args.ring_limit }) 0 ways c.as_mut_slice.result.now) c.deref.ensures.value
-    ∙ ap (objects_drops (record { arcs = placed_arcs (option_copied c.args.transform) c.args.retained.items; limit = c.args.ring_limit }) 0 ways) c.as_mut_slice.ensures.value
-
-pub returns-clause-removed_count : goal.returns-clause-removed_count
-returns-clause-removed_count c =
-    let kept : MarkedRefs = sparing (large_refs c.args.ring_limit (placed_arcs (option_copied c.args.transform) c.args.retained.items)) in
-    let ways : Ways = map (map_some (λ v. v.items)) c.args.ways.now in
-    let pruned = c.in_ok-dropped.ensures.objects ∙ ap (λ arcs. large_along c.args.ring_limit (placed_arcs (option_copied c.args.transform) arcs) ways c.as_mut_slice.result.now) c.deref.ensures.value in
     let large = c.as_mut_slice-2.ensures.value ∙ put_along kept ways c.args.objects.len c.args.objects.items c.as_mut_slice.result.now c.leave_out_dropped.new.objects c.args.objects.ok.0 c.as_mut_slice.ensures.value pruned
     ∙ ap (objects_along kept ways) c.as_mut_slice.ensures.value in
-    c.in_ok-arcs.ensures.removed_count
-    ∙ ap (λ os. saturated (sum (keep_from (is_used os) 0 c.args.counts.now) - positions_of (keep_from (is_used os) 0 c.args.retained.items))) large
+    record {
+      left = finished c.args.ring_limit ways c.args.objects.items c.as_mut_slice-2.result.now (take c.args.objects.len (c.without_unused.new.objects ++ drop (length c.without_unused.new.objects) between))
+          c.args.retained.items c.in_ok-arcs.arcs.items (option_copied c.args.transform) (c.as_mut_slice-2.ensures.value ∙ back) left c.in_ok-arcs.ensures.arcs;
+      dropped = c.in_ok-dropped.ensures.dropped ∙ ap (λ arcs. objects_drops (record { arcs = placed_arcs (option_copied c.args.transform) arcs; limit = c.args.ring_limit }) 0 ways c.as_mut_slice.result.now) c.deref.ensures.value
+          ∙ ap (objects_drops (record { arcs = placed_arcs (option_copied c.args.transform) c.args.retained.items; limit = c.args.ring_limit }) 0 ways) c.as_mut_slice.ensures.value;
+      removed_count = c.in_ok-arcs.ensures.removed_count
+          ∙ ap (λ os. saturated (sum (keep_from (is_used os) 0 c.args.counts.now) - positions_of (keep_from (is_used os) 0 c.args.retained.items))) large;
+    }

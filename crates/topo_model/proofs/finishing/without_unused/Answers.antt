@@ -18,25 +18,17 @@ renumber-requires c =
     subst (λ n. AllByRecursion (λ b. AreInRange n b.1) (objects_lines_and_rings c.args.objects.now))
     (flags_long (is_used c.args.objects.now) c.in_ok-used.used.items c.deref-2.result.now (length c.args.retained.items) flags c.deref-2.ensures.value).1 c.requires.ranged
 
-pub returns-clause-objects : goal.returns-clause-objects
-returns-clause-objects c =
+pub returns : goal.returns
+returns c =
     let flags : c.in_ok-used.used.items ≡ answers (is_used c.args.objects.now) 0 (length c.args.retained.items) =
     flags_are c.args.objects.now c.args.objects.now c.args.retained.items c.len.result c.in_ok-used.used.items refl (c.len.ensures ∙ c.args.retained.ok.0) c.in_ok-used.ensures in
-    c.in_ok-renumber.ensures (is_used c.args.objects.now) (flags_long (is_used c.args.objects.now) c.in_ok-used.used.items c.deref-2.result.now (length c.args.retained.items) flags c.deref-2.ensures.value).0
-
-pub returns-clause-arcs : goal.returns-clause-arcs
-returns-clause-arcs c =
-    let flags : c.in_ok-used.used.items ≡ answers (is_used c.args.objects.now) 0 (length c.args.retained.items) =
-    flags_are c.args.objects.now c.args.objects.now c.args.retained.items c.len.result c.in_ok-used.used.items refl (c.len.ensures ∙ c.args.retained.ok.0) c.in_ok-used.ensures in
-    c.in_ok-stay.ensures ∙ chosen_as (is_used c.args.objects.now) (length c.args.retained.items) c.deref-3.result.now c.args.retained.items (c.deref-3.ensures.value ∙ flags) refl
-
-pub returns-clause-removed_count : goal.returns-clause-removed_count
-returns-clause-removed_count c =
     let u = is_used c.args.objects.now in
     let n = length c.args.retained.items in
-    let flags : c.in_ok-used.used.items ≡ answers (is_used c.args.objects.now) 0 (length c.args.retained.items) =
-    flags_are c.args.objects.now c.args.objects.now c.args.retained.items c.len.result c.in_ok-used.used.items refl (c.len.ensures ∙ c.args.retained.ok.0) c.in_ok-used.ensures in
     let stay = c.in_ok-stay.ensures ∙ chosen_as u n c.deref-3.result.now c.args.retained.items (c.deref-3.ensures.value ∙ flags) refl in
-    c.removed_count.ensures
-    ∙ ap (λ k. saturated (k - c.position_sum-after.result)) (c.used_sum-before.ensures ∙ ap sum (chosen_as u n c.deref.result.now c.args.counts.now (c.deref.ensures.value ∙ flags) c.requires.many))
-    ∙ ap (λ k. saturated (sum (keep_from u 0 c.args.counts.now) - k)) (c.position_sum-after.ensures ∙ ap positions_of (c.deref-4.ensures.value ∙ stay))
+    record {
+      objects = c.in_ok-renumber.ensures (is_used c.args.objects.now) (flags_long (is_used c.args.objects.now) c.in_ok-used.used.items c.deref-2.result.now (length c.args.retained.items) flags c.deref-2.ensures.value).0;
+      arcs = c.in_ok-stay.ensures ∙ chosen_as (is_used c.args.objects.now) (length c.args.retained.items) c.deref-3.result.now c.args.retained.items (c.deref-3.ensures.value ∙ flags) refl;
+      removed_count = c.removed_count.ensures
+          ∙ ap (λ k. saturated (k - c.position_sum-after.result)) (c.used_sum-before.ensures ∙ ap sum (chosen_as u n c.deref.result.now c.args.counts.now (c.deref.ensures.value ∙ flags) c.requires.many))
+          ∙ ap (λ k. saturated (sum (keep_from u 0 c.args.counts.now) - k)) (c.position_sum-after.ensures ∙ ap positions_of (c.deref-4.ensures.value ∙ stay));
+    }

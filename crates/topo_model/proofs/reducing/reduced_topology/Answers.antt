@@ -34,30 +34,18 @@ reassemble_sparing-reduced-requires-clause-retained c =
 pub reassemble_sparing-reduced-requires-clause-ways : goal.reassemble_sparing-reduced-requires-clause-ways
 reassemble_sparing-reduced-requires-clause-ways c = subst (Protect (map (map_some (λ v. v.items)) c.args.ways.now)) (sym c.into_parts-objects.ensures.objects) c.requires.ways
 
-pub returns-clause-topology : goal.returns-clause-topology
-returns-clause-topology c =
+pub returns : goal.returns
+returns c =
     let y = c.args.topology in
     let e = c.into_parts-objects.ensures in
     let same = parts_are y c.into_parts-objects.result.0 y.arcs c.into_parts-objects.result.2 e.objects refl e.transform in
     let kept : List (List ℕ) = map (λ k. k.items) c.args.kept.now in
-    IfOk-weaker c.reassemble_sparing-reduced.result _ _
-    (λ r h protects are. h protects kept y.arcs (subst (AreWays protects (map (map_some (λ v. v.items)) c.args.ways.now)) (sym e.objects) are) (c.in-Ok-cells_of_all.ensures ∙ ap (retained_arcs kept) c.arcs-2.ensures.arcs) ∙ ap (spared_by protects kept c.args.ring_limit) same) c.reassemble_sparing-reduced.ensures.topology
-
-pub returns-clause-dropped : goal.returns-clause-dropped
-returns-clause-dropped c =
-    let y = c.args.topology in
-    let e = c.into_parts-objects.ensures in
-    let same = parts_are y c.into_parts-objects.result.0 y.arcs c.into_parts-objects.result.2 e.objects refl e.transform in
-    let kept : List (List ℕ) = map (λ k. k.items) c.args.kept.now in
-    IfOk-weaker c.reassemble_sparing-reduced.result _ _
-    (λ r h protects are. h protects kept y.arcs (subst (AreWays protects (map (map_some (λ v. v.items)) c.args.ways.now)) (sym e.objects) are) (c.in-Ok-cells_of_all.ensures ∙ ap (retained_arcs kept) c.arcs-2.ensures.arcs) ∙ ap (spared_dropped protects kept c.args.ring_limit) same) c.reassemble_sparing-reduced.ensures.dropped
-
-pub returns-clause-removed_count : goal.returns-clause-removed_count
-returns-clause-removed_count c =
-    let y = c.args.topology in
-    let e = c.into_parts-objects.ensures in
-    let same = parts_are y c.into_parts-objects.result.0 y.arcs c.into_parts-objects.result.2 e.objects refl e.transform in
-    let kept : List (List ℕ) = map (λ k. k.items) c.args.kept.now in
-    IfOk-weaker c.reassemble_sparing-reduced.result _ _
-    (λ r h protects are. h protects kept y.arcs (subst (AreWays protects (map (map_some (λ v. v.items)) c.args.ways.now)) (sym e.objects) are) (c.in-Ok-cells_of_all.ensures ∙ ap (retained_arcs kept) c.arcs-2.ensures.arcs)
-    (c.deref.ensures.value ∙ c.in-Ok.ensures ∙ ap (map length) c.arcs.ensures.arcs) ∙ ap (λ z. saturated (spared_removed_count protects kept c.args.ring_limit z)) same) c.reassemble_sparing-reduced.ensures.removed_count
+    record {
+      topology = IfOk-weaker c.reassemble_sparing-reduced.result _ _
+          (λ r h protects are. h protects kept y.arcs (subst (AreWays protects (map (map_some (λ v. v.items)) c.args.ways.now)) (sym e.objects) are) (c.in-Ok-cells_of_all.ensures ∙ ap (retained_arcs kept) c.arcs-2.ensures.arcs) ∙ ap (spared_by protects kept c.args.ring_limit) same) c.reassemble_sparing-reduced.ensures.topology;
+      dropped = IfOk-weaker c.reassemble_sparing-reduced.result _ _
+          (λ r h protects are. h protects kept y.arcs (subst (AreWays protects (map (map_some (λ v. v.items)) c.args.ways.now)) (sym e.objects) are) (c.in-Ok-cells_of_all.ensures ∙ ap (retained_arcs kept) c.arcs-2.ensures.arcs) ∙ ap (spared_dropped protects kept c.args.ring_limit) same) c.reassemble_sparing-reduced.ensures.dropped;
+      removed_count = IfOk-weaker c.reassemble_sparing-reduced.result _ _
+          (λ r h protects are. h protects kept y.arcs (subst (AreWays protects (map (map_some (λ v. v.items)) c.args.ways.now)) (sym e.objects) are) (c.in-Ok-cells_of_all.ensures ∙ ap (retained_arcs kept) c.arcs-2.ensures.arcs)
+          (c.deref.ensures.value ∙ c.in-Ok.ensures ∙ ap (map length) c.arcs.ensures.arcs) ∙ ap (λ z. saturated (spared_removed_count protects kept c.args.ring_limit z)) same) c.reassemble_sparing-reduced.ensures.removed_count;
+    }

@@ -1,4 +1,4 @@
-use Rattle.std.proofs.Common.{ℕ, ◌-◌, List, length, map, sym, ap, ◌∙◌, subst}
+use Rattle.std.proofs.Common.{rules, ℕ, ◌-◌, List, length, map, sym, ap, ◌∙◌, subst}
 use Rattle.std.specs.Prelude.{sum}
 use Rattle.std.specs.List.{AllByRecursion}
 use Rattle.std.proofs.lemmas.List.{length-map}
@@ -25,61 +25,45 @@ use Rattle.topo_model.proofs.AssembledSparing.{along_is, drops_are, is_assembled
 use Rattle.topo_model.proofs.Result as result
 use Rattle.topo_model.proofs.sparing.objects_and_arcs.Goals as goal
 
-pub finish-requires-clause-places : goal.finish-requires-clause-places
-finish-requires-clause-places c =
+pub finish-requires : goal.finish-requires
+finish-requires c =
     let d = c.requires.draft.draft in
     let r = d.retained_are in
     let is = retained_is r.kept c.args.ring_limit d.layers c.zero_law.ensures d.of_layers.sound c.args.retained.items r.picks in
     let valid = untrimmed_is_valid c.ends_stay.ensures c.nothing_is_new.ensures 0 0 d.layers d.of_layers.sound d.of_layers.names in
-    result.places_are (greatest_ring (arcs_of_layers d.layers)) r.kept c.args.ring_limit (untrimmed 0 0 d.layers) c.args.retained.items is valid
-
-pub finish-requires-clause-many : goal.finish-requires-clause-many
-finish-requires-clause-many c =
-    let d = c.requires.draft.draft in
-    let r = d.retained_are in
-    many r.kept c.args.ring_limit d.layers c.zero_law.ensures d.of_layers.sound c.args.retained.items r.picks r.through ∙ sym (ap length d.counts_are ∙ length-map (arcs_of_layers d.layers) length)
-
-pub finish-requires-clause-ranged : goal.finish-requires-clause-ranged
-finish-requires-clause-ranged c =
-    let d = c.requires.draft.draft in
-    let r = d.retained_are in
     let retained = c.args.retained.items in
     let ways : Ways = map (map_some (λ v. v.items)) c.args.ways.now in
-    let valid = untrimmed_is_valid c.ends_stay.ensures c.nothing_is_new.ensures 0 0 d.layers d.of_layers.sound d.of_layers.names in
     let are = c.requires.draft.ways_are ∙ ap (ways_of (greatest_ring (arcs_of_layers d.layers))) d.of_layers.drafted in
-    subst (λ os. AllByRecursion (λ b. AreInRange (length retained) b.1) (objects_lines_and_rings os))
-    (sym (ap (large_along c.args.ring_limit retained ways) d.of_layers.drafted ∙ along_is r.kept c.args.ring_limit d.layers c.zero_law.ensures d.of_layers.sound retained r.picks ways are))
-    (ranged r.kept c.args.ring_limit d.layers c.zero_law.ensures d.of_layers.sound retained r.picks valid r.through)
+    record {
+      limit = search rules;
+      places = result.places_are (greatest_ring (arcs_of_layers d.layers)) r.kept c.args.ring_limit (untrimmed 0 0 d.layers) c.args.retained.items is valid;
+      many = many r.kept c.args.ring_limit d.layers c.zero_law.ensures d.of_layers.sound c.args.retained.items r.picks r.through ∙ sym (ap length d.counts_are ∙ length-map (arcs_of_layers d.layers) length);
+      ranged = subst (λ os. AllByRecursion (λ b. AreInRange (length retained) b.1) (objects_lines_and_rings os))
+          (sym (ap (large_along c.args.ring_limit retained ways) d.of_layers.drafted ∙ along_is r.kept c.args.ring_limit d.layers c.zero_law.ensures d.of_layers.sound retained r.picks ways are))
+          (ranged r.kept c.args.ring_limit d.layers c.zero_law.ensures d.of_layers.sound retained r.picks valid r.through);
+    }
 
-pub returns-clause-assembled : goal.returns-clause-assembled
-returns-clause-assembled c =
+pub returns : goal.returns
+returns c =
     let retained = c.args.retained.items in
     let ways : Ways = map (map_some (λ v. v.items)) c.args.ways.now in
-    IfOk-weaker c.finish.result _ _
-    (λ r h ls kept of lead picks.
-    let are = lead ∙ ap (ways_of (greatest_ring (arcs_of_layers ls))) of.drafted in
-    sym (h ∙ ap (λ os. trimmed (contents os retained)) (ap (large_along c.args.ring_limit retained ways) of.drafted ∙ along_is kept c.args.ring_limit ls c.zero_law.ensures of.sound retained picks ways are)
-    ∙ is_assembled kept c.args.ring_limit ls c.zero_law.ensures of.sound retained picks)) c.finish.ensures.left
-
-pub returns-clause-dropped : goal.returns-clause-dropped
-returns-clause-dropped c =
-    let retained = c.args.retained.items in
-    let ways : Ways = map (map_some (λ v. v.items)) c.args.ways.now in
-    IfOk-weaker c.finish.result _ _
-    (λ r h ls kept of lead picks.
-    let are = lead ∙ ap (ways_of (greatest_ring (arcs_of_layers ls))) of.drafted in
-    h ∙ ap (objects_drops (record { arcs = retained; limit = c.args.ring_limit }) 0 ways) of.drafted ∙ drops_are kept c.args.ring_limit ls c.zero_law.ensures of.sound retained picks ways are)
-    c.finish.ensures.dropped
-
-pub returns-clause-removed_count : goal.returns-clause-removed_count
-returns-clause-removed_count c =
-    let retained = c.args.retained.items in
-    let ways : Ways = map (map_some (λ v. v.items)) c.args.ways.now in
-    IfOk-weaker c.finish.result _ _
-    (λ r h ls kept of lead picks counted.
-    let are = lead ∙ ap (ways_of (greatest_ring (arcs_of_layers ls))) of.drafted in
-    let used = is_used (objects_spared (greatest_ring (arcs_of_layers ls)) (sparing (large_refs c.args.ring_limit retained)) (objects_drafted (own_refs (linework (layers_of ls))) ls)) in
-    h ∙ ap (λ os. saturated (sum (keep_from (is_used os) 0 c.args.counts.now) - positions_of (keep_from (is_used os) 0 retained)))
-    (ap (large_along c.args.ring_limit retained ways) of.drafted ∙ along_is kept c.args.ring_limit ls c.zero_law.ensures of.sound retained picks ways are)
-    ∙ ap saturated (ap (λ (ns : List ℕ). sum (keep_from used 0 ns) - positions_of (keep_from used 0 retained)) counted
-    ∙ removed_count_is kept c.args.ring_limit ls c.zero_law.ensures of.sound retained picks)) c.finish.ensures.removed_count
+    record {
+      assembled = IfOk-weaker c.finish.result _ _
+          (λ r h ls kept of lead picks.
+          let are = lead ∙ ap (ways_of (greatest_ring (arcs_of_layers ls))) of.drafted in
+          sym (h ∙ ap (λ os. trimmed (contents os retained)) (ap (large_along c.args.ring_limit retained ways) of.drafted ∙ along_is kept c.args.ring_limit ls c.zero_law.ensures of.sound retained picks ways are)
+          ∙ is_assembled kept c.args.ring_limit ls c.zero_law.ensures of.sound retained picks)) c.finish.ensures.left;
+      dropped = IfOk-weaker c.finish.result _ _
+          (λ r h ls kept of lead picks.
+          let are = lead ∙ ap (ways_of (greatest_ring (arcs_of_layers ls))) of.drafted in
+          h ∙ ap (objects_drops (record { arcs = retained; limit = c.args.ring_limit }) 0 ways) of.drafted ∙ drops_are kept c.args.ring_limit ls c.zero_law.ensures of.sound retained picks ways are)
+          c.finish.ensures.dropped;
+      removed_count = IfOk-weaker c.finish.result _ _
+          (λ r h ls kept of lead picks counted.
+          let are = lead ∙ ap (ways_of (greatest_ring (arcs_of_layers ls))) of.drafted in
+          let used = is_used (objects_spared (greatest_ring (arcs_of_layers ls)) (sparing (large_refs c.args.ring_limit retained)) (objects_drafted (own_refs (linework (layers_of ls))) ls)) in
+          h ∙ ap (λ os. saturated (sum (keep_from (is_used os) 0 c.args.counts.now) - positions_of (keep_from (is_used os) 0 retained)))
+          (ap (large_along c.args.ring_limit retained ways) of.drafted ∙ along_is kept c.args.ring_limit ls c.zero_law.ensures of.sound retained picks ways are)
+          ∙ ap saturated (ap (λ (ns : List ℕ). sum (keep_from used 0 ns) - positions_of (keep_from used 0 retained)) counted
+          ∙ removed_count_is kept c.args.ring_limit ls c.zero_law.ensures of.sound retained picks)) c.finish.ensures.removed_count;
+    }

@@ -1,15 +1,9 @@
 -- What is inside a value is less deep.
 use Rattle.std.proofs.Common.{◌≡◌, ℕ, ◌<◌, List, [], ◌∷◌, map, Option, Some, Ok, arith}
-use Rattle.std.specs.List.{AllByRecursion}
-use Rattle.json_value.specs.declared.json.Json.{Json}
-use Rattle.json_value.specs.Depth.{depth, greatest}
-use Rattle.json_value.specs.Kinds.{array_of, object_of}
+use Rattle.geojson_meaning.proofs.Names.{AllByRecursion, array_of_is, object_of_is, IfThere, depth, greatest, array_of, object_of, Json, lookup_fault, find, need}
 use Rattle.json_value.proofs.Depths.{depth-array, depth-object}
-use Rattle.json_value.proofs.KindsOf.{array_of_is, object_of_is}
 use Rattle.json_value.proofs.Parts as p
 use Rattle.json_value.specs.Members as members_by
-use Rattle.geojson_meaning.specs.Members.{lookup_fault, find, need}
-use Rattle.json_value.proofs.Yields.{IfThere}
 
 -- ---- depths
 

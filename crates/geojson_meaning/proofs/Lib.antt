@@ -1,5 +1,6 @@
 pub mod Inputs
 pub mod Inside
+pub mod Names
 pub mod Proper
 pub mod Rows
 pub mod ShapeCases

@@ -1,18 +1,10 @@
 -- A shape that is read may be that of a feature.
 use Rattle.std.proofs.Common.{◌≡◌, ℕ, Bool, true, List, Option, None, Some, Ok, refl, subst, arith}
-use Rattle.json_value.specs.declared.json.Json.{Json}
+use Rattle.geojson_meaning.proofs.Names.{object_of-object, IfThere, first_is, depth, Json, Shape, is_proper_option, Counts, geometry, typed_geometry, if_some, GeometryType}
 use Rattle.json_value.specs.declared.json.Json.TheVariants as j
-use Rattle.json_value.specs.Depth.{depth}
-use Rattle.json_value.proofs.KindsOf.{object_of-object}
-use Rattle.geojson_types.specs.declared.counts.Counts.{Counts}
-use Rattle.geojson_types.specs.Features.{Shape, is_proper_option}
-use Rattle.geojson_meaning.specs.declared.types.GeometryType.{GeometryType}
-use Rattle.geojson_meaning.specs.Geometries.{geometry, typed_geometry}
-use Rattle.geojson_meaning.specs.Reader.{if_some}
 use Rattle.geojson_meaning.proofs.Inside.{object_shallower}
 use Rattle.geojson_meaning.proofs.SoundParts.{SoundIn}
 use Rattle.geojson_meaning.proofs.SoundShapes.{ShallowMembers, geometry_yields, typed_geometry_yields}
-use Rattle.json_value.proofs.Yields.{IfThere, first_is}
 
 option_proper : (n : ℕ) (o : Option Shape) → IfThere (SoundIn n) o → is_proper_option o ≡ true
 option_proper n o h = grind arith

@@ -1,27 +1,13 @@
 -- Worked rows of the definition: small values and the layers or faults that they are.
 use Rattle.std.proofs.Common.{◌≡◌, ℕ, Bool, true, false, List, [], ◌∷◌, map, Option, Some, None, Result, Ok, Err, ap}
 use Rattle.std.specs.Prelude.{codes, pos}
-use Rattle.json_value.specs.declared.json.Json.{Json}
+use Rattle.geojson_meaning.proofs.Names.{input_limit, unit_places, array_of-array, object_of-object, array_kinds, object_kinds, text_kinds, number_kinds, Json, Featured, Shape, Counts, coordinate, elements_position, position, feature, feature_element, typed_geometry, geometry, shape, shapes, coordinates_shape, shape_in, layer, features, typed_features, bare_feature, single_feature, collection_features, features_from, bare, some_elements, line_in, named, need, type_name, polygon_in, ring, Reader, gather, kept, GeoFaultKind, NotObject, UnknownType, Missing, Duplicate, WrongKind, ShortPosition, ShortLine, Range, Inexact}
 use Rattle.json_value.specs.declared.json.Json.TheVariants as j
-use Rattle.json_value.proofs.KindsOf.{array_of-array, object_of-object, array_kinds, object_kinds, text_kinds, number_kinds}
 use Rattle.decimal_text.specs.Scaling.{scaled_of}
-use Rattle.geojson_types.specs.declared.counts.Counts.{Counts}
 use Rattle.geojson_meaning.specs.declared.fault.GeoFault.{GeoFault}
-use Rattle.geojson_meaning.specs.declared.fault.GeoFaultKind.{GeoFaultKind}
-use Rattle.geojson_meaning.specs.declared.fault.GeoFaultKind.TheVariants.{NotObject, UnknownType, Missing, Duplicate, WrongKind, ShortPosition, ShortLine, Range, Inexact}
 use Rattle.geometry.specs.declared.shape.Geometry.TheVariants as g
 use Rattle.geojson_types.specs.declared.id.Id.TheVariants as i
-use Rattle.geojson_types.specs.Features.{Featured, Shape}
-use Rattle.geojson_meaning.specs.Coordinates.{coordinate, elements_position, position}
-use Rattle.geojson_meaning.specs.Features.{feature, feature_element}
-use Rattle.geojson_meaning.specs.Geometries.{typed_geometry, geometry, shape, shapes, coordinates_shape, shape_in}
-use Rattle.geojson_meaning.specs.Layers.{layer, features, typed_features, bare_feature, single_feature, collection_features, features_from, bare}
-use Rattle.geojson_meaning.specs.Lines.{some_elements, line_in}
-use Rattle.geojson_meaning.specs.Members.{named, need, type_name}
-use Rattle.geojson_meaning.specs.Polygons.{polygon_in, ring}
-use Rattle.geojson_meaning.specs.Reader.{Reader, gather, kept}
 use Rattle.geojson_meaning.specs.Types.{geojson_type, geometry_type, coordinates_type}
-use Rattle.geometry.specs.Units.{input_limit, unit_places}
 use Rattle.geojson_meaning.proofs.Unrolled.{shape_object, shapes_array}
 
 -- a layer, a fault before any feature, and one in a feature

@@ -1,18 +1,9 @@
 -- Shapes that keep the rules of their kinds, made of parts that do.
 use Rattle.std.proofs.Common.{◌≡◌, Bool, true, false, List, map, sym, ◌∙◌, subst, arith}
-use Rattle.std.specs.List.{list_all, AllByRecursion}
+use Rattle.geojson_meaning.proofs.Names.{list_all, AllByRecursion, all_weaker, all_map, list_all_of, all_joined, proper_at, points_at, proper-group, joined, Point, IsInput, lines_and_rings, is_ring, Shape, is_line, is_some_list, is_proper, shape_points, RingCloses}
 use Rattle.std.proofs.lemmas.Bool.{and_from}
 use Rattle.geometry.specs.declared.shape.Geometry.TheVariants as g
-use Rattle.geojson_types.specs.Features.{Shape, is_line, is_some_list, is_proper}
-use Rattle.geometry.specs.Lists.{joined}
-use Rattle.geojson_types.specs.Places.{shape_points}
-use Rattle.geometry.specs.Points.{Point, IsInput}
-use Rattle.geometry.specs.Pruning.{lines_and_rings}
-use Rattle.geometry.specs.Rings.{is_ring}
 use Rattle.geometry.proofs.Cases.{lines_and_rings-point, lines_and_rings-points, lines_and_rings-line, lines_and_rings-lines, lines_and_rings-area, lines_and_rings-areas, lines_and_rings-group}
-use Rattle.geometry.proofs.ByKind.{proper_at, points_at, proper-group}
-use Rattle.geojson_meaning.specs.Laws.{RingCloses}
-use Rattle.owned_values.proofs.Elements.{all_weaker, all_map, list_all_of, all_joined}
 
 -- a line of two inputs or more
 abbrev pub IsLine : List Point → Type 0

@@ -1,36 +1,15 @@
 -- What holds of each feature that is read.
 use Rattle.std.proofs.Common.{◌≡◌, ℕ, ◌<◌, ◌≤◌, Bool, List, [], ◌∷◌, Option, None, Some, Ok, refl, ap, ◌∙◌, subst, arith}
 use Rattle.std.specs.Prelude.{codes, bytes_eq}
-use Rattle.std.specs.List.{AllByRecursion}
-use Rattle.json_value.specs.declared.json.Json.{Json}
+use Rattle.geojson_meaning.proofs.Names.{AllByRecursion, all_weaker, Point, object_of_is, object_of-object, Yields, or_fail_is, IfThere, weaker_yields, there_weaker, then_yields, give_yields, fail_yields, pure_yields, if_yields, if_some_yields, depth, array_of, object_of, object_in, HasNumbers, HasTexts, Json, Json-F, out-Json, Shape, Featured, nesting, feature_nesting, IdHasNumbers, PropertiesHaveNumbers, FeatureHasNumbers, IdHasTexts, PropertiesHaveTexts, FeatureHasTexts, identifier_in, identifier, members_in, members_if, feature, feature_element, geometry, bare, find, type_name, fail, pure, or_fail, if_some, NotObject, UnknownType}
 use Rattle.json_value.specs.declared.json.Json.TheVariants as j
-use Rattle.json_value.specs.declared.json.Json.TheOpen.{Json-F}
-use Rattle.json_value.specs.declared.json.Json.TheViews.{out-Json}
-use Rattle.json_value.specs.Depth.{depth}
-use Rattle.json_value.specs.Kinds.{array_of, object_of, object_in}
-use Rattle.json_value.specs.Numbers.{HasNumbers}
-use Rattle.json_value.specs.WellFormed.{HasTexts}
-use Rattle.json_value.proofs.KindsOf.{object_of_is, object_of-object}
 use Rattle.geojson_types.specs.declared.id.Id.{Id}
 use Rattle.geojson_types.specs.declared.id.Id.TheVariants as id
-use Rattle.geojson_types.specs.Features.{Shape, Featured}
-use Rattle.geojson_types.specs.Nesting.{nesting, feature_nesting}
-use Rattle.geojson_types.specs.Numbers.{IdHasNumbers, PropertiesHaveNumbers, FeatureHasNumbers}
-use Rattle.geojson_types.specs.Texts.{IdHasTexts, PropertiesHaveTexts, FeatureHasTexts}
-use Rattle.geometry.specs.Points.{Point}
-use Rattle.geojson_meaning.specs.declared.fault.GeoFaultKind.TheVariants.{NotObject, UnknownType}
-use Rattle.geojson_meaning.specs.Features.{identifier_in, identifier, members_in, members_if, feature, feature_element}
-use Rattle.geojson_meaning.specs.Geometries.{geometry}
-use Rattle.geojson_meaning.specs.Layers.{bare}
-use Rattle.geojson_meaning.specs.Members.{find, type_name}
-use Rattle.geojson_meaning.specs.Reader.{fail, pure, or_fail, if_some}
 use Rattle.geojson_meaning.proofs.Inside.{ShallowerMember, array_shallower, object_shallower, find_part}
 use Rattle.geojson_meaning.proofs.Sound.{IsSound}
 use Rattle.geojson_meaning.proofs.SoundParts.{SoundIn}
 use Rattle.geojson_meaning.proofs.SoundShapes.{geometry_yields}
 use Rattle.json_value.proofs.Inside.{HasNumbersMember, array_numbers, object_numbers, number_inside, HasTextsMember, array_texts, object_texts, text_inside}
-use Rattle.json_value.proofs.Yields.{Yields, or_fail_is, IfThere, weaker_yields, there_weaker, then_yields, give_yields, fail_yields, pure_yields, if_yields, if_some_yields}
-use Rattle.owned_values.proofs.Elements.{all_weaker}
 
 -- less deep than n, with numbers alone where N holds, and with texts that are UTF-8 where T does
 abbrev pub IsPart : ℕ → Type 0 → Type 0 → Json → Type 0

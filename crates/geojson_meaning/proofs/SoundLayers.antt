@@ -1,39 +1,13 @@
 -- What holds of each layer that is read.
 use Rattle.std.proofs.Common.{◌≡◌, ℕ, ◌+◌, ◌<◌, ◌≤◌, Bool, true, List, [], ◌∷◌, map, Option, None, Some, Ok, arith}
 use Rattle.std.specs.Prelude.{codes}
-use Rattle.std.specs.List.{AllByRecursion}
+use Rattle.geojson_meaning.proofs.Names.{AllByRecursion, all_weaker, all_map, all_joined, IsInput, option_lines_and_rings, given, Yields, or_fail_is, IfThere, then_yields, give_yields, pure_yields, depth, array_of, HasNumbers, HasTexts, Json, no_counts, Featured, is_proper_option, feature_nesting, FeatureHasNumbers, option_points, features_points, FeatureHasTexts, Counts, feature, feature_element, typed_geometry, ShapesAreProper, InputsAlone, RingCloses, RingsClose, NothingDeeper, NumbersStay, TextsStay, features_from, collection_features, single_feature, bare, bare_feature, typed_features, features, layer, need, Reader, fault_in, pure, or_fail, within, WrongKind, GeoJsonType, GeometryType}
 use Rattle.std.proofs.lemmas.List.Elements.{All-from_recursion}
-use Rattle.json_value.specs.declared.json.Json.{Json}
-use Rattle.json_value.specs.Depth.{depth}
-use Rattle.json_value.specs.Kinds.{array_of}
-use Rattle.json_value.specs.Numbers.{HasNumbers}
-use Rattle.json_value.specs.WellFormed.{HasTexts}
-use Rattle.geojson_types.specs.declared.counts.Counts.{Counts}
-use Rattle.geojson_types.specs.Counting.{no_counts}
-use Rattle.geojson_types.specs.Features.{Featured, is_proper_option}
-use Rattle.geojson_types.specs.Nesting.{feature_nesting}
-use Rattle.geojson_types.specs.Numbers.{FeatureHasNumbers}
-use Rattle.geojson_types.specs.Texts.{FeatureHasTexts}
-use Rattle.geojson_types.specs.Places.{option_points, features_points}
-use Rattle.geometry.specs.Points.{IsInput}
-use Rattle.geometry.specs.Pruning.{option_lines_and_rings}
-use Rattle.geojson_meaning.specs.declared.fault.GeoFaultKind.TheVariants.{WrongKind}
-use Rattle.geojson_meaning.specs.declared.types.GeoJsonType.{GeoJsonType}
 use Rattle.geojson_meaning.specs.declared.types.GeoJsonType.TheVariants as type
-use Rattle.geojson_meaning.specs.declared.types.GeometryType.{GeometryType}
-use Rattle.geojson_meaning.specs.Features.{feature, feature_element}
-use Rattle.geojson_meaning.specs.Geometries.{typed_geometry}
-use Rattle.geojson_meaning.specs.Laws.{ShapesAreProper, InputsAlone, RingCloses, RingsClose, NothingDeeper, NumbersStay, TextsStay}
-use Rattle.geojson_meaning.specs.Layers.{features_from, collection_features, single_feature, bare, bare_feature, typed_features, features, layer}
-use Rattle.geojson_meaning.specs.Members.{need}
-use Rattle.geojson_meaning.specs.Reader.{Reader, fault_in, pure, or_fail, within}
 use Rattle.geojson_meaning.proofs.Inside.{ShallowerMember, object_deep, need_part}
 use Rattle.geojson_meaning.proofs.SoundFeatures.{IsPart, IsPartMember, IsSoundFeature, array_parts, object_parts, feature_yields, feature_element_yields, bare_sound}
 use Rattle.geojson_meaning.proofs.SoundParts.{SoundIn}
 use Rattle.geojson_meaning.proofs.SoundShapes.{typed_geometry_yields}
-use Rattle.json_value.proofs.Parts.{given}
-use Rattle.json_value.proofs.Yields.{Yields, or_fail_is, IfThere, then_yields, give_yields, pure_yields}
-use Rattle.owned_values.proofs.Elements.{all_weaker, all_map, all_joined}
 
 within_yields : {A : Type 0} (n : Option ℕ) (P : A → Type 0) (m : Reader A) → Yields P m → Yields P (within n m)
 within_yields n P m h c d x e = h c d x (given (fault_in n) (m c) (x, d) e)

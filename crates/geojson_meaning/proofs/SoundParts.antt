@@ -1,31 +1,12 @@
 -- What is read of a value without collections keeps the rules of its kind, and is no deeper than the value.
 use Rattle.std.proofs.Common.{◌≡◌, ℕ, suc, ◌<◌, ◌≤◌, Bool, true, cond, List, [], ◌∷◌, Option, Some, None, Ok, refl, arith, unsigned_abs, ℤ}
-use Rattle.std.specs.List.{AllByRecursion}
+use Rattle.geojson_meaning.proofs.Names.{AllByRecursion, all_weaker, map_some, unless_empty, Point, IsInput, is_ring, input_limit, Yields, IfThere, weaker_yields, there_weaker, then_yields, give_yields, count_yields, fail_yields, if_yields, if_some_yields, each_of_yields, kept_of_yields, depth, array_of, Json, count_rounded, Shape, is_some_list, nesting, number_in_units, coordinate, elements_position, array_position, position, shape_in, coordinates_shape, elements_in, some_elements, as_line, line_in, line, as_ring, ring_in, ring, with_outer, polygon_in, polygon, Reader, ◌>>=◌, fail, each, kept, if_some, WrongKind, Inexact, CoordinatesType}
 use Rattle.decimal_text.proofs.ScaledNumber.{scaled_of-within}
-use Rattle.json_value.specs.declared.json.Json.{Json}
-use Rattle.json_value.specs.Depth.{depth}
-use Rattle.json_value.specs.Kinds.{array_of}
 use Rattle.geometry.specs.declared.shape.Geometry.TheVariants as g
-use Rattle.geojson_types.specs.Counting.{count_rounded}
-use Rattle.geojson_types.specs.Features.{Shape, is_some_list}
-use Rattle.geometry.specs.Lists.{map_some, unless_empty}
-use Rattle.geojson_types.specs.Nesting.{nesting}
-use Rattle.geometry.specs.Points.{Point, IsInput}
-use Rattle.geometry.specs.Units.{input_limit}
-use Rattle.geometry.specs.Rings.{is_ring}
-use Rattle.geojson_meaning.specs.declared.fault.GeoFaultKind.TheVariants.{WrongKind, Inexact}
-use Rattle.geojson_meaning.specs.declared.types.CoordinatesType.{CoordinatesType}
 use Rattle.geojson_meaning.specs.declared.types.CoordinatesType.TheVariants as type
-use Rattle.geojson_meaning.specs.Coordinates.{number_in_units, coordinate, elements_position, array_position, position}
-use Rattle.geojson_meaning.specs.Geometries.{shape_in, coordinates_shape}
-use Rattle.geojson_meaning.specs.Lines.{elements_in, some_elements, as_line, line_in, line}
-use Rattle.geojson_meaning.specs.Polygons.{as_ring, ring_in, ring, with_outer, polygon_in, polygon}
-use Rattle.geojson_meaning.specs.Reader.{Reader, ◌>>=◌, fail, each, kept, if_some}
 use Rattle.geojson_meaning.proofs.Inside.{Shallower, array_shallower, array_deep}
 use Rattle.geojson_meaning.proofs.Sound.{IsLine, IsRing, IsArea, IsSound, sound-point, sound-points, sound-line, sound-lines, sound-area, sound-areas}
 use Rattle.geojson_meaning.proofs.ShapeCases.{nest_at}
-use Rattle.json_value.proofs.Yields.{Yields, IfThere, weaker_yields, there_weaker, then_yields, give_yields, count_yields, fail_yields, if_yields, if_some_yields, each_of_yields, kept_of_yields}
-use Rattle.owned_values.proofs.Elements.{all_weaker}
 
 -- a P, and at least k levels of n
 abbrev pub Takes : {A : Type 0} → (A → Type 0) → ℕ → ℕ → A → Type 0

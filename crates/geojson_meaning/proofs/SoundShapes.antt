@@ -1,29 +1,14 @@
 -- Each shape that is read keeps the rules of its kind, and is no deeper than its value.
 use Rattle.std.proofs.Common.{◌≡◌, ℕ, zero, suc, ◌<◌, Bool, List, [], ◌∷◌, map, Option, Some, None, Ok, refl, arith}
 use Rattle.std.specs.Prelude.{codes}
-use Rattle.std.specs.List.{AllByRecursion}
-use Rattle.json_value.specs.declared.json.Json.{Json}
-use Rattle.json_value.specs.Depth.{depth, greatest}
-use Rattle.json_value.specs.Kinds.{array_of, object_of}
-use Rattle.geojson_types.specs.declared.counts.Counts.{Counts}
+use Rattle.geojson_meaning.proofs.Names.{AllByRecursion, all_weaker, Point, Yields, IfThere, there_weaker, weaker_yields, then_yields, give_yields, fail_yields, pure_yields, kept_of_yields, depth, greatest, array_of, object_of, Json, Shape, nesting, Counts, coordinates_shape, shape, shapes, typed_geometry, geometry, need, need_as, Reader, give, pure, kept, GeoFaultKind, WrongKind, GeometryType}
 use Rattle.geometry.specs.declared.shape.Geometry.TheVariants as g
-use Rattle.geojson_types.specs.Features.{Shape}
-use Rattle.geojson_types.specs.Nesting.{nesting}
-use Rattle.geometry.specs.Points.{Point}
-use Rattle.geojson_meaning.specs.declared.fault.GeoFaultKind.{GeoFaultKind}
-use Rattle.geojson_meaning.specs.declared.fault.GeoFaultKind.TheVariants.{WrongKind}
-use Rattle.geojson_meaning.specs.declared.types.GeometryType.{GeometryType}
 use Rattle.geojson_meaning.specs.declared.types.GeometryType.TheVariants as type
-use Rattle.geojson_meaning.specs.Geometries.{coordinates_shape, shape, shapes, typed_geometry, geometry}
-use Rattle.geojson_meaning.specs.Members.{need, need_as}
-use Rattle.geojson_meaning.specs.Reader.{Reader, give, pure, kept}
 use Rattle.geojson_meaning.proofs.Inside.{Shallower, ShallowerMember, array_shallower, array_deep, object_shallower, need_part}
 use Rattle.geojson_meaning.proofs.Sound.{IsSound, sound-group}
 use Rattle.geojson_meaning.proofs.SoundParts.{SoundIn, coordinates_shape_yields}
 use Rattle.geojson_meaning.proofs.Unrolled.{shape_object, shape_other, shapes_array, shapes_other}
 use Rattle.geojson_meaning.proofs.ShapeCases.{nest_at}
-use Rattle.json_value.proofs.Yields.{Yields, IfThere, there_weaker, weaker_yields, then_yields, give_yields, fail_yields, pure_yields, kept_of_yields}
-use Rattle.owned_values.proofs.Elements.{all_weaker}
 
 -- members whose values are less deep than n
 abbrev pub ShallowMembers : ℕ → List (List ℕ × Json) → Type 0

@@ -1,11 +1,7 @@
 -- Readers of which one is stricter: what it gives the other gives too, with the same counts, and it counts no rounding.
 use Rattle.std.proofs.Common.{◌≡◌, ℕ, Bool, true, false, cond, List, [], ◌∷◌, Option, Some, None, Result, Ok, sym, ap, ◌∙◌, arith}
 use Rattle.std.specs.Prelude.{option_to_list}
-use Rattle.std.specs.List.{AllByRecursion}
-use Rattle.geojson_types.specs.declared.counts.Counts.{Counts}
-use Rattle.geojson_meaning.specs.Reader.{Counting, Reader, ◌>>=◌, give, fail, pure, within, gather, each, kept, if_some}
-use Rattle.json_value.proofs.Parts.{given}
-use Rattle.json_value.proofs.Yields.{taken, second_is}
+use Rattle.geojson_meaning.proofs.Names.{AllByRecursion, given, taken, second_is, Counts, Counting, Reader, ◌>>=◌, give, fail, pure, within, gather, each, kept, if_some}
 
 -- what the strict reader gives the lax one gives, and the strict one counts no rounding
 abbrev pub Stricter : {E A : Type 0} → Counting E A → Counting E A → Type 0

@@ -1,23 +1,11 @@
 -- A layer that is read with `exact` is read without it.
 use Rattle.std.proofs.Common.{◌≡◌, ℕ, zero, suc, ◌+◌, ◌<◌, true, false, List, [], ◌∷◌, Option, Some, None, Result, Ok, arith}
 use Rattle.std.specs.Prelude.{codes}
-use Rattle.json_value.specs.declared.json.Json.{Json}
+use Rattle.geojson_meaning.proofs.Names.{depth, array_of, object_of, Json, identifier, members_if, feature, feature_element, coordinates_shape, shape, shapes, typed_geometry, geometry, ExactIsStricter, features_from, collection_features, single_feature, bare_feature, typed_features, features, layer, find, need, need_as, Reader, LayerReader, ◌>>=◌, pure, within, if_some, GeoFaultKind, WrongKind, GeoJsonType, GeometryType}
 use Rattle.json_value.specs.declared.json.Json.TheVariants as j
-use Rattle.json_value.specs.Depth.{depth}
-use Rattle.json_value.specs.Kinds.{array_of, object_of}
 use Rattle.geometry.specs.declared.shape.Geometry.TheVariants as g
-use Rattle.geojson_meaning.specs.declared.fault.GeoFaultKind.{GeoFaultKind}
-use Rattle.geojson_meaning.specs.declared.fault.GeoFaultKind.TheVariants.{WrongKind}
-use Rattle.geojson_meaning.specs.declared.types.GeoJsonType.{GeoJsonType}
 use Rattle.geojson_meaning.specs.declared.types.GeoJsonType.TheVariants as geojson
-use Rattle.geojson_meaning.specs.declared.types.GeometryType.{GeometryType}
 use Rattle.geojson_meaning.specs.declared.types.GeometryType.TheVariants as type
-use Rattle.geojson_meaning.specs.Features.{identifier, members_if, feature, feature_element}
-use Rattle.geojson_meaning.specs.Geometries.{coordinates_shape, shape, shapes, typed_geometry, geometry}
-use Rattle.geojson_meaning.specs.Laws.{ExactIsStricter}
-use Rattle.geojson_meaning.specs.Layers.{features_from, collection_features, single_feature, bare_feature, typed_features, features, layer}
-use Rattle.geojson_meaning.specs.Members.{find, need, need_as}
-use Rattle.geojson_meaning.specs.Reader.{Reader, LayerReader, ◌>>=◌, pure, within, if_some}
 use Rattle.geojson_meaning.proofs.Proper.{shallow}
 use Rattle.geojson_meaning.proofs.Inside.{Shallower, array_shallower, object_shallower, need_part}
 use Rattle.geojson_meaning.proofs.SoundShapes.{ShallowMembers}

@@ -1,20 +1,8 @@
 -- What is read of a value without collections, with `exact` and without.
 use Rattle.std.proofs.Common.{◌≡◌, Bool, true, false, List, [], ◌∷◌, Option, Some, None, arith}
-use Rattle.json_value.specs.declared.json.Json.{Json}
-use Rattle.json_value.specs.Kinds.{array_of}
-use Rattle.geojson_types.specs.declared.counts.Counts.{Counts}
+use Rattle.geojson_meaning.proofs.Names.{map_some, unless_empty, Point, array_of, Json, count_extra, Counts, coordinate, elements_position, array_position, position, shape_in, coordinates_shape, some_elements, line_in, line, as_ring, ring_in, ring, polygon_in, polygon, Reader, ◌>>=◌, fail, each, kept, if_some, WrongKind, ShortPosition, CoordinatesType}
 use Rattle.geometry.specs.declared.shape.Geometry.TheVariants as g
-use Rattle.geojson_types.specs.Counting.{count_extra}
-use Rattle.geometry.specs.Lists.{map_some, unless_empty}
-use Rattle.geometry.specs.Points.{Point}
-use Rattle.geojson_meaning.specs.declared.fault.GeoFaultKind.TheVariants.{WrongKind, ShortPosition}
-use Rattle.geojson_meaning.specs.declared.types.CoordinatesType.{CoordinatesType}
 use Rattle.geojson_meaning.specs.declared.types.CoordinatesType.TheVariants as type
-use Rattle.geojson_meaning.specs.Coordinates.{coordinate, elements_position, array_position, position}
-use Rattle.geojson_meaning.specs.Geometries.{shape_in, coordinates_shape}
-use Rattle.geojson_meaning.specs.Lines.{some_elements, line_in, line}
-use Rattle.geojson_meaning.specs.Polygons.{as_ring, ring_in, ring, polygon_in, polygon}
-use Rattle.geojson_meaning.specs.Reader.{Reader, ◌>>=◌, fail, each, kept, if_some}
 use Rattle.geojson_meaning.proofs.Stricter.{Stricter, then_stricter, give_stricter, fail_stricter, count_stricter, if_stricter, if_some_stricter, each_stricter, kept_stricter}
 
 -- ---- coordinates and positions

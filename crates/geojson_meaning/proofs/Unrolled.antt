@@ -1,17 +1,9 @@
 -- What a value is read as, by one level of it.
 use Rattle.std.proofs.Common.{◌≡◌, ℕ, Bool, List, map, Some, None, refl, sym, ap, ◌∙◌, arith}
 use Rattle.std.specs.Prelude.{codes}
-use Rattle.json_value.specs.declared.json.Json.{Json}
+use Rattle.geojson_meaning.proofs.Names.{gather_map, need_map, pure_map, array_of, array_in, object_of, object_in, Json, Json-F, out-Json, roll-out-Json, Readings, readings_step, readings, shape, shapes, geometry, geometry_with, typed_geometry, lookup_fault, need, need_as, Reader, ◌>>=◌, fail, pure, with_fault, kept, WrongKind}
 use Rattle.json_value.specs.declared.json.Json.TheFolds.{para-Json, para-roll-Json, map-Json}
-use Rattle.json_value.specs.declared.json.Json.TheViews.{out-Json, roll-out-Json}
-use Rattle.json_value.specs.declared.json.Json.TheOpen.{Json-F}
-use Rattle.json_value.specs.Kinds.{array_of, array_in, object_of, object_in}
-use Rattle.geojson_meaning.specs.declared.fault.GeoFaultKind.TheVariants.{WrongKind}
-use Rattle.geojson_meaning.specs.Geometries.{Readings, readings_step, readings, shape, shapes, geometry, geometry_with, typed_geometry}
-use Rattle.json_value.proofs.Parts.{gather_map, need_map, pure_map}
 use Rattle.json_value.specs.Members as members_by
-use Rattle.geojson_meaning.specs.Members.{lookup_fault, need, need_as}
-use Rattle.geojson_meaning.specs.Reader.{Reader, ◌>>=◌, fail, pure, with_fault, kept}
 use Rattle.owned_values.proofs.Lists.{map_back}
 
 -- ---- reading under a map

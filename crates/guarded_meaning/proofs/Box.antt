@@ -51,7 +51,7 @@ one_sign_left : (j k l x y z : ℤ) → j *ℤ x +ℤ (k *ℤ y +ℤ l *ℤ z) �
 one_sign_left j k l x y z e (inl w) hx hy hz = over_left j k l x y z e w hx hy hz
 one_sign_left j k l x y z e (inr w) hx hy hz =
     let h = over_left (opposite j) (opposite k) (opposite l) x y z (omega (arith, ints, e, opposite_times j x, opposite_times k y, opposite_times l z))
-        (omega (arith, ints, w.0), omega (arith, ints, w.1), omega (arith, ints, w.2)) hx hy hz in
+    (omega (arith, ints, w.0), omega (arith, ints, w.1), omega (arith, ints, w.2)) hx hy hz in
     omega (arith, ints, h)
 
 one_sign_right : (j k l x y z : ℤ) → j *ℤ x +ℤ (k *ℤ y +ℤ l *ℤ z) ≡ pos 0 → AllOver j k l ⊎ AllUnder j k l → (pos 0 <ℤ x) → (pos 0 <ℤ y) → (pos 0 <ℤ z) → j +ℤ (k +ℤ l) ≡ pos 0

@@ -1,16 +1,8 @@
 -- How many different positions a list has.
 use Rattle.std.proofs.Common.{◌≡◌, ◌≢◌, suc, Bool, true, false, cond, not, ◌||◌, List, [], ◌∷◌, length, refl, ap, sym, ◌∙◌, ◌⊎◌, inl, inr, subst, arith}
-use Rattle.std.specs.List.{AllByRecursion, filter, list_any}
-use Rattle.geometry.specs.Points.{Point}
-use Rattle.geometry.specs.Rings.{same}
-use Rattle.geometry.proofs.Points.{same_is}
-use Rattle.junctions.specs.Among.{In}
-use Rattle.junctions.specs.Reading.{with_positions}
-use Rattle.junctions.specs.Visits.{distinct, first_seen}
+use Rattle.junctions.proofs.Names.{AllByRecursion, filter, list_any, in_from_any, AreDistinct, same_is, Point, same, In, with_positions, distinct, first_seen}
 use Rattle.junctions.proofs.FirstSeen.{seen_in_order, seen_member}
 use Rattle.junctions.proofs.Numbers.{distinct_seen}
-use Rattle.owned_values.proofs.Members.{in_from_any}
-use Rattle.owned_values.specs.Lists.{AreDistinct}
 
 pub in_distinct : (x : Point) (xs : List Point) → In x xs → In x (distinct xs)
 in_distinct x [] k = k

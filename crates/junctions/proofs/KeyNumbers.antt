@@ -1,8 +1,7 @@
 -- The places of keys, where one test of equality decides as another.
 use Rattle.std.proofs.Common.{◌≡◌, ℕ, Bool, true, false, List, [], ◌∷◌, position, Option, None, Some, IfSome, slice_get, refl, ap, sym, ◌∙◌, arith}
-use Rattle.std.specs.List.{list_any}
+use Rattle.junctions.proofs.Names.{slice_get-get_or, list_any}
 use Rattle.std.proofs.lemmas.List.Quantifiers.{position-Some}
-use Rattle.std.proofs.lemmas.Option.{slice_get-get_or}
 use Rattle.junctions.specs.Numbering.{with_key}
 
 module _ {K : Type 0} (eq same : K → K → Bool) (alike : (a b : K) → eq a b ≡ same a b) where

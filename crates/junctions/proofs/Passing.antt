@@ -1,18 +1,6 @@
 -- What is kept of one position, with one visit more.
 use Rattle.std.proofs.Common.{◌≡◌, ℕ, ◌≤◌, Bool, true, false, cond, ◌==◌, not, ◌||◌, List, [], ◌∷◌, ◌++◌, map, length, nat_eq, nat_le, slice_get, Some, ◌⊎◌, inl, inr, refl, ap, sym, ◌∙◌, subst, arith}
-use Rattle.std.specs.List.{list_any}
-use Rattle.std.proofs.Math.Bool.{or-true}
-use Rattle.std.proofs.lemmas.Bool.Decides.{nat_tests}
-use Rattle.std.proofs.lemmas.List.{length-append, map-append}
-use Rattle.owned_values.specs.Lists.{AreDistinct}
-use Rattle.geometry.specs.Points.{Point}
-use Rattle.geometry.specs.Rings.{same}
-use Rattle.geometry.proofs.Points.{same_is, same_self}
-use Rattle.junctions.specs.declared.vertex.Vertex.{Vertex}
-use Rattle.junctions.specs.declared.vertex.Vertex.TheVariants.{Unvisited, Between, Junction, RingStart}
-use Rattle.junctions.specs.Kept.{at_cut, at_junction, kept_of, passed, with_number}
-use Rattle.junctions.specs.Reading.{AreNumbers, Represents, with_position, with_positions}
-use Rattle.junctions.specs.Visits.{distinct}
+use Rattle.junctions.proofs.Names.{or-true, nat_tests, length-append, map-append, list_any, AreDistinct, same_is, same_self, Point, same, at_cut, at_junction, kept_of, passed, with_number, AreNumbers, Represents, with_position, with_positions, distinct, Vertex, Unvisited, Between, Junction, RingStart}
 use Rattle.junctions.proofs.Cleaned.{same_sym}
 use Rattle.junctions.proofs.Counting.{as_many_distinct}
 use Rattle.junctions.proofs.FirstSeen.{positions_append, seen_member}

@@ -1,6 +1,5 @@
 use Rattle.std.proofs.Common.{Some, length, slice_get, refl, ap, sym, ◌∙◌}
-use Rattle.std.proofs.lemmas.Option.{slice_get_read}
-use Rattle.geometry.proofs.Points.{same_is}
+use Rattle.junctions.proofs.Names.{slice_get_read, same_is}
 use Rattle.junctions.proofs.Numbers.{seen_at}
 use Rattle.junctions.proofs.visiting.number_from.Goals as goal
 

@@ -1,17 +1,7 @@
 -- Two tests that agree on the positions of a line give the same start and the same pieces of it.
-use Rattle.owned_values.proofs.Elements.{all_drop, all_of, all_take, each_of}
+use Rattle.cutter.proofs.Names.{filter, all_drop, all_of, all_take, each_of, in_append, is_least, Point, Address, last, Stroke, joined, pieces_from, split_at, first_at, start_in, turned, from_start, In, SplitLine, split_by, EndsPass}
 use Rattle.std.proofs.Common.{◌≡◌, ℕ, ◌+◌, Bool, cond, List, [], ◌∷◌, take, drop, refl, ap, sym, ◌∙◌, subst, inl, inr, arith}
-use Rattle.std.specs.List.{filter}
-use Rattle.cutter.specs.Pieces.{joined, pieces_from, split_at, first_at, start_in, turned, from_start}
-use Rattle.cutter.specs.Places.{In}
-use Rattle.cutter.specs.Slices.{SplitLine, split_by, EndsPass}
-use Rattle.geometry.specs.Order.{is_least}
-use Rattle.geometry.specs.Points.{Point}
-use Rattle.geometry.specs.declared.address.Address.{Address}
-use Rattle.junctions.specs.Visits.{last}
-use Rattle.junctions.specs.declared.stroke.Stroke.{Stroke}
 use Rattle.cutter.proofs.Starts.{line}
-use Rattle.owned_values.proofs.Members.{in_append}
 
 in_drop : (k : ℕ) (x : Point) (ps : List Point) → In x (drop k ps) → In x ps
 in_drop k x ps h = each_of (λ y. In y ps) (drop k ps) x (all_drop (λ y. In y ps) k ps (all_of (λ y. In y ps) ps (λ y m. m))) h

@@ -1,15 +1,7 @@
 -- A line from its start is clean, as the line is.
 use Rattle.std.proofs.Common.{◌≡◌, ℕ, ◌<◌, ◌≤◌, Bool, true, false, List, [], ◌∷◌, ◌++◌, length, map, refl, ap, sym, ◌∙◌, arith, inl, inr}
-use Rattle.cutter.specs.Pieces.{start_in, turned}
-use Rattle.cutter.specs.Places.{In}
-use Rattle.cutter.specs.Slices.{started, split_of, lines_and_rings}
+use Rattle.cutter.proofs.Names.{Point, Address, Moves, IsCleanList, IsClean, AllClean, is_cut, last, Stroke, start_in, turned, In, started, split_of, lines_and_rings}
 use Rattle.geometry.specs.Lists.{all_but_last_of}
-use Rattle.geometry.specs.Points.{Point}
-use Rattle.geometry.specs.declared.address.Address.{Address}
-use Rattle.junctions.specs.Cleaning.{Moves, IsCleanList, IsClean, AllClean}
-use Rattle.junctions.specs.Cuts.{is_cut}
-use Rattle.junctions.specs.Visits.{last}
-use Rattle.junctions.specs.declared.stroke.Stroke.{Stroke}
 use Rattle.cutter.proofs.Joins.{turned_length}
 use Rattle.cutter.proofs.RingPieces.{moves_more, all_but_last_last, all_but_last_length, turned_is}
 use Rattle.cutter.proofs.Starts.{ring_cut, start_cut, line}

@@ -1,21 +1,10 @@
 -- The pieces of lines, joined again, are the lines, and their segments occur as often.
 use Rattle.cutter.proofs.Structured.{clean_in}
-use Rattle.owned_values.proofs.Elements.{all_made}
+use Rattle.cutter.proofs.Names.{length-append, length-drop, length-take-le, sum_by-append, all_made, Point, Address, AllClean, IsClean, is_cut, Stroke, joined, pieces_from, split_at, start_in, turned, from_start, pieces_of, pieces, stitched, In, Segment, segments, segments_from, is_segment, line_segments, piece_segments, times, split_of, IsSplit, AllSplit, all_pieces}
 use Rattle.std.proofs.Common.{◌≡◌, ℕ, ◌+◌, ◌<◌, ◌≤◌, Bool, true, false, cond, List, [], ◌∷◌, ◌++◌, take, drop, length, map, refl, ap, sym, ◌∙◌, arith, add_comm, inl, inr}
-use Rattle.cutter.specs.Pieces.{joined, pieces_from, split_at, start_in, turned, from_start, pieces_of, pieces, stitched}
-use Rattle.cutter.specs.Places.{In}
-use Rattle.cutter.specs.Segments.{Segment, segments, segments_from, is_segment, line_segments, piece_segments, times}
-use Rattle.cutter.specs.Slices.{split_of, IsSplit, AllSplit, all_pieces}
-use Rattle.geometry.specs.Points.{Point}
-use Rattle.geometry.specs.declared.address.Address.{Address}
-use Rattle.junctions.specs.Cleaning.{AllClean, IsClean}
-use Rattle.junctions.specs.Cuts.{is_cut}
-use Rattle.junctions.specs.declared.stroke.Stroke.{Stroke}
 use Rattle.cutter.proofs.SegmentLaws.{split_at_segments, segments_split, turned_segments}
 use Rattle.cutter.proofs.Starts.{ring_cut, start_cut, line}
-use Rattle.std.proofs.lemmas.List.Sums.{sum_by-append}
 use Rattle.std.proofs.lemmas.Grind.{flat_map-append}
-use Rattle.std.proofs.lemmas.List.{length-append, length-drop, length-take-le}
 
 -- the first piece begins at p
 abbrev BeginsAt : Point → List (List Point) → Type 0

@@ -1,16 +1,8 @@
 -- What holds where no junction is.
 use Rattle.std.proofs.Common.{◌≡◌, ◌≢◌, ℕ, false, not, eqb, ◌||◌, List, [], ◌∷◌, length, refl, ap, sym, ◌∙◌, arith, ◌⊎◌, inl, inr}
-use Rattle.std.specs.List.{flat_map, list_any}
-use Rattle.std.proofs.lemmas.Bool.{or_parts}
+use Rattle.cutter.proofs.Names.{or_parts, flat_map, list_any, same_self, Point, same, in_filter, none_of, is_cut, starts_free_ring, Visit, all_visits, visits_at, neighbors, distinct, ends_open, is_junction, Stroke}
 use Rattle.std.proofs.lemmas.Bool.Decides.{nat_tests}
 pub use Rattle.cutter.specs.Places.{In}
-use Rattle.geometry.specs.Points.{Point}
-use Rattle.geometry.specs.Rings.{same}
-use Rattle.geometry.proofs.Points.{same_self}
-use Rattle.junctions.specs.Cuts.{is_cut, starts_free_ring}
-use Rattle.junctions.specs.Visits.{Visit, all_visits, visits_at, neighbors, distinct, ends_open, is_junction}
-use Rattle.junctions.specs.declared.stroke.Stroke.{Stroke}
-use Rattle.junctions.proofs.Members.{in_filter, none_of}
 use Rattle.junctions.proofs.Counting.{in_distinct, of_two}
 
 pub both_in : (v : Visit) (vs : List Visit) → In v vs → In v.before (flat_map (λ v. v.before ∷ (v.after ∷ [])) vs) × In v.after (flat_map (λ v. v.before ∷ (v.after ∷ [])) vs)

@@ -1,27 +1,12 @@
 -- What is known of lines by their vertices.
-use Rattle.junctions.proofs.Members.{get_in}
+use Rattle.cutter.proofs.Names.{or-true, flat_map, any_from_in, same_self, Point, same, Address, get_in, Answers, is_member, AnswersFor, AllClean, IsClean, is_cut, Stroke, AllKnown, IsReady, start_in, from_start, pieces_of, In, IsStructured, slices, indexes, SplitLine, split_by, split_of, all_pieces, EndsPass}
 use Rattle.std.proofs.Common.{◌≡◌, ℕ, ◌<◌, Bool, true, false, List, [], ◌∷◌, ◌++◌, length, map, get_or, refl, ap, sym, ◌∙◌, subst, arith}
-use Rattle.std.specs.List.{flat_map}
-use Rattle.cutter.specs.Known.{AllKnown, IsReady}
-use Rattle.cutter.specs.Pieces.{start_in, from_start, pieces_of}
-use Rattle.cutter.specs.Places.{In, IsStructured}
-use Rattle.cutter.specs.Slices.{slices, indexes, SplitLine, split_by, split_of, all_pieces, EndsPass}
-use Rattle.geometry.specs.Points.{Point}
-use Rattle.geometry.specs.Rings.{same}
-use Rattle.geometry.specs.declared.address.Address.{Address}
-use Rattle.geometry.proofs.Points.{same_self}
-use Rattle.junctions.specs.Cleaning.{AllClean, IsClean}
-use Rattle.junctions.specs.Cuts.{is_cut}
-use Rattle.junctions.specs.declared.stroke.Stroke.{Stroke}
-use Rattle.junctions.specs.Answers.{Answers, is_member, AnswersFor}
 use Rattle.cutter.proofs.Agreement.{in_start, start_agree, by_agree, ends_agree, split}
 use Rattle.cutter.proofs.OpenPieces.{end_cut}
 use Rattle.cutter.proofs.RingPieces.{turned_is}
 use Rattle.cutter.proofs.SliceLaws.{slices_are}
 use Rattle.cutter.proofs.Starts.{ring_cut, start_cut, line}
 use Rattle.cutter.proofs.Structured.{clean_in, structured}
-use Rattle.std.proofs.Math.Bool.{or-true}
-use Rattle.owned_values.proofs.Members.{any_from_in}
 
 -- the answers are those of the lines
 pub cuts_known : (ls : List Stroke) (v : Answers) → AnswersFor ls v → (s : Stroke) → In s ls → (x : Point) → In x s.positions → is_member v.cuts x ≡ is_cut ls x

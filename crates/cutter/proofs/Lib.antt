@@ -1,3 +1,4 @@
+pub mod Names
 pub mod Walks
 pub mod Junctions
 pub mod Splits

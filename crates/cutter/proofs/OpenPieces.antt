@@ -1,17 +1,7 @@
 -- The pieces of an open line.
 use Rattle.std.proofs.Common.{◌≡◌, true, false, not, ◌&&◌, ◌||◌, List, ◌∷◌, append-nil, ap, sym, ◌∙◌, subst, arith}
-use Rattle.std.proofs.Math.Bool.{or-true}
-use Rattle.cutter.specs.Pieces.{pieces_of}
-use Rattle.geometry.specs.Points.{Point}
-use Rattle.geometry.specs.declared.address.Address.{Address}
-use Rattle.geometry.specs.Rings.{same}
-use Rattle.geometry.proofs.Points.{same_self}
-use Rattle.junctions.specs.Cleaning.{Moves}
-use Rattle.junctions.specs.Cuts.{is_cut}
-use Rattle.junctions.specs.Visits.{visits, visits_from, last, is_end}
-use Rattle.junctions.specs.declared.stroke.Stroke.{Stroke}
+use Rattle.cutter.proofs.Names.{or-true, any_from_in, same_self, Point, same, Address, Moves, is_cut, visits, visits_from, last, is_end, Stroke, pieces_of}
 pub use Rattle.junctions.proofs.Members.{in_flat}
-use Rattle.owned_values.proofs.Members.{any_from_in}
 use Rattle.cutter.proofs.Junctions.{In, Via}
 use Rattle.cutter.proofs.Splits.{AllWalks}
 use Rattle.cutter.proofs.PieceLaws.{pieces_hold}

@@ -1,13 +1,6 @@
 -- Pieces of lines: sharing, and each place once.
 use Rattle.std.proofs.Common.{◌≡◌, ◌≢◌, true, List, [], ◌∷◌, reverse, refl, ap, sym, ◌∙◌, subst, inl, inr, length, ◌<◌, arith}
-use Rattle.cutter.specs.Pieces.{pieces_from}
-use Rattle.cutter.specs.Places.{Apart, all_but_last_of, interior as interior_of}
-use Rattle.geometry.specs.Points.{Point}
-use Rattle.junctions.specs.Cleaning.{Moves}
-use Rattle.junctions.specs.Cuts.{is_cut}
-use Rattle.junctions.specs.Visits.{Visit, visits_from, all_visits, last}
-use Rattle.junctions.specs.declared.stroke.Stroke.{Stroke}
-use Rattle.std.specs.List.{AllByRecursion}
+use Rattle.cutter.proofs.Names.{AllByRecursion, Point, Moves, is_cut, Visit, visits_from, all_visits, last, Stroke, pieces_from, Apart, all_but_last_of, interior_of}
 use Rattle.cutter.proofs.Walks.{At, first, later, same_way, other_way, never_back, interior_once, piece_moves}
 use Rattle.cutter.proofs.Junctions.{In, Via, visit, via_back, via_two, via_turn}
 use Rattle.cutter.proofs.Splits.{Steps, IsWalk, AllWalks, all_walks}

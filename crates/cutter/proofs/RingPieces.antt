@@ -1,18 +1,11 @@
 -- The pieces of a ring.
 use Rattle.std.proofs.Common.{drop-cons, ◌≡◌, ◌≢◌, ℕ, zero, suc, ◌<◌, ◌≤◌, true, List, [], ◌∷◌, ◌++◌, take, drop, length, get_or, append-nil, refl, ap, sym, ◌∙◌, subst, arith, inl, inr}
-use Rattle.cutter.specs.Pieces.{pieces_of, split_at, turned, start_in}
+use Rattle.cutter.proofs.Names.{Point, Address, in_flat, Moves, is_cut, Visit, visits, visits_from, all_visits, last, Stroke, pieces_of, split_at, turned, start_in}
 use Rattle.geometry.specs.Lists.{all_but_last_of}
-use Rattle.geometry.specs.Points.{Point}
-use Rattle.geometry.specs.declared.address.Address.{Address}
-use Rattle.junctions.specs.Cleaning.{Moves}
-use Rattle.junctions.specs.Cuts.{is_cut}
-use Rattle.junctions.specs.Visits.{Visit, visits, visits_from, all_visits, last}
-use Rattle.junctions.specs.declared.stroke.Stroke.{Stroke}
 use Rattle.cutter.proofs.Junctions.{In, visit, Via}
 use Rattle.cutter.proofs.Splits.{Steps, AllWalks, all_walks}
 use Rattle.cutter.proofs.TurnedRings.{Goes, Good, turned_good}
 use Rattle.cutter.proofs.Starts.{start_cut, ring_cut, line}
-use Rattle.junctions.proofs.Members.{in_flat}
 
 steps_from : (ls : List Stroke) (p q : Point) (ps : List Point) → Goes (Via ls) p q ps → Steps (is_cut ls) (Via ls) p q ps
 steps_from ls p q [] h = tt

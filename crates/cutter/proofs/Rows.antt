@@ -1,12 +1,6 @@
 -- Starts and pieces of small linework, computed from the definitions.
 use Rattle.std.specs.Prelude.{◌≡◌, ℕ, Bool, true, false, List, [], ◌∷◌, map, pos, refl}
-use Rattle.geometry.specs.Points.{Point}
-use Rattle.geometry.specs.Rings.{same}
-use Rattle.junctions.specs.Cuts.{is_cut}
-use Rattle.junctions.specs.Visits.{is_junction}
-use Rattle.junctions.specs.declared.stroke.Stroke.{Stroke}
-use Rattle.cutter.specs.Pieces.{start_in, pieces_of, pieces}
-use Rattle.cutter.specs.Segments.{is_segment, line_segments, piece_segments, times}
+use Rattle.cutter.proofs.Names.{Point, same, is_cut, is_junction, Stroke, start_in, pieces_of, pieces, is_segment, line_segments, piece_segments, times}
 
 abbrev p : ℕ → ℕ → Point
 p x y = record { x = pos x; y = pos y }

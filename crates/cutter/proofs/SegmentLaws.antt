@@ -1,10 +1,6 @@
 -- The segments of the pieces are those of the lines.
 use Rattle.std.proofs.Common.{drop-cons, ◌≡◌, ℕ, zero, suc, ◌≤◌, Bool, List, [], ◌∷◌, ◌++◌, take, drop, length, refl, ap, ◌∙◌, arith}
-use Rattle.std.specs.List.{flat_map}
-use Rattle.cutter.specs.Pieces.{joined, pieces, pieces_from, split_at, turned}
-use Rattle.cutter.specs.Segments.{segments, segments_from}
-use Rattle.geometry.specs.Points.{Point}
-use Rattle.junctions.specs.Visits.{last}
+use Rattle.cutter.proofs.Names.{flat_map, Point, last, joined, pieces, pieces_from, split_at, turned, segments, segments_from}
 
 -- the first piece begins at p
 abbrev StartsAt : Point → List (List Point) → Type 0

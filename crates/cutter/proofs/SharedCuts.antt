@@ -1,14 +1,6 @@
 -- Lines that share one list of cut indexes: one line more, and each of them.
 use Rattle.std.proofs.Common.{◌≡◌, ℕ, zero, suc, ◌+◌, ◌-◌, ◌<◌, ◌≤◌, Bool, List, [], ◌∷◌, ◌++◌, take, drop, length, map, get_or, slice_get, Some, refl, ap, sym, ◌∙◌, subst, arith}
-use Rattle.std.specs.List.{slice_range}
-use Rattle.std.proofs.lemmas.List.{get_or-append_right, get_or-drop, length-append, length-drop, length-map, length-take-le, map-append, take-append-le, take_all, take_more}
-use Rattle.geometry.proofs.Moved.{Replaced, ends}
-use Rattle.geometry.specs.Points.{Point}
-use Rattle.junctions.specs.declared.stroke.Stroke.{Stroke}
-use Rattle.junctions.specs.Cuts.{is_cut}
-use Rattle.cutter.specs.Pieces.{from_start, stitched}
-use Rattle.cutter.specs.SharedCuts.{AllRise, AreCutIndexes, AreEnds, cut_lines, own_indexes, split_lines_and_rings}
-use Rattle.cutter.specs.Slices.{SplitLine, AllSplit, slices, indexes, started, split_by, split_of, EndsPass, IsRising, piece_lists, lines_and_rings}
+use Rattle.cutter.proofs.Names.{get_or-append_right, get_or-drop, length-append, length-drop, length-map, length-take-le, map-append, take-append-le, take_all, take_more, slice_range, Replaced, ends, Point, is_cut, Stroke, from_start, stitched, AllRise, AreCutIndexes, AreEnds, cut_lines, own_indexes, split_lines_and_rings, SplitLine, AllSplit, slices, indexes, started, split_by, split_of, EndsPass, IsRising, piece_lists, lines_and_rings}
 use Rattle.cutter.proofs.Known.{split_view}
 use Rattle.cutter.proofs.SliceLaws.{indexes_rise}
 

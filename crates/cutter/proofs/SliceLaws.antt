@@ -1,14 +1,8 @@
 -- The slices between the cut indexes are the pieces.
 use Rattle.std.proofs.Common.{◌≡◌, ◌≢◌, ℕ, suc, ◌+◌, ◌<◌, ◌≤◌, Bool, true, cond, List, [], ◌∷◌, ◌++◌, take, drop, length, append-nil, refl, ap, sym, ◌∙◌, arith, Option, None, Some}
-use Rattle.std.specs.List.{slice_range, filter}
+use Rattle.cutter.proofs.Names.{drop-drop, take_more, length-take, slice_range, filter, is_before, least_of, is_least, Point, last, pieces_from, split_at, first_at, start_in, stitched, indexes, slices, IsRising, least_point, least_with}
 use Rattle.std.proofs.Common.{get_or}
-use Rattle.std.proofs.lemmas.List.{drop-drop, take_more, length-take}
 use Rattle.std.proofs.lemmas.List.Elements.{filter-append}
-use Rattle.cutter.specs.Pieces.{pieces_from, split_at, first_at, start_in, stitched}
-use Rattle.cutter.specs.Slices.{indexes, slices, IsRising, least_point, least_with}
-use Rattle.geometry.specs.Order.{is_before, least_of, is_least}
-use Rattle.geometry.specs.Points.{Point}
-use Rattle.junctions.specs.Visits.{last}
 
 -- the first of the indexes is not before the start
 FirstFrom : ℕ → List ℕ → Type 0

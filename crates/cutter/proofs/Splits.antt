@@ -1,10 +1,6 @@
 -- The pieces that a split gives.
-use Rattle.std.specs.List.{AllByRecursion}
+use Rattle.cutter.proofs.Names.{AllByRecursion, Point, Moves, last, joined, pieces_from}
 use Rattle.std.proofs.Common.{◌≡◌, ◌≢◌, Bool, true, List, [], ◌∷◌, ap, arith}
-use Rattle.cutter.specs.Pieces.{joined, pieces_from}
-use Rattle.geometry.specs.Points.{Point}
-use Rattle.junctions.specs.Cleaning.{Moves}
-use Rattle.junctions.specs.Visits.{last}
 use Rattle.cutter.proofs.Walks.{Run, IsPiece, stop, go}
 
 module _ (cut : Point → Bool) (Via : Point → Point → Point → Type 0) where

@@ -1,19 +1,7 @@
 -- Each ring has a cut position, and starts at one.
 use Rattle.std.proofs.Common.{◌≡◌, ◌<◌, Bool, true, false, not, ◌&&◌, ◌||◌, List, [], ◌∷◌, length, get_or, refl, ap, sym, ◌∙◌, subst, arith, inl}
-use Rattle.std.specs.List.{filter, list_any, list_all}
-use Rattle.std.proofs.Math.Bool.{or-true}
-use Rattle.cutter.specs.Pieces.{first_at, start_in}
-use Rattle.geometry.specs.Order.{least_of, is_least}
-use Rattle.geometry.specs.Points.{Point}
-use Rattle.geometry.specs.declared.address.Address.{Address}
-use Rattle.geometry.specs.Rings.{same}
-use Rattle.geometry.proofs.Points.{same_is, same_self}
-use Rattle.junctions.specs.Cuts.{starts_free_ring, is_cut}
-use Rattle.junctions.specs.Visits.{is_junction}
-use Rattle.junctions.specs.declared.stroke.Stroke.{Stroke}
-use Rattle.junctions.proofs.Members.{in_filter, from_filter}
+use Rattle.cutter.proofs.Names.{or-true, filter, list_any, list_all, any_from_in, same_is, same_self, least_of, is_least, Point, same, Address, in_filter, from_filter, starts_free_ring, is_cut, is_junction, Stroke, first_at, start_in}
 use Rattle.cutter.proofs.Junctions.{In}
-use Rattle.owned_values.proofs.Members.{any_from_in}
 
 least_in : (p : Point) (qs : List Point) → In (least_of p qs) (p ∷ qs)
 least_in p [] = inl refl

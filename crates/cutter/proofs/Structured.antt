@@ -1,20 +1,13 @@
 -- All pieces of all lines and rings.
 use Rattle.std.proofs.Common.{Bool, List, [], ◌∷◌, sym, subst, inl, inr, ◌≤◌, length, arith}
-use Rattle.cutter.specs.Pieces.{pieces_of, pieces}
-use Rattle.cutter.specs.Places.{IsStructured}
-use Rattle.geometry.specs.Points.{Point}
-use Rattle.geometry.specs.declared.address.Address.{Address}
+use Rattle.cutter.proofs.Names.{each_of, Point, Address, IsClean, AllClean, is_cut, Stroke, pieces_of, pieces, IsStructured}
 use Rattle.cutter.proofs.Starts.{line}
-use Rattle.junctions.specs.Cleaning.{IsClean, AllClean}
-use Rattle.junctions.specs.Cuts.{is_cut}
-use Rattle.junctions.specs.declared.stroke.Stroke.{Stroke}
 pub use Rattle.junctions.proofs.Members.{from_flat}
 use Rattle.cutter.proofs.Junctions.{In, Via}
 use Rattle.cutter.proofs.Splits.{IsWalk, AllWalks}
 use Rattle.cutter.proofs.PieceLaws.{IsPieceOf, one_way, two_ways, once, not_back, interior_apart}
 use Rattle.cutter.proofs.OpenPieces.{open_pieces}
 use Rattle.cutter.proofs.RingPieces.{ring_pieces}
-use Rattle.owned_values.proofs.Elements.{each_of}
 
 pub clean_in : (s : Stroke) (ss : List Stroke) → AllClean ss → In s ss → IsClean s
 clean_in s [] h k = elim k [ ]

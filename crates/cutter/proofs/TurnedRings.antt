@@ -1,8 +1,6 @@
 -- A ring that is turned to another start has the same passages.
-use Rattle.std.proofs.lemmas.List.{drop-append-le, drop_all, drop_at, length-append, length-reverse, length-take-le, reverse-append, reverse-reverse, take_all, take_at}
+use Rattle.cutter.proofs.Names.{drop-append-le, drop_all, drop_at, length-append, length-reverse, length-take-le, reverse-append, reverse-reverse, take_all, take_at, Point, turned}
 use Rattle.std.proofs.Common.{◌≡◌, ◌≢◌, ℕ, zero, suc, ◌+◌, ◌-◌, ◌≤◌, List, [], ◌∷◌, ◌++◌, take, drop, length, reverse, append_assoc, append-nil, ap, ap₂, sym, ◌∙◌, subst, arith}
-use Rattle.cutter.specs.Pieces.{turned}
-use Rattle.geometry.specs.Points.{Point}
 
 module _ (Via : Point → Point → Point → Type 0) where
   -- a walk on from p to q: each two in a row differ, and each three in a row are a passage

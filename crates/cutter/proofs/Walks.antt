@@ -1,10 +1,8 @@
 -- Walks from cut to cut: the first segment decides the rest.
 use Rattle.std.proofs.Common.{◌≡◌, ◌≢◌, ◌<◌, ◌≤◌, Bool, true, false, List, [], ◌∷◌, ◌++◌, length, reverse, append_assoc, refl, ap, sym, ◌∙◌, subst, arith, ◌⊎◌, inl, inr}
 pub use Rattle.cutter.specs.Places.{At, first, later}
-use Rattle.geometry.specs.Points.{Point}
+use Rattle.cutter.proofs.Names.{cases_lt, reverse-append, Point}
 use mathlib.Core.List.{reverse-cons}
-use Rattle.std.proofs.lemmas.List.{reverse-append}
-use Rattle.std.proofs.lemmas.Bool.{cases_lt}
 use mathlib.Core.List.{reverse-reverse}
 
 pub at_is : {l : List Point} {a b : Point} {r xs : List Point} → At l a b r xs → xs ≡ reverse l ++ (a ∷ (b ∷ r))

@@ -1,13 +1,7 @@
 -- The structure of pieces, said by how often segments occur in them.
 use Rattle.std.proofs.Common.{◌≡◌, ◌+◌, ◌<◌, ◌≤◌, Bool, true, cond, List, [], ◌∷◌, ◌++◌, length, refl, sym, subst, arith, ◌⊎◌, inl, inr}
-use Rattle.std.specs.List.{count_by}
-use Rattle.std.proofs.lemmas.List.Sums.{sum_by-cons}
-use Rattle.cutter.specs.Places.{At, In, IsStructured, first, later}
-use Rattle.cutter.specs.Segments.{Segment, segments, segments_from, is_segment, times}
+use Rattle.cutter.proofs.Names.{and_parts, sum_by-cons, count_by, same_is, Point, At, In, IsStructured, first, later, Segment, segments, segments_from, is_segment, times}
 use Rattle.cutter.specs.Structure.{SharersAreAlike, SegmentsAreOnce}
-use Rattle.geometry.specs.Points.{Point}
-use Rattle.geometry.proofs.Points.{same_is}
-use Rattle.std.proofs.lemmas.Bool.{and_parts}
 
 -- the segment between a and b goes from the one to the other
 pub segment_ends : (a b : Point) (s : Segment) → is_segment a b s ≡ true → ((a ≡ s.from) × (b ≡ s.to)) ⊎ ((a ≡ s.to) × (b ≡ s.from))

@@ -1,13 +1,5 @@
 use Rattle.std.proofs.Common.{◌≡◌, ◌+◌, ◌<◌, ◌≤◌, [], ◌∷◌, ◌++◌, length, get_or, arith, ap, sym, ◌∙◌, subst}
-use Rattle.geometry.proofs.Moved.{turns}
-use Rattle.junctions.proofs.Members.{get_in}
-use Rattle.junctions.specs.Answers.{is_member}
-use Rattle.junctions.specs.Cleaning.{AllClean}
-use Rattle.junctions.specs.Cuts.{is_cut}
-use Rattle.cutter.specs.Places.{In}
-use Rattle.cutter.specs.Segments.{piece_segments, times}
-use Rattle.cutter.specs.SharedCuts.{split_lines_and_rings}
-use Rattle.cutter.specs.Slices.{AllSplit, all_pieces, split_by, split_of, started, lines_and_rings}
+use Rattle.cutter.proofs.Names.{turns, get_in, is_member, AllClean, is_cut, In, piece_segments, times, split_lines_and_rings, AllSplit, all_pieces, split_by, split_of, started, lines_and_rings}
 use Rattle.cutter.proofs.CleanStarts.{clean_starts}
 use Rattle.cutter.proofs.Joins.{all_split, same_times}
 use Rattle.cutter.proofs.Known.{ready, split_known, structured_splits}

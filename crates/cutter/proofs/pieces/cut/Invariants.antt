@@ -1,6 +1,4 @@
-use Rattle.geometry.proofs.Moved.{Replaced}
-use Rattle.junctions.specs.Cuts.{is_cut}
-use Rattle.cutter.specs.Slices.{started}
+use Rattle.cutter.proofs.Names.{Replaced, is_cut, started}
 use Rattle.cutter.proofs.SharedCuts.{AreSplit}
 use Rattle.cutter.proofs.pieces.cut.Given as goal
 

@@ -1,6 +1,5 @@
 use Rattle.std.proofs.Common.{◌≡◌, ◌++◌, take}
-use Rattle.junctions.specs.Answers.{is_member}
-use Rattle.cutter.specs.Slices.{indexes}
+use Rattle.cutter.proofs.Names.{is_member, indexes}
 use Rattle.cutter.proofs.splitting.add_cuts.Given as goal
 
 abbrev pub invariant-loop-i : goal.invariant-loop-i

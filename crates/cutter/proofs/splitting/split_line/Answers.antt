@@ -1,6 +1,5 @@
 use Rattle.std.proofs.Common.{ap, sym, subst, ◌∙◌}
-use Rattle.junctions.specs.Answers.{is_member}
-use Rattle.cutter.specs.Known.{AllKnown}
+use Rattle.cutter.proofs.Names.{is_member, AllKnown}
 use Rattle.cutter.proofs.Known.{known_start}
 use Rattle.cutter.proofs.splitting.split_line.Goals as goal
 

@@ -1,6 +1,5 @@
 use Rattle.std.proofs.Common.{◌≡◌, drop, ◌+◌}
-use Rattle.geometry.specs.Rings.{same}
-use Rattle.cutter.specs.Pieces.{first_at}
+use Rattle.cutter.proofs.Names.{same, first_at}
 use Rattle.cutter.proofs.starting.index_of.Given as goal
 
 abbrev pub invariant-loop-i : goal.invariant-loop-i

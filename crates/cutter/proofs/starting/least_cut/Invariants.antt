@@ -1,7 +1,5 @@
 use Rattle.std.proofs.Common.{◌≡◌, take}
-use Rattle.std.specs.List.{filter}
-use Rattle.junctions.specs.Answers.{is_member}
-use Rattle.cutter.specs.Slices.{least_point}
+use Rattle.cutter.proofs.Names.{filter, is_member, least_point}
 use Rattle.cutter.proofs.starting.least_cut.Given as goal
 
 abbrev pub invariant-loop-p : goal.invariant-loop-p

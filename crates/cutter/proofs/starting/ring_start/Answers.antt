@@ -1,6 +1,5 @@
 use Rattle.std.proofs.Common.{◌<◌, length, ap, sym, subst, ◌∙◌}
-use Rattle.junctions.specs.Answers.{is_member}
-use Rattle.cutter.specs.Pieces.{start_in}
+use Rattle.cutter.proofs.Names.{is_member, start_in}
 use Rattle.cutter.proofs.Known.{start_known, starts_known}
 use Rattle.cutter.proofs.starting.ring_start.Goals as goal
 

@@ -1,6 +1,5 @@
 use Rattle.std.proofs.Common.{ap, sym, ◌∙◌, subst}
-use Rattle.cutter.specs.SharedCuts.{AllRise, cut_lines}
-use Rattle.cutter.specs.Slices.{lines_and_rings}
+use Rattle.cutter.proofs.Names.{AllRise, cut_lines, lines_and_rings}
 use Rattle.cutter.proofs.SharedCuts.{apart, lines_and_rings_of}
 use Rattle.cutter.proofs.pieces.Pieces.into_parts.Goals as goal
 

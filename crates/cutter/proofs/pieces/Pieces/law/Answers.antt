@@ -1,6 +1,5 @@
 use Rattle.std.proofs.Common.{subst}
-use Rattle.cutter.specs.Slices.{all_pieces}
-use Rattle.cutter.specs.Places.{IsStructured}
+use Rattle.cutter.proofs.Names.{IsStructured, all_pieces}
 use Rattle.cutter.proofs.Words.{sharers, segments_once}
 use Rattle.cutter.proofs.pieces.Pieces.law.Goals as goal
 

@@ -1,5 +1,5 @@
 -- The rings of a draft of layers that enclose most, by the numbers of the arcs that it uses, are those of what is built of the layers at zero.
-use Rattle.std.proofs.Common.{◌≡◌, ◌∙◌, ℕ, ℤ, pos, Bool, true, List, [], ◌∷◌, ◌++◌, map, length, Option, None, Some, refl, sym, ap, subst}
+use Rattle.std.proofs.Common.{◌≡◌, ◌∙◌, ℕ, ℤ, pos, Bool, true, List, [], ◌∷◌, ◌++◌, map, length, Option, None, Some, refl, sym, ap, subst, map-id}
 use Rattle.std.proofs.lemmas.List.{map-append}
 use Rattle.std.specs.List.{AllByRecursion}
 use Rattle.build_meaning.specs.Built.{kept_refs, untrimmed, built}
@@ -26,7 +26,7 @@ use Rattle.simplified_topology.specs.ProtectedRings.{CanStay, ProtectedRingsCanS
 use Rattle.simplified_topology.proofs.Again.{all_hold}
 use Rattle.simplified_topology.proofs.GreatestLeft.{put, ring_among, ring_made}
 use Rattle.simplified_topology.proofs.ProtectedLayers.{rings_of_layers}
-use Rattle.simplified_topology.proofs.RingsAlike.{as_they_are, as_it_is, rings_made}
+use Rattle.simplified_topology.proofs.RingsAlike.{as_it_is, rings_made}
 use Rattle.topojson_types.specs.declared.object.TopoObject.{TopoObject}
 use Rattle.topojson_types.specs.Topologies.{object_features}
 use Rattle.topojson_types.specs.Validity.{AreDistinct, IsArc, IsTopology}
@@ -84,7 +84,7 @@ module _ (ls : Named) where
       ap (some_of (protected_of (greatest_ring arcs))) (features_drafted ls)
       ∙ rings_made (ring_refs ls) (protected_of (greatest_ring arcs)) (λ r. r) (feature_drafted of) fs
       (all_hold (λ f. protected_of (greatest_ring arcs) (feature_drafted of f) ≡ map_some (λ r. r) (ring_refs ls f)) (λ f. shape_ring f.shape ∙ sym (as_it_is (ring_refs ls f))) fs)
-      ∙ as_they_are (layers_rings ls)
+      ∙ map-id (layers_rings ls)
 
   -- ---- what the layers have before any arc is reduced
 

@@ -1,3 +1,4 @@
+use Rattle.std.proofs.Common.{rules}
 use Rattle.std.proofs.lemmas.Result.{IfOk-weaker}
 use Rattle.layer_topology.proofs.Made.{draft_of_table}
 use Rattle.layer_topology.proofs.making.guarded_topology.Goals as goal
@@ -8,26 +9,14 @@ topology_of_draft-requires-clause-draft c =
     c.into_parts-arcs.ensures.refs c.requires.sound c.requires.names c.in_ok-objects-in-Ok.ensures in
     (c.args.layers.items, of.0, of.1)
 
-pub returns-in_ok-objects-in-Ok-clause-topology : goal.returns-in_ok-objects-in-Ok-clause-topology
-returns-in_ok-objects-in-Ok-clause-topology c =
+pub returns-in_ok-objects-in-Ok : goal.returns-in_ok-objects-in-Ok
+returns-in_ok-objects-in-Ok c =
     let of = draft_of_table c.args.layers.items c.in-Ok.table c.into_parts-arcs.result.0.items c.into_parts-arcs.result.1.items c.in_ok-objects-in-Ok.objects.items (rw c.deref.ensures.value at c.in-Ok.ensures) c.into_parts-arcs.ensures.arcs
     c.into_parts-arcs.ensures.refs c.requires.sound c.requires.names c.in_ok-objects-in-Ok.ensures in
-    IfOk-weaker c.topology_of_draft.result _ _ (λ r h. h c.args.layers.items of.0 of.1) c.topology_of_draft.ensures.topology
-
-pub returns-in_ok-objects-in-Ok-clause-dropped : goal.returns-in_ok-objects-in-Ok-clause-dropped
-returns-in_ok-objects-in-Ok-clause-dropped c =
-    let of = draft_of_table c.args.layers.items c.in-Ok.table c.into_parts-arcs.result.0.items c.into_parts-arcs.result.1.items c.in_ok-objects-in-Ok.objects.items (rw c.deref.ensures.value at c.in-Ok.ensures) c.into_parts-arcs.ensures.arcs
-    c.into_parts-arcs.ensures.refs c.requires.sound c.requires.names c.in_ok-objects-in-Ok.ensures in
-    IfOk-weaker c.topology_of_draft.result _ _ (λ r h. h c.args.layers.items of.0 of.1) c.topology_of_draft.ensures.dropped
-
-pub returns-in_ok-objects-in-Ok-clause-removed_count : goal.returns-in_ok-objects-in-Ok-clause-removed_count
-returns-in_ok-objects-in-Ok-clause-removed_count c =
-    let of = draft_of_table c.args.layers.items c.in-Ok.table c.into_parts-arcs.result.0.items c.into_parts-arcs.result.1.items c.in_ok-objects-in-Ok.objects.items (rw c.deref.ensures.value at c.in-Ok.ensures) c.into_parts-arcs.ensures.arcs
-    c.into_parts-arcs.ensures.refs c.requires.sound c.requires.names c.in_ok-objects-in-Ok.ensures in
-    IfOk-weaker c.topology_of_draft.result _ _ (λ r h. h c.args.layers.items of.0 of.1) c.topology_of_draft.ensures.removed_count
-
-pub returns-in_ok-objects-in-Ok-clause-chosen : goal.returns-in_ok-objects-in-Ok-clause-chosen
-returns-in_ok-objects-in-Ok-clause-chosen c =
-    let of = draft_of_table c.args.layers.items c.in-Ok.table c.into_parts-arcs.result.0.items c.into_parts-arcs.result.1.items c.in_ok-objects-in-Ok.objects.items (rw c.deref.ensures.value at c.in-Ok.ensures) c.into_parts-arcs.ensures.arcs
-    c.into_parts-arcs.ensures.refs c.requires.sound c.requires.names c.in_ok-objects-in-Ok.ensures in
-    IfOk-weaker c.topology_of_draft.result _ _ (λ r h. h c.args.layers.items of.0 of.1) c.topology_of_draft.ensures.chosen
+    record {
+      few = search rules;
+      topology = IfOk-weaker c.topology_of_draft.result _ _ (λ r h. h c.args.layers.items of.0 of.1) c.topology_of_draft.ensures.topology;
+      dropped = IfOk-weaker c.topology_of_draft.result _ _ (λ r h. h c.args.layers.items of.0 of.1) c.topology_of_draft.ensures.dropped;
+      removed_count = IfOk-weaker c.topology_of_draft.result _ _ (λ r h. h c.args.layers.items of.0 of.1) c.topology_of_draft.ensures.removed_count;
+      chosen = IfOk-weaker c.topology_of_draft.result _ _ (λ r h. h c.args.layers.items of.0 of.1) c.topology_of_draft.ensures.chosen;
+    }

@@ -1,4 +1,4 @@
-use Rattle.std.proofs.Common.{◌≡◌, ◌++◌, ◌∙◌, [], ap, subst}
+use Rattle.std.proofs.Common.{rules, ◌≡◌, ◌++◌, ◌∙◌, [], ap, subst}
 use Rattle.std.specs.Prelude.{if◌then◌else◌}
 use Rattle.byte_ends.specs.Ends.{saturated}
 use Rattle.layer_topology.specs.GuardedWritten.{made_dropped_under, made_removed_under, made_under}
@@ -20,36 +20,22 @@ on_grid-requires-clause-on g c =
     cells_under c.args.guards _ c.args.ring_limit c.args.grid c.args.layers.items _ _ _ e.grid e.snapped c.in_ok-topology.ensures.topology
     c.snapped_are_on.ensures c.built_cells_are_on.ensures c.guarded_is_assembled.ensures c.assembled_sparing_is_on.ensures c.requires.taken
 
-pub returns-in-Ok-clause-topology : goal.returns-in-Ok-clause-topology
-returns-in-Ok-clause-topology g c =
+pub returns-in-Ok : goal.returns-in-Ok
+returns-in-Ok g c =
     let e = c.snapped_layers-snapped.ensures in
     let same = same_threshold c.nothing_is_new.ensures c.snapped_are_on.ensures c.protecting_on_grid.ensures c.built_cells_are_on.ensures c.args.guards c.args.level c.args.grid c.args.layers.items _ e.snapped c.requires.taken in
     let made : c.in_ok-topology.topology ≡ made_under c.args.guards (level_threshold_under c.args.guards c.args.grid c.args.level c.args.layers.items) c.args.ring_limit c.snapped_layers-snapped.result.0.items =
     subst (λ t. c.in_ok-topology.topology ≡ made_under c.args.guards t c.args.ring_limit c.snapped_layers-snapped.result.0.items) same c.in_ok-topology.ensures.topology in
-    as_written_under c.args.guards _ c.args.ring_limit c.args.grid c.args.layers.items _ _ _ e.grid e.snapped made c.written_is_made.ensures c.requires.taken _ c.in-Ok.ensures
-
-pub returns-in-Ok-clause-dropped : goal.returns-in-Ok-clause-dropped
-returns-in-Ok-clause-dropped g c =
-    let e = c.snapped_layers-snapped.ensures in
-    let same = same_threshold c.nothing_is_new.ensures c.snapped_are_on.ensures c.protecting_on_grid.ensures c.built_cells_are_on.ensures c.args.guards c.args.level c.args.grid c.args.layers.items _ e.snapped c.requires.taken in
-    c.in_ok-topology.ensures.dropped
-    ∙ ap (λ t. made_dropped_under c.args.guards t c.args.ring_limit c.snapped_layers-snapped.result.0.items) same
-    ∙ ap (made_dropped_under c.args.guards (level_threshold_under c.args.guards c.args.grid c.args.level c.args.layers.items) c.args.ring_limit) e.snapped
-
-pub returns-in-Ok-clause-removed_count : goal.returns-in-Ok-clause-removed_count
-returns-in-Ok-clause-removed_count g c =
-    let e = c.snapped_layers-snapped.ensures in
-    let same = same_threshold c.nothing_is_new.ensures c.snapped_are_on.ensures c.protecting_on_grid.ensures c.built_cells_are_on.ensures c.args.guards c.args.level c.args.grid c.args.layers.items _ e.snapped c.requires.taken in
-    c.in_ok-topology.ensures.removed_count
-    ∙ ap (λ t. saturated (made_removed_under c.args.guards t c.args.ring_limit c.snapped_layers-snapped.result.0.items)) same
-    ∙ ap (λ ls. saturated (made_removed_under c.args.guards (level_threshold_under c.args.guards c.args.grid c.args.level c.args.layers.items) c.args.ring_limit ls)) e.snapped
-
-pub returns-in-Ok-clause-chosen : goal.returns-in-Ok-clause-chosen
-returns-in-Ok-clause-chosen g c =
-    let e = c.snapped_layers-snapped.ensures in
-    c.in_ok-topology.ensures.chosen ∙ same_chosen c.nothing_is_new.ensures c.snapped_are_on.ensures c.protecting_on_grid.ensures c.built_cells_are_on.ensures c.args.guards c.args.level c.args.grid c.args.layers.items _ e.snapped c.requires.taken
-
-pub returns-in-Ok-clause-called : goal.returns-in-Ok-clause-called
-returns-in-Ok-clause-called g c =
-    c.in_ok-topology.ensures.called
-    ∙ ap (λ ls. g.Q.Reducer.calls c.args.reducer.now ++ (if is_at_once c.args.guards then [] else calls_at c.args.level (arcs_of_layers ls))) c.snapped_layers-snapped.ensures.snapped
+    record {
+      few = search rules;
+      topology = as_written_under c.args.guards _ c.args.ring_limit c.args.grid c.args.layers.items _ _ _ e.grid e.snapped made c.written_is_made.ensures c.requires.taken _ c.in-Ok.ensures;
+      dropped = c.in_ok-topology.ensures.dropped
+          ∙ ap (λ t. made_dropped_under c.args.guards t c.args.ring_limit c.snapped_layers-snapped.result.0.items) same
+          ∙ ap (made_dropped_under c.args.guards (level_threshold_under c.args.guards c.args.grid c.args.level c.args.layers.items) c.args.ring_limit) e.snapped;
+      removed_count = c.in_ok-topology.ensures.removed_count
+          ∙ ap (λ t. saturated (made_removed_under c.args.guards t c.args.ring_limit c.snapped_layers-snapped.result.0.items)) same
+          ∙ ap (λ ls. saturated (made_removed_under c.args.guards (level_threshold_under c.args.guards c.args.grid c.args.level c.args.layers.items) c.args.ring_limit ls)) e.snapped;
+      chosen = c.in_ok-topology.ensures.chosen ∙ same_chosen c.nothing_is_new.ensures c.snapped_are_on.ensures c.protecting_on_grid.ensures c.built_cells_are_on.ensures c.args.guards c.args.level c.args.grid c.args.layers.items _ e.snapped c.requires.taken;
+      called = c.in_ok-topology.ensures.called
+          ∙ ap (λ ls. g.Q.Reducer.calls c.args.reducer.now ++ (if is_at_once c.args.guards then [] else calls_at c.args.level (arcs_of_layers ls))) c.snapped_layers-snapped.ensures.snapped;
+    }

@@ -177,19 +177,19 @@ const REPORT_HELP: &str = "Write a report of the run to a file, as a JSON object
 
 const REPORT_LONG_HELP: &str =
     "Write a report of the run to FILE when the run ends, whether it is done or not, as a
-JSON object: the exit status, the fault, the counts, and all lines of '--explain', for
-which a file is read once more as it is for that. docs/FORMATS.md describes it. A file
-of this name is replaced";
+JSON object: the exit status, the fault, the counts, how many features lost all of their
+geometry, and all lines of '--explain', for which a file that is refused is read once
+more. docs/FORMATS.md describes it. A file of this name is replaced";
 
 const EXPLAIN_HELP: &str = "Explain in words what is wrong, or what was left out";
 
 const EXPLAIN_LONG_HELP: &str =
     "Say in words, on standard error below the line of a fault, what is wrong and where, as
 far as that can be found out. Where all is done, say below the report how much was kept,
-which area '--keep' chose, which features lost all of their geometry (ten lines of them,
-and how many more), and what was left out of the layers; of 'mapchain stat', what is in
-the topology. A file that is refused is read once more for it, and by 'mapchain stat'
-its file; where a topology is built or simplified none is";
+which area '--keep' chose, which features lost all of their geometry, and what was left
+out of the layers (ten lines of a kind, and how many more); of 'mapchain stat', what is
+in the topology. A file that is refused is read once more for it; where all is done,
+none is";
 
 const QUIET_HELP: &str = "Leave out the report, where all is done";
 

@@ -3,7 +3,7 @@ use geojson_meaning::{Dropped, Layer};
 use std::alloc::Global;
 use topojson_types::Topology;
 
-/// What looks on while inputs are read and a topology is made of them, so that more can be said of the run and nothing is read again for
+/// What looks on while inputs are read and a topology is made of them or counted, so that more can be said of the run and nothing is read again for
 /// it. Nothing that is written rests on it.
 pub trait Watch {
     /// The next layer is read, which these bytes spell.
@@ -11,6 +11,14 @@ pub trait Watch {
 
     /// The file of a topology is read, which these bytes spell.
     fn file_read(&mut self, _alloc: Global, _bytes: &[u8]) {}
+
+    /// Whether more is asked of a topology that is counted than its counts.
+    fn asks_for_features(&self) -> bool {
+        false
+    }
+
+    /// A topology is counted.
+    fn counted(&mut self, _alloc: Global, _topology: &Topology) {}
 
     /// The topology of the layers is written, without these lines and rings, in reading order.
     fn built(&mut self, _alloc: Global, _topology: &Topology, _dropped: &[Dropped]) {}

@@ -1,17 +1,65 @@
--- An explanation in brief: where lines stand beside each other that tell of features that are lost, ten of them, and how many more there are.
-use Rattle.std.specs.Prelude.{ℕ, Bool, List, [], ◌∷◌, ◌++◌, ◌-◌, codes, decimal, nat_eq, nat_le, nat_lt, if◌then◌else◌}
+-- An explanation in brief: of lines of one kind that stand beside each other ten, and how many more there are.
+use Rattle.std.specs.Prelude.{ℕ, Bool, true, false, List, [], ◌∷◌, ◌++◌, ◌-◌, ◌||◌, Option, None, Some, codes, decimal, nat_eq, nat_le, nat_lt, if◌then◌else◌}
 use Rattle.std.specs.List.{ends_with}
 use Rattle.geojson_types.specs.Counting.{one_more}
 use Rattle.reports.specs.Lines.{lines_of}
+use Rattle.explanations.specs.Forms.{begins}
+use Rattle.explanations.specs.declared.brief.LineKind.{LineKind}
+use Rattle.explanations.specs.declared.brief.LineKind.TheVariants.{Loss, Unread, System, Swapped, Object}
+use Rattle.explanations.specs.declared.brief.Run.{Run}
 
--- how a line ends that tells of such a feature
+-- ---- kinds of lines
+
+-- how a line ends that tells of a feature that is lost
 abbrev pub loss_ending : List ℕ
 loss_ending = codes ": nothing of its geometry is left"
 
-abbrev pub is_loss : List ℕ → Bool
-is_loss line = ends_with nat_eq line loss_ending
+-- of members of a layer that aren't read
+abbrev pub unread_ending : List ℕ
+unread_ending = codes " left out"
 
--- so many of them stand at most
+-- of a layer whose coordinates aren't degrees
+abbrev pub system_ending : List ℕ
+system_ending = codes ", not in square degrees"
+
+-- of a layer that seems to have its latitudes first
+abbrev pub swapped_ending : List ℕ
+swapped_ending = codes ", as GeoJSON has the longitude first"
+
+-- how lines begin that tell of an object of a topology, and of the properties in it
+abbrev pub object_beginning : List ℕ
+object_beginning = codes "  object "
+
+abbrev pub properties_beginning : List ℕ
+properties_beginning = codes "  its feature "
+
+abbrev pub other_kind : List ℕ → Option LineKind
+other_kind line = if begins object_beginning line || begins properties_beginning line then Some Object else None
+
+-- what a line tells of, where there may be many such lines
+abbrev pub kind_of : List ℕ → Option LineKind
+kind_of line =
+    if ends_with nat_eq line loss_ending then Some Loss
+    else (if ends_with nat_eq line unread_ending then Some Unread
+    else (if ends_with nat_eq line system_ending then Some System
+    else (if ends_with nat_eq line swapped_ending then Some Swapped else other_kind line)))
+
+abbrev pub is_same : LineKind → LineKind → Bool
+is_same Loss Loss = true
+is_same Unread Unread = true
+is_same System System = true
+is_same Swapped Swapped = true
+is_same Object Object = true
+is_same one other = false
+
+-- both are of one kind
+abbrev pub are_same : Option LineKind → Option LineKind → Bool
+are_same (Some one) (Some other) = is_same one other
+are_same one other = false
+
+-- ---- lines in brief
+
+-- so many of a kind stand at most
 abbrev pub most : ℕ
 most = 10
 
@@ -22,18 +70,29 @@ more_text n = if nat_le n most then [] else (codes "  and " ++ decimal (n - most
 abbrev pub line_text : List ℕ → List ℕ
 line_text line = line ++ codes "\n"
 
--- a line after so many of them
-abbrev pub text_after : ℕ → List ℕ → List ℕ
-text_after n line = if is_loss line then (if nat_lt n most then line_text line else []) else more_text n ++ line_text line
+-- no line stands in front
+abbrev pub start : Run
+start = record { kind = None; count = 0 }
 
--- how many of them stand beside each other then
-abbrev pub count_after : ℕ → List ℕ → ℕ
-count_after n line = if is_loss line then one_more n else 0
+-- a line of this kind after these
+abbrev pub text_of_kind : Run → Option LineKind → List ℕ → List ℕ
+text_of_kind r k line = if are_same r.kind k then (if nat_lt r.count most then line_text line else []) else more_text r.count ++ line_text line
 
--- lines after so many of them
-abbrev pub brief_after : ℕ → List (List ℕ) → List ℕ
-brief_after n [] = more_text n
-brief_after n (line ∷ lines) = text_after n line ++ brief_after (count_after n line) lines
+-- the lines of its kind that stand beside each other then
+abbrev pub run_of_kind : Run → Option LineKind → Run
+run_of_kind r k = if are_same r.kind k then record { kind = r.kind; count = one_more r.count } else record { kind = k; count = 1 }
+
+-- a line after these
+abbrev pub text_after : Run → List ℕ → List ℕ
+text_after r line = text_of_kind r (kind_of line) line
+
+abbrev pub run_after : Run → List ℕ → Run
+run_after r line = run_of_kind r (kind_of line)
+
+-- lines after these
+abbrev pub brief_after : Run → List (List ℕ) → List ℕ
+brief_after r [] = more_text r.count
+brief_after r (line ∷ lines) = text_after r line ++ brief_after (run_after r line) lines
 
 abbrev pub brief : List ℕ → List ℕ
-brief text = brief_after 0 (lines_of text)
+brief text = brief_after start (lines_of text)

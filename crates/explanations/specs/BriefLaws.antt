@@ -1,23 +1,24 @@
 -- An explanation in brief, one run of lines after another.
-use Rattle.std.specs.Prelude.{◌≡◌, ◌<◌, ◌^◌, ℕ, true, false, List, [], ◌∷◌, ◌++◌, length, take}
+use Rattle.std.specs.Prelude.{◌≡◌, ◌<◌, ◌^◌, ℕ, false, List, [], ◌∷◌, ◌++◌, length, take, None, Some}
 use Rattle.std.specs.List.{AllByRecursion}
-use Rattle.explanations.specs.Brief.{brief_after, is_loss, line_text, more_text, most}
+use Rattle.explanations.specs.Brief.{are_same, brief_after, kind_of, line_text, more_text, most, start}
+use Rattle.explanations.specs.declared.brief.LineKind.{LineKind}
 
 -- these lines, whole
 abbrev pub whole : List (List ℕ) → List ℕ
 whole [] = []
 whole (line ∷ lines) = line_text line ++ whole lines
 
--- the next line, if there is one, tells of nothing that is lost
-abbrev pub EndsRun : List (List ℕ) → Type 0
-EndsRun [] = Unit {0}
-EndsRun (line ∷ lines) = is_loss line ≡ false
+-- the next line, if there is one, is of another kind
+abbrev pub EndsRun : LineKind → List (List ℕ) → Type 0
+EndsRun k [] = Unit {0}
+EndsRun k (line ∷ lines) = are_same (Some k) (kind_of line) ≡ false
 
--- lines that tell of nothing that is lost stand as they are
+-- lines of no kind stand as they are
 abbrev pub OthersStand : Type 0
-OthersStand = (others rest : List (List ℕ)) → AllByRecursion (λ line. is_loss line ≡ false) others → brief_after 0 (others ++ rest) ≡ whole others ++ brief_after 0 rest
+OthersStand = (others rest : List (List ℕ)) → AllByRecursion (λ line. kind_of line ≡ None) others → brief_after start (others ++ rest) ≡ whole others ++ brief_after start rest
 
--- Of lines beside each other that tell of features that are lost the first ten stand, and how many more there are.
-abbrev pub LossesInBrief : Type 0
-LossesInBrief = (losses rest : List (List ℕ)) → AllByRecursion (λ line. is_loss line ≡ true) losses → length losses < 2 ^ 64 → EndsRun rest →
-    brief_after 0 (losses ++ rest) ≡ whole (take most losses) ++ (more_text (length losses) ++ brief_after 0 rest)
+-- Of lines of one kind beside each other the first ten stand, and how many more there are.
+abbrev pub KindInBrief : Type 0
+KindInBrief = (k : LineKind) (lines rest : List (List ℕ)) → AllByRecursion (λ line. kind_of line ≡ Some k) lines → length lines < 2 ^ 64 → EndsRun k rest →
+    brief_after start (lines ++ rest) ≡ whole (take most lines) ++ (more_text (length lines) ++ brief_after start rest)

@@ -5,6 +5,7 @@ ghost use Rattle.json_writer.specs.Standing.{Start};
 ghost use Rattle.explanations.specs.Brief as spec;
 ghost use Rattle.reports.specs.Lines.{one_line};
 
+use crate::form::begins;
 use byte_ends::{Drain, Sink, WriteFault};
 use itoa::Buffer;
 use json_writer::{Buffered, Out};
@@ -12,17 +13,117 @@ use json_writer::{Buffered, Out};
 /// How a line ends that tells of a feature that is lost.
 pub(crate) const LOSS_ENDING: &str = ": nothing of its geometry is left";
 
-/// So many of them stand beside each other at most.
+/// How a line ends that tells of members of an input that aren't read.
+pub(crate) const UNREAD_ENDING: &str = " left out";
+
+/// How a line ends that tells of a layer whose coordinates aren't degrees.
+pub(crate) const SYSTEM_ENDING: &str = ", not in square degrees";
+
+/// How a line ends that tells of a layer which seems to have its latitudes first.
+pub(crate) const SWAPPED_ENDING: &str = ", as GeoJSON has the longitude first";
+
+/// How a line begins that tells of an object of a topology.
+pub(crate) const OBJECT_BEGINNING: &str = "  object ";
+
+/// How a line begins that tells of the properties in an object.
+pub(crate) const PROPERTIES_BEGINNING: &str = "  its feature ";
+
+/// So many of a kind stand beside each other at most.
 const MOST: u64 = 10;
 
-/// Whether a line tells of a feature that is lost.
-fn is_loss(line: &str) -> bool
-    ensures { result ≡ spec.is_loss line.now }
-{
-    line.as_bytes().ends_with(LOSS_ENDING.as_bytes())
+/// What a line tells of, where there may be many such lines.
+#[derive(Clone, Copy)]
+pub enum LineKind {
+    /// A feature that is lost.
+    Loss,
+    /// Members of an input that aren't read.
+    Unread,
+    /// A layer whose coordinates aren't degrees.
+    System,
+    /// A layer that seems to have its latitudes first.
+    Swapped,
+    /// An object of a topology.
+    Object,
 }
 
-/// Puts after so many lines of features that are lost how many don't stand.
+/// Lines that stand beside each other: their kind, if they have one, and how many they are.
+#[derive(Clone, Copy)]
+pub struct Run {
+    pub kind: Option<LineKind>,
+    pub count: u64,
+}
+
+/// What a line tells of by its beginning.
+fn other_kind(line: &[u8]) -> Option<LineKind>
+    ensures { result ≡ spec.other_kind line.now }
+{
+    if begins(OBJECT_BEGINNING.as_bytes(), line) || begins(PROPERTIES_BEGINNING.as_bytes(), line) {
+        return Some(LineKind::Object);
+    }
+    None
+}
+
+/// What a line tells of, where there may be many such lines.
+fn kind_of(line: &[u8]) -> Option<LineKind>
+    ensures { result ≡ spec.kind_of line.now }
+{
+    if line.ends_with(LOSS_ENDING.as_bytes()) {
+        Some(LineKind::Loss)
+    } else if line.ends_with(UNREAD_ENDING.as_bytes()) {
+        Some(LineKind::Unread)
+    } else if line.ends_with(SYSTEM_ENDING.as_bytes()) {
+        Some(LineKind::System)
+    } else if line.ends_with(SWAPPED_ENDING.as_bytes()) {
+        Some(LineKind::Swapped)
+    } else {
+        other_kind(line)
+    }
+}
+
+/// Whether both are of one kind.
+fn are_same(one: Option<LineKind>, other: Option<LineKind>) -> bool
+    ensures { result ≡ spec.are_same one other }
+{
+    let (Some(one), Some(other)) = (one, other) else {
+        return false;
+    };
+    match (one, other) {
+        (LineKind::Loss, LineKind::Loss) => true,
+        (LineKind::Unread, LineKind::Unread) => true,
+        (LineKind::System, LineKind::System) => true,
+        (LineKind::Swapped, LineKind::Swapped) => true,
+        (LineKind::Object, LineKind::Object) => true,
+        _ => false,
+    }
+}
+
+impl Run {
+    /// No line.
+    fn none() -> Run
+        ensures { result ≡ spec.start }
+    {
+        Run {
+            kind: None,
+            count: 0,
+        }
+    }
+
+    /// With a line of this kind after them.
+    fn with(self, kind: Option<LineKind>) -> Run
+        ensures { result ≡ spec.run_of_kind self kind }
+    {
+        if are_same(self.kind, kind) {
+            Run {
+                kind: self.kind,
+                count: self.count.saturating_add(1),
+            }
+        } else {
+            Run { kind, count: 1 }
+        }
+    }
+}
+
+/// Puts after so many lines of a kind how many don't stand.
 fn put_more<O: Out>(count: u64, out: &mut O)
     ensures text { O.text out.new ≡ O.text out.old ++ spec.more_text count }
     ensures kept { (start : Start) → O.good out.old start → O.good out.new start }
@@ -46,42 +147,32 @@ fn put_line<O: Out>(line: &str, out: &mut O)
     out.put(b"\n");
 }
 
-/// Puts a line after so many of features that are lost.
+/// Puts a line of this kind after these.
 #[tactic(auto, using(std::proofs::Common::append_assoc))]
-fn put_after<O: Out>(count: u64, line: &str, out: &mut O)
-    ensures text { O.text out.new ≡ O.text out.old ++ spec.text_after count line.now }
+fn put_after<O: Out>(run: Run, kind: Option<LineKind>, line: &str, out: &mut O)
+    ensures text { O.text out.new ≡ O.text out.old ++ spec.text_of_kind run kind line.now }
     ensures kept { (start : Start) → O.good out.old start → O.good out.new start }
 {
-    if !is_loss(line) {
-        put_more(count, out);
+    if !are_same(run.kind, kind) {
+        put_more(run.count, out);
         return put_line(line, out);
     }
-    if count < MOST {
+    if run.count < MOST {
         put_line(line, out);
     }
 }
 
-/// How many lines of features that are lost stand beside each other, with one line more.
-fn count_after(count: u64, line: &str) -> u64
-    ensures { result ≡ spec.count_after count line.now }
-{
-    if is_loss(line) {
-        count.saturating_add(1)
-    } else {
-        0
-    }
-}
-
-/// Puts what stands after the last line feed, if there is anything, after so many lines of features that are lost.
-fn put_rest<O: Out>(count: u64, rest: &str, out: &mut O)
-    ensures text { O.text out.new ≡ O.text out.old ++ spec.brief_after count (one_line rest.now) }
+/// Puts what stands after the last line feed, if there is anything, after these lines.
+fn put_rest<O: Out>(run: Run, rest: &str, out: &mut O)
+    ensures text { O.text out.new ≡ O.text out.old ++ spec.brief_after run (one_line rest.now) }
     ensures kept { (start : Start) → O.good out.old start → O.good out.new start }
 {
     if rest.is_empty() {
-        return put_more(count, out);
+        return put_more(run.count, out);
     }
-    put_after(count, rest, out);
-    put_more(count_after(count, rest), out);
+    let kind = kind_of(rest.as_bytes());
+    put_after(run, kind, rest, out);
+    put_more(run.with(kind).count, out);
 }
 
 /// Puts an explanation in brief, as `put_brief` writes it.
@@ -89,18 +180,18 @@ fn put_lines<O: Out>(text: &str, out: &mut O)
     ensures text { O.text out.new ≡ O.text out.old ++ spec.brief text.now }
     ensures kept { (start : Start) → O.good out.old start → O.good out.new start }
 {
-    let mut count: u64 = 0;
+    let mut run = Run::none();
     let mut rest = text;
     'lines: while let Some((line, following)) = rest.split_once('\n') {
-        put_after(count, line, out);
-        count = count_after(count, line);
+        let kind = kind_of(line.as_bytes());
+        put_after(run, kind, line, out);
+        run = run.with(kind);
         rest = following;
     }
-    put_rest(count, rest, out);
+    put_rest(run, rest, out);
 }
 
-/// Writes an explanation in brief: of lines beside each other that tell of features that are lost ten, and how many more there are. This takes
-/// no memory.
+/// Writes an explanation in brief: of lines of one kind beside each other ten, and how many more there are. This takes no memory.
 pub fn put_brief<W: Drain>(text: &str, sink: &mut Sink<W>) -> Result<u64, WriteFault>
     ensures { Writes sink.old sink.new 0 (spec.brief text.now) result }
 {

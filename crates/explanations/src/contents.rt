@@ -1,4 +1,5 @@
 // What is in a topology.
+use crate::brief::{OBJECT_BEGINNING, PROPERTIES_BEGINNING};
 use crate::building::decimal_of_units;
 use crate::escaping::quoted;
 use crate::owners::{count_owners, owners_of};
@@ -6,9 +7,8 @@ use crate::trees::tree;
 use geojson_types::{Geometry, Position, Properties, PropertiesForm};
 use json_reading::TOPOLOGY_DEPTH;
 use json_value::{Json, OwnText};
+use reports::features_in;
 use std::alloc::{AllocError, Global};
-use std::slice;
-use topojson_decoder::read_text;
 use topojson_types::{TopoFeature, TopoObject, TopoShape, Topology, Transform};
 
 /// So many members of properties are shown at most.
@@ -40,14 +40,6 @@ fn type_number(shape: &Option<TopoShape>) -> usize {
         Some(Geometry::Areas(_)) => 5,
         Some(Geometry::Group(_)) => 6,
         None => 7,
-    }
-}
-
-/// The features of an object: itself where it is no collection.
-pub(crate) fn features_in(object: &TopoObject) -> &[TopoFeature] {
-    match object {
-        TopoObject::One(feature) => slice::from_ref(feature),
-        TopoObject::Many(features) => features.as_slice(),
     }
 }
 
@@ -131,7 +123,9 @@ fn properties_line(alloc: Global, features: &[TopoFeature]) -> Result<String, Al
         if let Some(properties) = &feature.properties {
             let text = properties_text(alloc, properties)?;
             if !text.is_empty() {
-                return format!(in alloc; "  its feature {number} has the properties {text}\n");
+                return format!(in alloc;
+                    "{PROPERTIES_BEGINNING}{number} has the properties {text}\n"
+                );
             }
         }
     }
@@ -144,7 +138,7 @@ fn object_lines(alloc: Global, name: &str, object: &TopoObject) -> Result<String
     let features = features_in(object);
     let types = types_text(alloc, features)?;
     let properties = properties_line(alloc, features)?;
-    format!(in alloc; "  object {name}{types}\n{properties}")
+    format!(in alloc; "{OBJECT_BEGINNING}{name}{types}\n{properties}")
 }
 
 /// The line for the least and the greatest coordinates.
@@ -176,8 +170,9 @@ fn arcs_line(alloc: Global, topology: &Topology) -> Result<String, AllocError> {
     format!(in alloc; "  arcs of two features or more {several}, of one {one}, of none {none}\n")
 }
 
-/// What is in a topology.
-fn lines_of(alloc: Global, topology: &Topology) -> Result<String, AllocError> {
+/// What is in a topology: the types of each object's features, and the properties of its first feature that has any; the bounds of all
+/// positions; the step of the grid, if there is one; and how many arcs features share.
+pub(crate) fn topology_lines(alloc: Global, topology: &Topology) -> Result<String, AllocError> {
     let mut lines = String::new(alloc);
     for object in topology.objects() {
         lines.push_str(object_lines(alloc, object.0.as_str(), &object.1)?.as_str())?;
@@ -190,17 +185,4 @@ fn lines_of(alloc: Global, topology: &Topology) -> Result<String, AllocError> {
     }
     lines.push_str(arcs_line(alloc, topology)?.as_str())?;
     Ok(lines)
-}
-
-/// What is in the topology that these bytes spell: the types of each object's features, and the properties of its first feature that has any;
-/// the bounds of all positions; the step of the grid, if there is one; and how many arcs features share.
-pub fn topology_contents(alloc: Global, bytes: &[u8]) -> Result<String, AllocError> {
-    match read_text(alloc, bytes) {
-        Ok((topology, _counts)) => {
-            let lines = lines_of(alloc, &topology);
-            drop(topology);
-            lines
-        }
-        Err(_) => Ok(String::new(alloc)),
-    }
 }

@@ -32,7 +32,7 @@ pub enum FileForm {
 }
 
 /// Whether the bytes begin with these.
-fn begins(word: &[u8], bytes: &[u8]) -> bool
+pub(crate) fn begins(word: &[u8], bytes: &[u8]) -> bool
     ensures { result ≡ spec.begins word.now bytes.now }
 {
     after_word(word, bytes).is_some()

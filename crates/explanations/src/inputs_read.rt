@@ -1,5 +1,6 @@
 // What is said of an input that was taken: members that aren't read, and coordinates that seem to be something else.
 use crate::bounds::corners_of;
+use crate::brief::{SWAPPED_ENDING, SYSTEM_ENDING, UNREAD_ENDING};
 use crate::escaping::quoted;
 use crate::unread::Unread;
 use geojson_meaning::Layer;
@@ -15,14 +16,16 @@ fn unread_line(alloc: Global, place: &str, unread: &Unread<'_>) -> Result<String
     if bbox == 0 && crs == 0 && others == 0 {
         return Ok(String::new(alloc));
     }
-    format!(in alloc; "  {place}left out \"bbox\" {bbox}, \"crs\" {crs}, other members {others}\n")
+    format!(in alloc;
+        "  {place}\"bbox\" {bbox}, \"crs\" {crs}, other members {others}{UNREAD_ENDING}\n"
+    )
 }
 
 /// The line for a layer whose positions seem to have their latitude first, if they do. `place` is what stands before it.
 fn swapped_line(alloc: Global, place: &str, layer: &Layer) -> Result<String, AllocError> {
     match corners_of(layer) {
         Some(corners) if corners.seem_swapped() => format!(in alloc;
-            "  {place}every x is from -90 to 90 and some y isn't: if these are degrees, latitude and longitude are swapped, as GeoJSON has the longitude first\n"
+            "  {place}every x is from -90 to 90 and some y isn't: if these are degrees, latitude and longitude are swapped{SWAPPED_ENDING}\n"
         ),
         _ => Ok(String::new(alloc)),
     }
@@ -55,30 +58,61 @@ fn crs_line(alloc: Global, place: &str, bytes: &[u8]) -> Result<String, AllocErr
     }
     let name = quoted(alloc, name)?;
     format!(in alloc;
-        "  {place}its \"crs\" is {name}: coordinates are taken as they are, so areas are in square units of it, not in square degrees\n"
+        "  {place}its \"crs\" is {name}: coordinates are taken as they are, so areas are in square units of it{SYSTEM_ENDING}\n"
     )
 }
 
-/// What is said of the layer of this number, which the bytes spell: a line for the members that aren't read; one where it says that its
-/// coordinates aren't degrees; and one where latitude and longitude seem to be swapped.
-pub(crate) fn layer_lines(
-    alloc: Global,
-    number: usize,
-    bytes: &[u8],
-    layer: &Layer,
-) -> Result<String, AllocError> {
-    let place = format!(in alloc; "layer {number}: ")?;
-    let unread = Unread::of_layer(alloc, bytes)?;
-    let mut lines = unread_line(alloc, place.as_str(), &unread)?;
-    if let Some(crs) = unread.layer_crs {
-        lines.push_str(crs_line(alloc, place.as_str(), crs)?.as_str())?;
-    }
-    lines.push_str(swapped_line(alloc, place.as_str(), layer)?.as_str())?;
-    Ok(lines)
+/// What is said of the inputs that were read, line by line, with the lines of one kind beside each other.
+#[derive(Drop)]
+pub(crate) struct InputLines {
+    unread: String,
+    systems: String,
+    swapped: String,
 }
 
-/// What is said of the topology that the bytes spell: a line for the members that aren't read.
-pub(crate) fn file_lines(alloc: Global, bytes: &[u8]) -> Result<String, AllocError> {
-    let unread = Unread::of_topology(alloc, bytes)?;
-    unread_line(alloc, "", &unread)
+impl InputLines {
+    /// Nothing yet.
+    pub(crate) fn none(alloc: Global) -> InputLines {
+        InputLines {
+            unread: String::new(alloc),
+            systems: String::new(alloc),
+            swapped: String::new(alloc),
+        }
+    }
+
+    /// Adds what is said of the layer of this number, which the bytes spell: a line for the members that aren't read; one where it says
+    /// that its coordinates aren't degrees; and one where latitude and longitude seem to be swapped.
+    pub(crate) fn add_layer(
+        &mut self,
+        alloc: Global,
+        number: usize,
+        bytes: &[u8],
+        layer: &Layer,
+    ) -> Result<(), AllocError> {
+        let place = format!(in alloc; "layer {number}: ")?;
+        let place = place.as_str();
+        let unread = Unread::of_layer(alloc, bytes)?;
+        self.unread
+            .push_str(unread_line(alloc, place, &unread)?.as_str())?;
+        if let Some(crs) = unread.layer_crs {
+            self.systems
+                .push_str(crs_line(alloc, place, crs)?.as_str())?;
+        }
+        self.swapped
+            .push_str(swapped_line(alloc, place, layer)?.as_str())
+    }
+
+    /// Adds what is said of the topology that the bytes spell: a line for the members that aren't read.
+    pub(crate) fn add_file(&mut self, alloc: Global, bytes: &[u8]) -> Result<(), AllocError> {
+        let unread = Unread::of_topology(alloc, bytes)?;
+        self.unread
+            .push_str(unread_line(alloc, "", &unread)?.as_str())
+    }
+
+    /// Adds all of it to these lines.
+    pub(crate) fn add_to(&self, lines: &mut String) -> Result<(), AllocError> {
+        lines.push_str(self.unread.as_str())?;
+        lines.push_str(self.systems.as_str())?;
+        lines.push_str(self.swapped.as_str())
+    }
 }

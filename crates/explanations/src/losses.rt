@@ -1,12 +1,11 @@
 // The features of which nothing is left.
 use crate::brief::LOSS_ENDING;
-use crate::contents::features_in;
 use crate::labels::add_label;
 use geojson_meaning::{Address, Dropped};
-use geojson_types::Geometry;
 use itoa::Buffer;
+use reports::{features_in, has_nothing};
 use std::alloc::{AllocError, Global};
-use topojson_types::{TopoObject, TopoShape};
+use topojson_types::TopoObject;
 
 /// The lines and rings that are dropped and weren't looked at yet, in reading order.
 #[derive(Drop)]
@@ -42,21 +41,6 @@ fn is_after(address: &Address, object: usize, feature: usize) -> bool {
     address.layer > object || (address.layer == object && address.feature > feature)
 }
 
-/// Whether there is nothing in a shape: it is a GeometryCollection, and so is all in it.
-fn is_empty(shape: &TopoShape) -> bool {
-    match shape {
-        Geometry::Group(shapes) => {
-            for shape in shapes.as_slice() {
-                if !is_empty(shape) {
-                    return false;
-                }
-            }
-            true
-        }
-        _ => false,
-    }
-}
-
 /// Adds a line for each feature of the object with this number of which a line or a ring was dropped and nothing is left. `place` is what
 /// stands before the number of a feature.
 pub(crate) fn add_losses(
@@ -69,7 +53,7 @@ pub(crate) fn add_losses(
 ) -> Result<(), AllocError> {
     for (feature, left) in features_in(object).iter().enumerate() {
         let is_dropped = drops.take(number, feature);
-        if is_dropped && left.shape.as_ref().is_none_or(is_empty) {
+        if is_dropped && has_nothing(left) {
             let mut number = Buffer::new();
             lines.push_str(place)?;
             lines.push_str(number.format(feature))?;

@@ -1,7 +1,8 @@
 // The members of objects (RFC 8259, section 4) in bytes that were read before.
-use json_cursor::{Name, after_byte, name_at};
-use json_reading::{TOPOLOGY_DEPTH, after_value, rest_after_first, skip};
+use json_cursor::{Kind, Name, after_byte, kind_at, name_at};
+use json_reading::{TOPOLOGY_DEPTH, after_value, plain_at, rest_after_first, skip};
 use std::alloc::Global;
+use topojson_decoder::leap;
 
 /// The name of the member at the front, and where its value begins; nothing of what is none, or for want of memory.
 pub(crate) fn member_at(alloc: Global, bytes: &[u8]) -> Option<(Name<'_>, &[u8])> {
@@ -38,10 +39,16 @@ fn up_to_bracket(bytes: &[u8]) -> Option<&[u8]> {
     None
 }
 
+/// The name of the member at the front, where it stands there as it is, and where its value begins.
+pub(crate) fn plain_member(bytes: &[u8]) -> Option<(&[u8], &[u8])> {
+    let (name, name_end) = plain_at(after_byte(b'"', bytes)?)?;
+    let value = after_byte(b':', skip(name_end))?;
+    Some((name, skip(value)))
+}
+
 /// What follows the array that a member has at the front, where there is neither a text nor an object in it, as in most coordinates. That is
 /// looked for from its end: the next quotation mark begins the name of the next member, or there is none before the brace of the object.
-fn after_plain_array(alloc: Global, bytes: &[u8]) -> Option<&[u8]> {
-    after_byte(b'[', bytes)?;
+fn after_plain_array(bytes: &[u8]) -> Option<&[u8]> {
     let before_quote = before_first(b'"', bytes);
     let before_brace = before_first(b'}', before_quote);
     let array = up_to_bracket(before_brace)?;
@@ -49,14 +56,35 @@ fn after_plain_array(alloc: Global, bytes: &[u8]) -> Option<&[u8]> {
     if before_brace.len() < before_quote.len() {
         return Some(rest);
     }
-    member_at(alloc, next_member(rest)?)?;
+    plain_member(next_member(rest)?)?;
     Some(rest)
 }
 
-/// What follows the value of a member at the front; nothing of what is none, or for want of memory.
+/// What follows the number or the word at the front.
+fn after_scalar(bytes: &[u8]) -> &[u8] {
+    let mut rest = bytes;
+    while let [first, more @ ..] = rest {
+        if !first.is_ascii_alphanumeric() && !matches!(first, b'.' | b'-' | b'+') {
+            break;
+        }
+        rest = more;
+    }
+    rest
+}
+
+/// What follows the value of a member at the front; nothing of what is none, or for want of memory. What was taken as a value is passed over
+/// by its marks alone.
 pub(crate) fn rest_after(alloc: Global, bytes: &[u8]) -> Option<&[u8]> {
-    match after_plain_array(alloc, bytes) {
-        Some(rest) => Some(rest),
-        None => after_value(alloc, TOPOLOGY_DEPTH, bytes).ok(),
+    match kind_at(bytes) {
+        Kind::Object => leap(bytes),
+        Kind::Array => match after_plain_array(bytes) {
+            Some(rest) => Some(rest),
+            None => leap(bytes),
+        },
+        Kind::Text => match plain_at(after_byte(b'"', bytes)?) {
+            Some((_, rest)) => Some(rest),
+            None => after_value(alloc, TOPOLOGY_DEPTH, bytes).ok(),
+        },
+        Kind::Null | Kind::Bool | Kind::Number => Some(after_scalar(bytes)),
     }
 }

@@ -1,7 +1,7 @@
 // What was seen of a run.
-use crate::contents::step_line;
+use crate::contents::{step_line, topology_lines};
 use crate::escaping::quoted;
-use crate::inputs_read::{file_lines, layer_lines};
+use crate::inputs_read::InputLines;
 use crate::losses::{DropsLeft, add_losses};
 use geojson_meaning::{Dropped, Layer};
 use inputs::Watch;
@@ -11,26 +11,22 @@ use topojson_types::Topology;
 /// What is said of the inputs, and of what was made of them.
 #[derive(Drop)]
 struct Seen {
-    /// The lines of each input that was read.
-    inputs: Vec<String>,
-    /// All lines, once the topology is written.
+    /// What is said of each input that was read.
+    inputs: InputLines,
+    /// How many layers were read.
+    layers: usize,
+    /// All lines, once the topology is written or counted.
     lines: String,
 }
 
 impl Seen {
     fn add_layer(&mut self, alloc: Global, bytes: &[u8], layer: &Layer) -> Result<(), AllocError> {
-        let lines = layer_lines(alloc, self.inputs.len(), bytes, layer)?;
-        self.inputs.push(lines)?;
+        self.inputs.add_layer(alloc, self.layers, bytes, layer)?;
+        self.layers = self.layers.saturating_add(1);
         Ok(())
     }
 
-    fn add_file(&mut self, alloc: Global, bytes: &[u8]) -> Result<(), AllocError> {
-        let lines = file_lines(alloc, bytes)?;
-        self.inputs.push(lines)?;
-        Ok(())
-    }
-
-    /// Adds for each layer the features that are lost, and what is said of it; and then the step of the grid.
+    /// Adds the features of each layer that are lost, what is said of the layers, and then the step of the grid.
     fn add_built(
         &mut self,
         alloc: Global,
@@ -42,10 +38,8 @@ impl Seen {
             let place = format!(in alloc; "  layer {number}, feature ")?;
             let lines = &mut self.lines;
             add_losses(alloc, lines, place.as_str(), number, &object.1, &mut drops)?;
-            if let Some(input) = self.inputs.get(number) {
-                self.lines.push_str(input.as_str())?;
-            }
         }
+        self.inputs.add_to(&mut self.lines)?;
         if let Some(transform) = topology.transform() {
             self.lines.push_str(step_line(alloc, transform)?.as_str())?;
         }
@@ -66,14 +60,11 @@ impl Seen {
             let lines = &mut self.lines;
             add_losses(alloc, lines, place.as_str(), number, &object.1, &mut drops)?;
         }
-        for input in self.inputs.iter() {
-            self.lines.push_str(input.as_str())?;
-        }
-        Ok(())
+        self.inputs.add_to(&mut self.lines)
     }
 }
 
-/// What was seen of a run, for the explanation of what was built or simplified: nothing of it is read again.
+/// What was seen of a run, for the explanation of what was built, simplified or counted: nothing of it is read again.
 #[derive(Drop)]
 pub struct Observed {
     /// Nothing where nobody asks for it, or for want of memory.
@@ -88,13 +79,14 @@ impl Observed {
         }
         Observed {
             seen: Some(Seen {
-                inputs: Vec::new(alloc),
+                inputs: InputLines::none(alloc),
+                layers: 0,
                 lines: String::new(alloc),
             }),
         }
     }
 
-    /// What became of the features, and what is said of the inputs.
+    /// What became of the features, and what is said of the inputs; or what is in the topology that was counted.
     pub fn lines(&self) -> Result<&str, AllocError> {
         match &self.seen {
             Some(seen) => Ok(seen.lines.as_str()),
@@ -114,7 +106,20 @@ impl Watch for Observed {
 
     fn file_read(&mut self, alloc: Global, bytes: &[u8]) {
         if let Some(mut seen) = self.seen.take() {
-            if seen.add_file(alloc, bytes).is_ok() {
+            if seen.inputs.add_file(alloc, bytes).is_ok() {
+                self.seen = Some(seen);
+            }
+        }
+    }
+
+    fn asks_for_features(&self) -> bool {
+        self.seen.is_some()
+    }
+
+    fn counted(&mut self, alloc: Global, topology: &Topology) {
+        if let Some(mut seen) = self.seen.take() {
+            if let Ok(lines) = topology_lines(alloc, topology) {
+                seen.lines = lines;
                 self.seen = Some(seen);
             }
         }

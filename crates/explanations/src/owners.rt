@@ -1,7 +1,7 @@
 // Which features use the arcs of a topology.
-use crate::contents::features_in;
 use geojson_types::Geometry;
 use json_value::Items;
+use reports::features_in;
 use std::alloc::{AllocError, Global};
 use topojson_types::{ArcRef, TopoFeature, TopoShape, Topology};
 

@@ -1,8 +1,8 @@
 // Members of layers and topologies that aren't read, counted in the bytes of an input that was taken.
-use crate::members::{member_at, next_member, rest_after};
+use crate::members::{member_at, next_member, plain_member, rest_after};
 use crate::trees::after_mark;
 use geojson_meaning::{CoordinatesType, GeoJsonType, GeometryType, geojson_type};
-use json_cursor::{after_byte, string_at};
+use json_cursor::{after_byte, named_at, string_at};
 use json_reading::{TOPOLOGY_DEPTH, skip};
 use std::alloc::{AllocError, Global};
 
@@ -64,13 +64,19 @@ enum Member {
     Holds(Part),
 }
 
+/// Whether it is this name.
+fn is(known: &str, name: &[u8]) -> bool {
+    known.as_bytes() == name
+}
+
 /// A member of this name, which is read if that is one of these.
-fn read_if(name: &str, names: &[&str]) -> Member {
-    if names.iter().any(|known| *known == name) {
-        Member::Read
-    } else {
-        Member::Unread
+fn read_if(name: &[u8], names: &[&str]) -> Member {
+    for known in names {
+        if is(known, name) {
+            return Member::Read;
+        }
     }
+    Member::Unread
 }
 
 /// What the members of an input that aren't read are.
@@ -121,10 +127,10 @@ impl<'a> Unread<'a> {
     }
 
     /// With the member of this name of a part, with what stands from its value on.
-    fn count(&mut self, part: Part, name: &str, value: &'a [u8]) {
-        if name == "bbox" {
+    fn count(&mut self, part: Part, name: &[u8], value: &'a [u8]) {
+        if is("bbox", name) {
             self.bbox = self.bbox.saturating_add(1);
-        } else if name == "crs" {
+        } else if is("crs", name) {
             self.crs = self.crs.saturating_add(1);
             if part == Part::Layer {
                 self.layer_crs = Some(value);
@@ -144,9 +150,9 @@ impl<'a> Unread<'a> {
     }
 
     /// The member of this name of a geometry of this type.
-    fn geometry_member(&self, of_type: Option<GeoJsonType>, name: &str) -> Member {
+    fn geometry_member(&self, of_type: Option<GeoJsonType>, name: &[u8]) -> Member {
         match of_type {
-            Some(GeoJsonType::Geometry(GeometryType::Collection)) if name == "geometries" => {
+            Some(GeoJsonType::Geometry(GeometryType::Collection)) if is("geometries", name) => {
                 Member::Holds(Part::Geometries)
             }
             Some(GeoJsonType::Geometry(GeometryType::Coordinates(coordinates))) => {
@@ -157,20 +163,20 @@ impl<'a> Unread<'a> {
     }
 
     /// The member of this name of such a part, whose own type is this, if it has one.
-    fn member(&self, part: Part, of_type: Option<GeoJsonType>, name: &str) -> Member {
+    fn member(&self, part: Part, of_type: Option<GeoJsonType>, name: &[u8]) -> Member {
         match part.as_typed(of_type) {
-            Part::Layer if name == "features" => Member::Holds(Part::Features),
+            Part::Layer if is("features", name) => Member::Holds(Part::Features),
             Part::Layer => read_if(name, &["type"]),
-            Part::Feature if name == "geometry" => Member::Holds(Part::Geometry),
+            Part::Feature if is("geometry", name) => Member::Holds(Part::Geometry),
             Part::Feature => read_if(name, &["type", "id", "properties"]),
-            Part::Topology if name == "transform" => Member::Holds(Part::Transform),
-            Part::Topology if name == "objects" => Member::Holds(Part::Objects),
+            Part::Topology if is("transform", name) => Member::Holds(Part::Transform),
+            Part::Topology if is("objects", name) => Member::Holds(Part::Objects),
             Part::Topology => read_if(name, &["type", "bbox", "arcs"]),
             Part::Transform => read_if(name, &["scale", "translate"]),
             Part::Objects => Member::Holds(Part::Object),
-            Part::Object if name == "geometries" => Member::Holds(Part::ObjectFeatures),
+            Part::Object if is("geometries", name) => Member::Holds(Part::ObjectFeatures),
             Part::Object => read_if(name, &["type"]),
-            Part::ObjectFeature if name == "id" || name == "properties" => Member::Read,
+            Part::ObjectFeature if is("id", name) || is("properties", name) => Member::Read,
             _ => self.geometry_member(of_type, name),
         }
     }
@@ -217,13 +223,14 @@ impl<'a> Unread<'a> {
         };
         let mut rest = inside;
         for _ in 0..inside.len() {
-            let (name, value) = member_at(alloc, rest)?;
-            let after = match self.member(part, of_type, name.as_str()) {
-                Member::Holds(held) => self.pass(alloc, held, depth_left, value)?,
-                Member::Read => rest_after(alloc, value)?,
-                Member::Unread => {
-                    self.count(part, name.as_str(), value);
-                    rest_after(alloc, value)?
+            let after = match plain_member(rest) {
+                Some((name, value)) => {
+                    self.pass_member(alloc, part, of_type, depth_left, name, value)?
+                }
+                None => {
+                    let (name, value) = member_at(alloc, rest)?;
+                    let name = name.as_str().as_bytes();
+                    self.pass_member(alloc, part, of_type, depth_left, name, value)?
                 }
             };
             match next_member(after) {
@@ -232,6 +239,27 @@ impl<'a> Unread<'a> {
             }
         }
         None
+    }
+
+    /// What follows the member of this name of such a part, whose own type is this, if it has one.
+    #[cycle(passing)]
+    fn pass_member(
+        &mut self,
+        alloc: Global,
+        part: Part,
+        of_type: Option<GeoJsonType>,
+        depth_left: u32,
+        name: &[u8],
+        value: &'a [u8],
+    ) -> Option<&'a [u8]> {
+        match self.member(part, of_type, name) {
+            Member::Holds(held) => self.pass(alloc, held, depth_left, value),
+            Member::Read => rest_after(alloc, value),
+            Member::Unread => {
+                self.count(part, name, value);
+                rest_after(alloc, value)
+            }
+        }
     }
 
     /// What follows the elements of a list of such parts.
@@ -262,7 +290,10 @@ impl<'a> Unread<'a> {
 fn type_among(alloc: Global, inside: &[u8]) -> Option<Option<GeoJsonType>> {
     let mut rest = inside;
     for _ in 0..inside.len() {
-        let (name, value) = member_at(alloc, rest)?;
+        let (name, value) = match named_at("type", rest) {
+            Some(found) => found,
+            None => member_at(alloc, rest)?,
+        };
         if name.is("type") {
             return match string_at(alloc, value).ok()? {
                 Some((text, _)) => Some(geojson_type(text.as_str())),

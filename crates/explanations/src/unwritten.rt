@@ -27,6 +27,8 @@ pub enum WriteFailure {
     NamesTaken,
     /// Too many files are open.
     TooManyOpen,
+    /// It is closed, or can only be read.
+    Closed,
     /// Anything else.
     Other,
 }
@@ -47,25 +49,32 @@ fn words(failure: Option<WriteFailure>) -> &'static str {
         Some(WriteFailure::NamesTaken) => "a thousand new files of other runs stand beside it",
         Some(WriteFailure::TooManyOpen) =>
             "too many files are open: ulimit -n says how many may be",
+        Some(WriteFailure::Closed) => "closed, or open for reading alone",
         Some(WriteFailure::Other) | None => "could not be written",
     }
 }
 
-/// Why the output isn't written: to the file of this path, or to standard output where there is none.
+/// Why the output isn't written to the file of this path.
 pub fn unwritten_output(
     alloc: Global,
-    path: Option<&str>,
+    path: &str,
     failure: Option<WriteFailure>,
 ) -> Result<String, AllocError> {
-    let Some(path) = path else {
-        return String::from_str(
-            alloc,
-            "  standard output took no more: the disk is full, or the program that reads it has ended\n",
-        );
-    };
     let path = shown(alloc, path)?;
     let words = words(failure);
     format!(in alloc; "  {path}: {words}\n")
+}
+
+/// Why the output isn't written to standard output.
+pub fn unwritten_stream(
+    alloc: Global,
+    failure: Option<WriteFailure>,
+) -> Result<String, AllocError> {
+    if matches!(failure, Some(WriteFailure::Other) | None) {
+        return String::from_str(alloc, "  standard output took no more\n");
+    }
+    let words = words(failure);
+    format!(in alloc; "  standard output: {words}\n")
 }
 
 /// How many new files of other runs stand beside the file of this path, if there are any.

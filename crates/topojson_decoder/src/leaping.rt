@@ -191,7 +191,7 @@ fn after_closing(inside: &[u8]) -> Option<&[u8]>
 
 /// What follows the array or the object at the front, if one stands there: whether one does isn't known before it is read. None of what is
 /// neither, and where no end is found.
-pub(crate) fn leap(bytes: &[u8]) -> Option<&[u8]>
+pub fn leap(bytes: &[u8]) -> Option<&[u8]>
     ensures { IfSome result (λ rest. Ends bytes.now rest.now) }
 {
     match bytes {

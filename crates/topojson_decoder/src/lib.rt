@@ -36,6 +36,7 @@ pub use cells::{cell_at, place_at};
 pub use collected_features::feature_at;
 pub use geometries::geometry_at;
 pub use keeping::Keeping;
+pub use leaping::leap;
 pub use lines_and_rings::line_or_ring_at;
 pub use named_objects::members_before_repeat;
 pub use object_parts::object_at;

@@ -8,7 +8,7 @@ use Rattle.explanations.proofs.brief.put_lines.Given as goal
 
 abbrev pub invariant-lines : goal.invariant-lines
 invariant-lines g l = record {
-  left : UpTo g.O.Out.text g.O.Out.good l.fn.out l.out (brief l.fn.text) (brief_after l.count (lines_of l.rest));
+  left : UpTo g.O.Out.text g.O.Out.good l.fn.out l.out (brief l.fn.text) (brief_after l.run (lines_of l.rest));
   text : shadow (Utf8 l.rest);
 }
 

@@ -1,4 +1,3 @@
-use Rattle.std.proofs.Common.{◌+◌, ◌++◌, decimal}
 use Rattle.std.specs.Prelude.{codes}
 use Rattle.std.proofs.lemmas.Bool.{lt-leb}
 use Rattle.json_writer.proofs.Appending.{then}

@@ -9,10 +9,11 @@ ghost use Rattle.mapchain_engine.specs.Files.{FailsToGive, IsCounted};
 
 use crate::file_reading::read_file;
 use crate::guarding::arc_positions;
+use crate::summarising::summary_in;
 use byte_ends::{Feed, Memory, Source};
 use guarded_reduction::crossings_up_to;
-use inputs::FileFault;
-use reports::{MOST_CROSSINGS, Summary, summary_with};
+use inputs::{FileFault, Unwatched, Watch};
+use reports::{MOST_CROSSINGS, Summary};
 use std::alloc::Global;
 use topojson_types::Topology;
 
@@ -25,16 +26,11 @@ fn crossings_in(alloc: Global, topology: &Topology) -> Result<u64, Memory>
 }
 
 /// The summary of a topology, with its crossings.
-fn summary_in(alloc: Global, topology: &Topology) -> Result<Summary, Memory>
+fn summary_with_crossings(alloc: Global, topology: &Topology) -> Result<Summary, Memory>
     ensures { IfOk result (λ summary. summary ≡ with_crossings (crossings_of topology.now) (summary_of topology.now)) }
 {
     let crossings = crossings_in(alloc, topology)?;
-    let mut summary = summary_with(
-        alloc,
-        topology.objects(),
-        topology.arcs(),
-        topology.transform().is_some(),
-    )?;
+    let mut summary = summary_in(alloc, topology)?;
     summary.crossings = Some(crossings);
     Ok(summary)
 }
@@ -56,8 +52,23 @@ pub fn stat_with_crossings<R: Feed>(
     ensures decided { (bytes : List ℕ) (outcome : Result Counted Fault) → source.old.left ≡ Some bytes → FileHasOutcome summarised_with_crossings bytes outcome
         → FollowsSummary outcome result }
 {
+    stat_with_crossings_watched(alloc, source, &mut Unwatched)
+}
+
+/// The same, with the same contract, and a `Watch` looks on.
+pub fn stat_with_crossings_watched<R: Feed, K: Watch>(
+    alloc: Global,
+    source: &mut Source<R>,
+    watch: &mut K,
+) -> Result<Summary, FileFault>
+    ensures reported { IfOk result (λ summary. IsCounted source.old source.new summary) }
+    ensures refused { IfErr result (λ e. FailsToGive source.old source.new e) }
+    ensures decided { (bytes : List ℕ) (outcome : Result Counted Fault) → source.old.left ≡ Some bytes → FileHasOutcome summarised_with_crossings bytes outcome
+        → FollowsSummary outcome result }
+{
     let (topology, _counts) = read_file(alloc, source)?;
-    let summary = summary_in(alloc, &topology);
+    watch.counted(alloc, &topology);
+    let summary = summary_with_crossings(alloc, &topology);
     drop(topology);
     Ok(summary?)
 }

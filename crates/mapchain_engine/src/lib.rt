@@ -24,7 +24,7 @@ mod summarising;
 
 pub use build_laws::read_layers_are_taken;
 pub use building::{build, build_watched};
-pub use crossings::stat_with_crossings;
+pub use crossings::{stat_with_crossings, stat_with_crossings_watched};
 pub use decoding::to_geo;
 pub use effective_area::threshold;
 pub use file_laws::{decoded_text_is_utf8, features_are_one_outcome, summary_is_one_outcome};
@@ -42,4 +42,4 @@ pub use options::Options;
 pub use reports::{Report, Summary, report_text, summary_text};
 pub use simplify_laws::{simplified_is_one_outcome, simplified_text_is_utf8, text_is_simplified};
 pub use simplifying::{simplify, simplify_watched};
-pub use summarising::stat;
+pub use summarising::{stat, stat_watched};

@@ -2,14 +2,16 @@
 ghost use Rattle.std.specs.Prelude.{◌≡◌, ℕ, List, Some, Result, IfOk, IfErr};
 ghost use Rattle.inputs.specs.declared.file_fault.FileFault.{FileFault as Fault};
 ghost use Rattle.reports.specs.declared.summary.Summary.{Summary as Counted};
+ghost use Rattle.reports.specs.Summaries.{summary_of};
 ghost use Rattle.mapchain_engine.specs.FileOutcomes.{FileHasOutcome, FollowsSummary, summarised};
 ghost use Rattle.mapchain_engine.specs.Files.{FailsToGive, IsSummarised};
 
-use crate::file_reading::read_blank;
-use byte_ends::{Feed, Source};
-use inputs::FileFault;
+use crate::file_reading::{read_blank, read_file};
+use byte_ends::{Feed, Memory, Source};
+use inputs::{FileFault, Watch};
 use reports::{Summary, summary_with};
 use std::alloc::Global;
+use topojson_types::Topology;
 
 /// Counts what is in a topology (TopoJSON 1.0) that is read from its source to the end.
 ///
@@ -34,4 +36,52 @@ pub fn stat<R: Feed>(alloc: Global, source: &mut Source<R>) -> Result<Summary, F
     );
     drop(parts);
     Ok(summary?)
+}
+
+/// The summary of a topology.
+pub(crate) fn summary_in(alloc: Global, topology: &Topology) -> Result<Summary, Memory>
+    ensures { IfOk result (λ summary. summary ≡ summary_of topology.now) }
+{
+    summary_with(
+        alloc,
+        topology.objects(),
+        topology.arcs(),
+        topology.transform().is_some(),
+    )
+}
+
+/// The same as `stat`, of a topology that is read with all of its features, which a `Watch` looks at.
+fn stat_whole<R: Feed, K: Watch>(
+    alloc: Global,
+    source: &mut Source<R>,
+    watch: &mut K,
+) -> Result<Summary, FileFault>
+    ensures reported { IfOk result (λ summary. IsSummarised source.old source.new summary) }
+    ensures refused { IfErr result (λ e. FailsToGive source.old source.new e) }
+    ensures decided { (bytes : List ℕ) (outcome : Result Counted Fault) → source.old.left ≡ Some bytes → FileHasOutcome summarised bytes outcome
+        → FollowsSummary outcome result }
+{
+    let (topology, _counts) = read_file(alloc, source)?;
+    watch.counted(alloc, &topology);
+    let summary = summary_in(alloc, &topology);
+    drop(topology);
+    Ok(summary?)
+}
+
+/// The same as `stat`, with the same contract, and a `Watch` looks on. Features are kept in memory only where it asks for them.
+pub fn stat_watched<R: Feed, K: Watch>(
+    alloc: Global,
+    source: &mut Source<R>,
+    watch: &mut K,
+) -> Result<Summary, FileFault>
+    ensures reported { IfOk result (λ summary. IsSummarised source.old source.new summary) }
+    ensures refused { IfErr result (λ e. FailsToGive source.old source.new e) }
+    ensures decided { (bytes : List ℕ) (outcome : Result Counted Fault) → source.old.left ≡ Some bytes → FileHasOutcome summarised bytes outcome
+        → FollowsSummary outcome result }
+{
+    if watch.asks_for_features() {
+        stat_whole(alloc, source, watch)
+    } else {
+        stat(alloc, source)
+    }
 }

@@ -1,0 +1,13 @@
+use Rattle.std.proofs.lemmas.Result.{err_from_is_err_and}
+use Rattle.reports.specs.Summaries.{summary_of}
+use Rattle.mapchain_engine.proofs.FilesDecided.{summary_decides, summary_fails}
+use Rattle.mapchain_engine.proofs.summarising.stat_whole.Goals as goal
+
+pub returns-in_err-topology-clause-decided : goal.returns-in_err-topology-clause-decided
+returns-in_err-topology-clause-decided g c bytes outcome left comes =
+    let p = err_from_is_err_and c.from_residual.result c.from_residual.ensures.1 in
+    rw (p.1, p.2) (summary_fails summary_of c.args.source.now c.read_file.new.source bytes left outcome comes _ c.in_err-topology.ensures)
+
+pub returns-clause-decided : goal.returns-clause-decided
+returns-clause-decided g c bytes outcome left comes =
+    summary_decides summary_of c.args.source.now c.read_file.new.source bytes left outcome comes _ _ _ c.in_ok-topology.ensures c.in_ok-summary.ensures

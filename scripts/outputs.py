@@ -294,7 +294,7 @@ def try_losses():
     """What `--explain` and `--report` say of features that are lost, also through a pipe and where the output replaces the input: the same."""
     lost = b'feature 0, id 7, name "Sark": nothing of its geometry is left\n'
     explanations = {
-        "build": b'  layer 0, ' + lost + b'  layer 0: left out "bbox" 1, "crs" 0, other members 0\n',
+        "build": b'  layer 0, ' + lost + b'  layer 0: "bbox" 1, "crs" 0, other members 0 left out\n',
         "simplify": b'  object "a", ' + lost,
     }
     with new_folder():
@@ -318,6 +318,29 @@ def try_losses():
             try_run(f"losses of {command} onto its input", [*words, "-o", source, named % source], (0, said), changed)
             with open("run.json", "rb") as file:
                 expect(f"the report of {command} onto its input", report, file.read())
+
+
+def try_standard_output():
+    """What `--explain` says where standard output can't be written: the disk is full, nobody reads the pipe, it is closed, or it can only be
+    read."""
+    with new_folder():
+        reader, nobody_reads = os.pipe()
+        os.close(reader)
+        full = os.open("/dev/full", os.O_WRONLY)
+        closed = os.open("line", os.O_RDONLY)
+        for stream, script, words in (
+            (full, '"$0" "$@"', "the disk is full"),
+            (nobody_reads, '"$0" "$@"', "the program that reads it has ended"),
+            (closed, '"$0" "$@"', "closed, or open for reading alone"),
+            (full, '"$0" "$@" >&-', "closed, or open for reading alone"),
+        ):
+            ended = subprocess.run(
+                ["sh", "-c", script, PROGRAM, "build", "--explain", "a=line"], stdout=stream, stderr=subprocess.PIPE, timeout=120
+            )
+            said = write_fault("B6", len(LINE_TOPOLOGY)) + f"  standard output: {words}\n".encode()
+            expect(f"standard output, {words}", (3, said), (ended.returncode, ended.stderr))
+        for stream in nobody_reads, full, closed:
+            os.close(stream)
 
 
 def try_unreported():
@@ -605,6 +628,7 @@ PARTS = (
     (try_devices, 160 if IS_ROOT else 180),
     (try_words, 24),
     (try_losses, 24),
+    (try_standard_output, 4),
     (try_unreported, 4),
     (try_too_many_open, 1),
     (try_parts_of_others, 1055),

@@ -14,6 +14,7 @@ say, and where of each page as many commands were run as scripts/commands.txt ha
 complained of.
 """
 import argparse
+import itertools
 import re
 import subprocess
 import sys
@@ -25,25 +26,29 @@ PAGES = ROOT / "crates" / "worked_examples" / "data"
 COUNTS = ROOT / "scripts" / "commands.txt"
 
 
-LOSS = ": nothing of its geometry is left"
-# So many lines of lost features stand beside each other at most.
-MOST_LOSSES = 10
+# What lines of a kind have in common, of which there may be many: how they end, or begin, without their indent.
+ENDINGS = (": nothing of its geometry is left", " left out", ", not in square degrees", ", as GeoJSON has the longitude first")
+BEGINNINGS = ("object ", "its feature ")
+# So many lines of a kind stand beside each other at most.
+MOST_LINES = 10
+
+
+def kind(line):
+    """What a line tells of, where there may be many such lines."""
+    for ending in ENDINGS:
+        if line.endswith(ending):
+            return ending
+    return BEGINNINGS if line.startswith(BEGINNINGS) else None
 
 
 def brief(lines):
-    """The lines of an explanation as standard error has them: of those beside each other that tell of lost features ten, and how many more."""
-    told, losses = [], 0
-    for line in [*lines, None]:
-        if line is not None and line.endswith(LOSS):
-            losses += 1
-            if losses > MOST_LOSSES:
-                continue
-        else:
-            if losses > MOST_LOSSES:
-                told.append(f"and {losses - MOST_LOSSES} more")
-            losses = 0
-        if line is not None:
-            told.append(line)
+    """The lines of an explanation as standard error has them: of those of a kind beside each other ten, and how many more."""
+    told = []
+    for this, run in itertools.groupby(lines, kind):
+        run = list(run)
+        told += run if this is None else run[:MOST_LINES]
+        if this is not None and len(run) > MOST_LINES:
+            told.append(f"and {len(run) - MOST_LINES} more")
     return told
 
 

@@ -2,10 +2,14 @@
 #![tactic(auto)]
 
 mod part_file;
+mod standard_output;
 mod system;
+mod system_errors;
 
 use byte_ends::{Sink, ToWrite};
 use mapchain_cli::command;
+use standard_output::StandardOutput;
+use std::cell::Cell;
 use std::io::{BufWriter, ErrorKind};
 use std::process::ExitCode;
 use std::{env, io};
@@ -38,7 +42,9 @@ fn main(rt: HostRuntime) -> ExitCode {
         Err(error) => return refuse(&rt, &error),
     };
     let alloc = rt.alloc();
-    let Ok(stdout) = BufWriter::with_capacity(alloc, OUT_BUFFER, rt.stdout()) else {
+    let stream_failure = Cell::new(None);
+    let stream = StandardOutput::new(rt.stdout(), &stream_failure);
+    let Ok(stdout) = BufWriter::with_capacity(alloc, OUT_BUFFER, stream) else {
         return ExitCode::from(3);
     };
     let Ok(stderr) = BufWriter::with_capacity(alloc, ERROR_BUFFER, rt.stderr()) else {
@@ -46,6 +52,6 @@ fn main(rt: HostRuntime) -> ExitCode {
     };
     let mut out = Sink::new(ToWrite::new(stdout));
     let mut err = Sink::new(ToWrite::new(stderr));
-    let mut files = System::new(rt);
+    let mut files = System::new(rt, &stream_failure);
     ExitCode::from(command(alloc, words, &mut files, &mut out, &mut err))
 }

@@ -2,6 +2,8 @@
 ghost use Rattle.std.specs.Prelude.{◌≡◌, IfOk};
 ghost use Rattle.std.specs.String.{string_bytes};
 
+use crate::system_errors::failure_of;
+use mapchain_cli::WriteFailure;
 use std::fs::{File, FileType, Permissions};
 use std::io::{ErrorKind, Write};
 use std::os::unix::fs::{FileTypeExt, OpenOptionsExt, PermissionsExt};
@@ -48,7 +50,7 @@ pub(crate) struct PartFile {
     /// The path of the new file.
     path: Option<String>,
     /// Why a write or a flush failed last, if one did.
-    failure: Option<ErrorKind>,
+    failure: Option<WriteFailure>,
 }
 
 /// Whether bytes are written to it as they come. A disk and a socket are none.
@@ -183,7 +185,7 @@ impl PartFile {
     }
 
     /// Why a write or a flush failed last, if one did.
-    pub(crate) fn failure(&self) -> Option<ErrorKind> {
+    pub(crate) fn failure(&self) -> Option<WriteFailure> {
         self.failure
     }
 }
@@ -206,7 +208,7 @@ impl Write for PartFile {
     fn write(&mut self, buf: &[u8]) -> io::Result<usize> {
         let taken = self.file.write(buf);
         if let Err(error) = &taken {
-            self.failure = Some(error.kind());
+            self.failure = Some(failure_of(error));
         }
         taken
     }
@@ -214,7 +216,7 @@ impl Write for PartFile {
     fn flush(&mut self) -> io::Result<()> {
         let flushed = self.file.flush();
         if let Err(error) = &flushed {
-            self.failure = Some(error.kind());
+            self.failure = Some(failure_of(error));
         }
         flushed
     }

@@ -5,16 +5,18 @@ ghost use Rattle.std.specs.String.{string_bytes};
 
 use crate::OUT_BUFFER;
 use crate::part_file::{PartFile, Target};
+use crate::system_errors::{failure_of, is_full, kind_by};
 use byte_ends::{FromRead, Sink, Source, ToWrite};
 use mapchain_cli::{Counts, FileKind, Files, Notes, OwnText, WriteFailure};
+use std::cell::Cell;
 use std::fs::File;
 use std::hash::{BuildHasher, RandomState};
-use std::io::{BufWriter, ErrorKind};
+use std::io::BufWriter;
 use std::{fs, io};
 
 /// The file system.
 #[derive(Drop)]
-pub(crate) struct System {
+pub(crate) struct System<'a> {
     rt: HostRuntime,
     counts: Counts,
     /// The file for which an output was begun last, unless that was kept or taken away.
@@ -25,14 +27,19 @@ pub(crate) struct System {
     is_full: bool,
     /// Why the last output couldn't be begun, written or kept, if the system said why.
     failure: Option<WriteFailure>,
+    /// Why standard output couldn't be written last, if the system said why.
+    stream_failure: &'a Cell<Option<WriteFailure>>,
     /// How many new files of other runs stood beside that of the last output.
     other_parts: u32,
     notes: Notes<FromRead<File>, ToWrite<BufWriter<PartFile>>>,
 }
 
-impl System {
-    /// The file system, of which no file was opened or replaced yet.
-    pub(crate) fn new(rt: HostRuntime) -> System {
+impl<'a> System<'a> {
+    /// The file system, of which no file was opened or replaced yet. Why standard output couldn't be written is told there.
+    pub(crate) fn new(
+        rt: HostRuntime,
+        stream_failure: &'a Cell<Option<WriteFailure>>,
+    ) -> System<'a> {
         System {
             rt,
             counts: Counts::none(),
@@ -40,6 +47,7 @@ impl System {
             replaced: None,
             is_full: false,
             failure: None,
+            stream_failure,
             other_parts: 0,
             notes: Notes::none(),
         }
@@ -76,50 +84,6 @@ fn keep(target: Option<Target>, output: BufWriter<PartFile>) -> Result<Target, O
     }
 }
 
-// The system's numbers for an error at opening where as many files are open as the process or the whole system may have.
-const PROCESS_IS_FULL: i32 = 24;
-
-const SYSTEM_IS_FULL: i32 = 23;
-
-// Whether a file couldn't be opened as too many are open.
-fn is_full(error: &io::Error) -> bool {
-    matches!(error.raw_os_error(), Some(PROCESS_IS_FULL | SYSTEM_IS_FULL))
-}
-
-// What an error says of an output.
-fn failure_of(error: &io::Error) -> WriteFailure {
-    if is_full(error) {
-        return WriteFailure::TooManyOpen;
-    }
-    failure_by(error.kind())
-}
-
-// What an error of this kind says of an output.
-fn failure_by(kind: ErrorKind) -> WriteFailure {
-    match kind {
-        ErrorKind::NotFound | ErrorKind::NotADirectory => WriteFailure::NoFolder,
-        ErrorKind::IsADirectory => WriteFailure::Folder,
-        ErrorKind::PermissionDenied => WriteFailure::NotAllowed,
-        ErrorKind::ReadOnlyFilesystem => WriteFailure::ReadOnly,
-        ErrorKind::StorageFull => WriteFailure::Full,
-        ErrorKind::QuotaExceeded => WriteFailure::OverQuota,
-        ErrorKind::FileTooLarge => WriteFailure::TooLarge,
-        ErrorKind::InvalidFilename => WriteFailure::BadName,
-        ErrorKind::BrokenPipe => WriteFailure::NoReader,
-        ErrorKind::AlreadyExists => WriteFailure::NamesTaken,
-        _ => WriteFailure::Other,
-    }
-}
-
-// What an error says of a path.
-fn kind_by(error: &io::Error) -> FileKind {
-    match error.kind() {
-        ErrorKind::NotFound => FileKind::Missing,
-        ErrorKind::PermissionDenied => FileKind::NotAllowed,
-        _ => FileKind::Other,
-    }
-}
-
 // What a path names. A regular file is opened, to see whether that is allowed.
 fn kind_of(rt: &HostRuntime, path: &str) -> FileKind {
     let metadata = match fs::metadata(rt, path) {
@@ -138,7 +102,7 @@ fn kind_of(rt: &HostRuntime, path: &str) -> FileKind {
     }
 }
 
-impl Files for System {
+impl Files for System<'_> {
     type R = FromRead<File>;
 
     type W = ToWrite<BufWriter<PartFile>>;
@@ -207,13 +171,17 @@ impl Files for System {
     fn discard(&mut self, output: ToWrite<BufWriter<PartFile>>) {
         self.notes.note_ended(&output);
         let (part, _held_back) = output.into_inner().into_parts();
-        self.failure = part.failure().map(failure_by);
+        self.failure = part.failure();
         self.pending = None;
         self.counts.count_discard();
     }
 
     fn write_failure(&self) -> Option<WriteFailure> {
         self.failure
+    }
+
+    fn stream_failure(&self) -> Option<WriteFailure> {
+        self.stream_failure.get()
     }
 
     fn other_parts(&self) -> u32 {

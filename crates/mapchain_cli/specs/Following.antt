@@ -115,10 +115,9 @@ ReportsTo (Some path) files explains outcome explanation old new status = IsRepo
 
 -- ---- an explanation, and then the report
 
--- where a topology was built or simplified nothing is read again
+-- where what was asked for is done nothing is read again
 abbrev pub ReadsNothing : Outcome → FileState → FileState → Type 0
-ReadsNothing (Ok (Some report)) old new = new ≡ old
-ReadsNothing (Ok None) old new = Unit {0}
+ReadsNothing (Ok report) old new = new ≡ old
 ReadsNothing (Err ending) old new = Unit {0}
 
 -- files are only read for an explanation, if at all, which is reported in brief where that is asked, and the report of the run has all of it

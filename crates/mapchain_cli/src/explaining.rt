@@ -7,8 +7,8 @@ use crate::files::Files;
 use byte_ends::{MAX_INPUT, ReadFault, read_all};
 use command_words::{Order, Request};
 use explanations::{
-    FileKind, Observed, bad_area, bad_share, built, layer_fault, other_parts, topology_contents,
-    topology_fault, unopened, unwritten_output,
+    FileKind, Observed, bad_area, bad_share, built, layer_fault, other_parts, topology_fault,
+    unopened, unwritten_output, unwritten_stream,
 };
 use inputs::{BuildFault, FileFault};
 use reports::Report;
@@ -94,35 +94,18 @@ fn explain_file<F: Files>(
     topology_fault(alloc, path, bytes.as_deref(), fault)
 }
 
-/// What became of what was built or simplified, of which nothing is read again.
-fn explain_made(alloc: Global, report: &Report, observed: &Observed) -> Result<String, AllocError> {
-    let mut text = built(alloc, report)?;
+/// What is said of a request that is done, of which nothing is read again.
+fn explain_done(
+    alloc: Global,
+    report: &Option<Report>,
+    observed: &Observed,
+) -> Result<String, AllocError> {
+    let mut text = match report {
+        Some(report) => built(alloc, report)?,
+        None => String::new(alloc),
+    };
     text.push_str(observed.lines()?)?;
     Ok(text)
-}
-
-/// What is in a topology that was counted.
-fn explain_summary<F: Files>(alloc: Global, path: &str, files: &mut F) -> Result<String, AllocError>
-    ensures { OnlyReads (used (F.state files.old) (F.state files.new)) }
-{
-    match read_again(alloc, path, files) {
-        Some(bytes) => topology_contents(alloc, bytes.as_slice()),
-        None => Ok(String::new(alloc)),
-    }
-}
-
-/// What is said of a request that is done and has no report.
-fn explain_done<F: Files>(
-    alloc: Global,
-    request: &Request<'_>,
-    files: &mut F,
-) -> Result<String, AllocError>
-    ensures { OnlyReads (used (F.state files.old) (F.state files.new)) }
-{
-    match request {
-        Request::Stat { path, .. } => explain_summary(alloc, path, files),
-        _ => Ok(String::new(alloc)),
-    }
 }
 
 /// Why words of a request are refused: an area, the area of rings, or the share.
@@ -162,6 +145,18 @@ fn is_unwritten(ending: &Ending) -> bool {
     )
 }
 
+/// Why the output couldn't be begun, written or kept.
+fn explain_unwritten<F: Files>(
+    alloc: Global,
+    output: Option<&str>,
+    files: &F,
+) -> Result<String, AllocError> {
+    match output {
+        Some(path) => unwritten_output(alloc, path, files.write_failure()),
+        None => unwritten_stream(alloc, files.stream_failure()),
+    }
+}
+
 /// Why an order isn't done.
 fn explain_refused<F: Files>(
     alloc: Global,
@@ -172,7 +167,7 @@ fn explain_refused<F: Files>(
     ensures { OnlyReads (used (F.state files.old) (F.state files.new)) }
 {
     if is_unwritten(ending) {
-        return unwritten_output(alloc, order.output, files.write_failure());
+        return explain_unwritten(alloc, order.output, files);
     }
     let request = &order.request;
     match (request, ending) {
@@ -211,8 +206,7 @@ fn explain<F: Files>(
     ensures unread { ReadsNothing outcome.now (F.state files.old) (F.state files.new) }
 {
     let mut text = match outcome {
-        Ok(Some(report)) => explain_made(alloc, report, observed)?,
-        Ok(None) => explain_done(alloc, &order.request, files)?,
+        Ok(report) => explain_done(alloc, report, observed)?,
         Err(ending) => explain_refused(alloc, order, ending, files)?,
     };
     text.push_str(explain_parts(alloc, order, files)?.as_str())?;
@@ -235,5 +229,5 @@ pub(crate) fn explanation_of<F: Files>(
 
 /// Why the report of the run isn't written to the file of this path: nothing for want of memory.
 pub(crate) fn unwritten_report<F: Files>(alloc: Global, path: &str, files: &F) -> String {
-    unwritten_output(alloc, Some(path), files.write_failure()).unwrap_or(String::new(alloc))
+    unwritten_output(alloc, path, files.write_failure()).unwrap_or(String::new(alloc))
 }

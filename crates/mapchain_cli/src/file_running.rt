@@ -17,7 +17,9 @@ use byte_ends::{Drain, Feed, ReadFault, Sink, Source, flush_after};
 use effective_area::HeapLinks;
 use explanations::Observed;
 use inputs::FileFault;
-use mapchain_engine::{Guards, Level, simplify_watched, stat, stat_with_crossings, to_geo};
+use mapchain_engine::{
+    Guards, Level, simplify_watched, stat_watched, stat_with_crossings_watched, to_geo,
+};
 use reports::{Report, Summary, summary_text};
 use std::alloc::Global;
 
@@ -101,6 +103,7 @@ fn send_summary<V: Drain>(summary: &Summary, out: &mut Sink<V>) -> Result<u64, F
 /// The summary of a topology, with its crossings or without.
 fn summary_of<R: Feed>(
     alloc: Global,
+    observed: &mut Observed,
     crossings: bool,
     source: &mut Source<R>,
 ) -> Result<Summary, FileFault>
@@ -108,15 +111,16 @@ fn summary_of<R: Feed>(
     ensures refused { IfErr result (λ e. FailsToGive source.old source.new e) }
 {
     if crossings {
-        stat_with_crossings(alloc, source)
+        stat_with_crossings_watched(alloc, source, observed)
     } else {
-        stat(alloc, source)
+        stat_watched(alloc, source, observed)
     }
 }
 
 /// Counts what is in a topology, and its crossings, where they are asked for.
 pub(crate) fn summarise<F: Files, V: Drain>(
     alloc: Global,
+    observed: &mut Observed,
     crossings: bool,
     path: &str,
     files: &mut F,
@@ -126,7 +130,7 @@ pub(crate) fn summarise<F: Files, V: Drain>(
     ensures refused { IfErr result (λ e. RefusesFile (used (F.state files.old) (F.state files.new)) path.now out.old out.new (IsSummaryFault crossings out.old out.new) e) }
 {
     let mut source = open_file(path, files)?;
-    let summarised = summary_of(alloc, crossings, &mut source);
+    let summarised = summary_of(alloc, observed, crossings, &mut source);
     files.done_with(&source);
     let summary = summarised?;
     send_summary(&summary, out)?;

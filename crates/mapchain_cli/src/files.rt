@@ -72,6 +72,11 @@ pub trait Files {
         None
     }
 
+    /// Why standard output couldn't be written, as far as that is known.
+    fn stream_failure(&self) -> Option<WriteFailure> {
+        None
+    }
+
     /// How many new files of other runs stood beside that of the last output when it was begun, as of runs that were interrupted.
     fn other_parts(&self) -> u32 {
         0

@@ -162,7 +162,7 @@ pub(crate) fn answer<F: Files, V: Drain>(
             Ok(None)
         }
         Request::Stat { crossings, path } => {
-            summarise(alloc, *crossings, path, files, out)?;
+            summarise(alloc, observed, *crossings, path, files, out)?;
             Ok(None)
         }
     }

@@ -5,6 +5,7 @@ pub mod Boxes
 pub mod Corners
 pub mod Counts
 pub mod Covering
+pub mod Crossings
 pub mod Flattened
 pub mod Free
 pub mod Gathered

@@ -1,5 +1,6 @@
 pub mod Blocking
 pub mod Blocks
+pub mod Crossings
 pub mod Entries
 pub mod Extents
 pub mod First

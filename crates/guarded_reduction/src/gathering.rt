@@ -1,8 +1,9 @@
 // The segments of arcs, near ones close together.
 ghost use Rattle.std.specs.Prelude.{◌≡◌, ◌++◌, IfOk, OnOk, map};
 ghost use Rattle.std.specs.List.{filter};
+ghost use Rattle.std.specs.List.Sorted.{IsPermutation};
 ghost use Rattle.guarded_meaning.specs.Arcs.{segments};
-ghost use Rattle.guarded_meaning.specs.Segments.{bad_pairs, has_length};
+ghost use Rattle.guarded_meaning.specs.Segments.{has_length};
 ghost use Rattle.guarded_reduction.specs.Lines.{as_segment, line_segments};
 
 use crate::extent::{Extent, empty_extent};
@@ -63,7 +64,7 @@ fn lines_of(alloc: Global, arcs: &[Items<Position>]) -> Result<Vec<Line>, Memory
 
 /// The segments of arcs, in the order in which their middles lie along a curve.
 pub fn lines_in_order(alloc: Global, arcs: &[Items<Position>]) -> Result<Vec<Line>, Memory>
-    ensures { IfOk result (λ lines. bad_pairs (map as_segment lines.items) ≡ bad_pairs (segments arcs.now)) }
+    ensures { IfOk result (λ lines. IsPermutation (segments arcs.now) (map as_segment lines.items)) }
 {
     let mut lines = lines_of(alloc, arcs)?;
     lines.sort_unstable();

@@ -11,13 +11,14 @@
 //! `crossings_up_to` counts pairs of segments that meet badly. These are sorted along the same curve. Blocks of eight neighbours have a box round them,
 //! and so do eight blocks, and so on; and where all segments of a block have one end, as those of a star, the others have a box of their own. For
 //! each segment the later ones are gone through, without the blocks of which such a box shows that none meets it badly. How many are left is not
-//! promised.
+//! promised. `crossings_with` also gives the first of them.
 #![tactic(auto)]
 
 mod block;
 mod blocking;
 mod box_tree;
 mod counting;
+mod crossing;
 mod crowds;
 mod entry;
 mod extent;
@@ -49,7 +50,8 @@ mod waiting_lists;
 mod weighing;
 
 pub use blocking::{Blocked, Joined, Links};
-pub use counting::crossings_up_to;
+pub use counting::{crossings_up_to, crossings_with};
+pub use crossing::Crossing;
 pub use extent::Extent;
 pub use index::PositionIndex;
 pub use laws::{blocked_law, free_law};

@@ -6,6 +6,7 @@ pub loop-rank-preserved : goal.loop-rank-preserved
 loop-rank-preserved c =
     let next = pairs_ahead c.args.lines.now c.loop-rank.rank c.loop-rank-test.true in
     record {
-      count = omega (arith, c.count_after-count.ensures);
-      all = omega (arith, c.loop-rank.invariant.all, c.count_after-count.ensures, next);
+      count = omega (arith, c.in_ok-count.ensures.count);
+      found = c.in_ok-count.ensures.found;
+      all = omega (arith, c.loop-rank.invariant.all, c.in_ok-count.ensures.count, next);
     }

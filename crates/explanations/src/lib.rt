@@ -11,6 +11,7 @@ mod brief;
 mod brief_laws;
 mod building;
 mod contents;
+mod crossed;
 mod escaping;
 mod file_kinds;
 mod form;

@@ -1,10 +1,13 @@
 // What was seen of a run.
 use crate::contents::{step_line, topology_lines};
+use crate::crossed::{MOST_NAMED, crossing_lines};
 use crate::escaping::quoted;
 use crate::inputs_read::InputLines;
 use crate::losses::{DropsLeft, add_losses};
-use geojson_meaning::{Dropped, Layer};
+use geojson_meaning::{Dropped, Layer, Position};
+use guarded_reduction::Crossing;
 use inputs::Watch;
+use json_value::Items;
 use std::alloc::{AllocError, Global};
 use topojson_types::Topology;
 
@@ -121,6 +124,26 @@ impl Watch for Observed {
             if let Ok(lines) = topology_lines(alloc, topology) {
                 seen.lines = lines;
                 self.seen = Some(seen);
+            }
+        }
+    }
+
+    fn most_crossings(&self) -> usize {
+        if self.seen.is_some() { MOST_NAMED } else { 0 }
+    }
+
+    fn crossed(
+        &mut self,
+        alloc: Global,
+        topology: &Topology,
+        arcs: &[Items<Position>],
+        crossings: &[Crossing],
+    ) {
+        if let Some(mut seen) = self.seen.take() {
+            if let Ok(lines) = crossing_lines(alloc, topology, arcs, crossings) {
+                if seen.lines.push_str(lines.as_str()).is_ok() {
+                    self.seen = Some(seen);
+                }
             }
         }
     }

@@ -11,7 +11,8 @@ pub(crate) enum Owner {
     None,
     /// The feature of this number.
     One(u64),
-    Several,
+    /// That of this number first.
+    Several(u64),
 }
 
 impl Owner {
@@ -20,7 +21,7 @@ impl Owner {
         match self {
             Owner::None => Owner::One(feature),
             Owner::One(other) if other == feature => self,
-            Owner::One(_) | Owner::Several => Owner::Several,
+            Owner::One(first) | Owner::Several(first) => Owner::Several(first),
         }
     }
 }
@@ -103,7 +104,7 @@ pub(crate) fn count_owners(owners: &[Owner]) -> OwnerCounts {
     };
     for owner in owners {
         match owner {
-            Owner::Several => counts.several = counts.several.saturating_add(1),
+            Owner::Several(_) => counts.several = counts.several.saturating_add(1),
             Owner::One(_) => counts.one = counts.one.saturating_add(1),
             Owner::None => counts.none = counts.none.saturating_add(1),
         }

@@ -1,5 +1,7 @@
 // Looking on while inputs are read.
-use geojson_meaning::{Dropped, Layer};
+use geojson_meaning::{Dropped, Layer, Position};
+use guarded_reduction::Crossing;
+use owned_values::Items;
 use std::alloc::Global;
 use topojson_types::Topology;
 
@@ -19,6 +21,20 @@ pub trait Watch {
 
     /// A topology is counted.
     fn counted(&mut self, _alloc: Global, _topology: &Topology) {}
+
+    /// How many pairs of segments that meet badly it wants to see, where they are counted.
+    fn most_crossings(&self) -> usize {
+        0
+    }
+
+    /// The pairs of segments that meet badly are counted, of the topology's arcs of these positions: these are some of them, or all.
+    fn crossed(
+        &mut self,
+        _alloc: Global,
+        _topology: &Topology,
+        _arcs: &[Items<Position>],
+        _crossings: &[Crossing],
+    ) {}
 
     /// The topology of the layers is written, without these lines and rings, in reading order.
     fn built(&mut self, _alloc: Global, _topology: &Topology, _dropped: &[Dropped]) {}

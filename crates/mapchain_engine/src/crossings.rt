@@ -11,25 +11,33 @@ use crate::file_reading::read_file;
 use crate::guarding::arc_positions;
 use crate::summarising::summary_in;
 use byte_ends::{Feed, Memory, Source};
-use guarded_reduction::crossings_up_to;
+use guarded_reduction::crossings_with;
 use inputs::{FileFault, Unwatched, Watch};
 use reports::{MOST_CROSSINGS, Summary};
 use std::alloc::Global;
+use std::mem;
 use topojson_types::Topology;
 
-/// How many pairs of segments of a topology's arcs meet badly, or as many as are counted at most.
-fn crossings_in(alloc: Global, topology: &Topology) -> Result<u64, Memory>
+/// How many pairs of segments of a topology's arcs meet badly, or as many as are counted at most. Some are shown to a `Watch`.
+fn crossings_in<K: Watch>(alloc: Global, topology: &Topology, watch: &mut K) -> Result<u64, Memory>
     ensures { IfOk result (λ n. n ≡ min most_crossings (crossings_of topology.now)) }
 {
     let lines = arc_positions(alloc, topology.transform(), topology.arcs())?;
-    crossings_up_to(alloc, &lines, MOST_CROSSINGS)
+    let most = watch.most_crossings();
+    let (count, crossings) = crossings_with(alloc, &lines, MOST_CROSSINGS, most)?;
+    watch.crossed(alloc, topology, &lines, &crossings);
+    Ok(count)
 }
 
 /// The summary of a topology, with its crossings.
-fn summary_with_crossings(alloc: Global, topology: &Topology) -> Result<Summary, Memory>
+fn summary_with_crossings<K: Watch>(
+    alloc: Global,
+    topology: &Topology,
+    watch: &mut K,
+) -> Result<Summary, Memory>
     ensures { IfOk result (λ summary. summary ≡ with_crossings (crossings_of topology.now) (summary_of topology.now)) }
 {
-    let crossings = crossings_in(alloc, topology)?;
+    let crossings = crossings_in(alloc, topology, watch)?;
     let mut summary = summary_in(alloc, topology)?;
     summary.crossings = Some(crossings);
     Ok(summary)
@@ -68,7 +76,8 @@ pub fn stat_with_crossings_watched<R: Feed, K: Watch>(
 {
     let (topology, _counts) = read_file(alloc, source)?;
     watch.counted(alloc, &topology);
-    let summary = summary_with_crossings(alloc, &topology);
-    drop(topology);
+    let summary = summary_with_crossings(alloc, &topology, watch);
+    // (as in building)
+    mem::forget(topology);
     Ok(summary?)
 }

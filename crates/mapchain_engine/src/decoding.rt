@@ -14,6 +14,7 @@ use byte_ends::{Drain, Feed, Sink, Source, flush_after};
 use decoding_writer::write_object;
 use inputs::FileFault;
 use std::alloc::Global;
+use std::mem;
 use topojson_features::named_object;
 use topojson_types::{TopoObject, Topology};
 
@@ -35,7 +36,8 @@ fn send<W: Drain>(
 ///
 /// The topology is read from its source to the end, and refused as by `stat`. A GeometryCollection is a FeatureCollection, any other
 /// object a Feature; each line and ring is its arcs, forwards or reversed, put together. On each fault but `Write` the sink is as
-/// it was. On `Write` it took a prefix of the text, of the length that is reported. At `Ok` the sink is flushed.
+/// it was. On `Write` it took a prefix of the text, of the length that is reported. At `Ok` the sink is flushed. The topology's
+/// memory is left to the end of the process.
 pub fn to_geo<R: Feed, W: Drain>(
     alloc: Global,
     source: &mut Source<R>,
@@ -57,6 +59,7 @@ pub fn to_geo<R: Feed, W: Drain>(
         return Err(FileFault::NoObject);
     };
     let sent = send(&topology, object, sink);
-    drop(topology);
+    // (as in building)
+    mem::forget(topology);
     sent
 }

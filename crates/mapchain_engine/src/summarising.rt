@@ -11,6 +11,7 @@ use byte_ends::{Feed, Memory, Source};
 use inputs::{FileFault, Watch};
 use reports::{Summary, summary_with};
 use std::alloc::Global;
+use std::mem;
 use topojson_types::Topology;
 
 /// Counts what is in a topology (TopoJSON 1.0) that is read from its source to the end.
@@ -34,7 +35,8 @@ pub fn stat<R: Feed>(alloc: Global, source: &mut Source<R>) -> Result<Summary, F
         parts.arcs.as_slice(),
         parts.transform.is_some(),
     );
-    drop(parts);
+    // (as in building)
+    mem::forget(parts);
     Ok(summary?)
 }
 
@@ -64,7 +66,7 @@ fn stat_whole<R: Feed, K: Watch>(
     let (topology, _counts) = read_file(alloc, source)?;
     watch.counted(alloc, &topology);
     let summary = summary_in(alloc, &topology);
-    drop(topology);
+    mem::forget(topology);
     Ok(summary?)
 }
 

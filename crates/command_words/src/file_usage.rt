@@ -92,7 +92,8 @@ const CROSSINGS_LONG_HELP: &str =
     "Count the pairs of segments of arcs that meet badly: they cross, lie on one another, or
 touch but at ends of both. Each pair of places in the arcs counts once, also where two
 arcs run alike, and so do arcs that no line uses. It takes the positions of all arcs
-and an index of them";
+and an index of them. '--explain' says of twenty of these pairs where they are, and of
+which features";
 
 const FILE_HELP: &str = "A topology (TopoJSON 1.0)";
 

@@ -1,6 +1,6 @@
 // Crossings counted up to limits that no command has. That the answer is the definition's is proved: these show that memory isn't always refused.
 use geometry::Position;
-use guarded_reduction::crossings_up_to;
+use guarded_reduction::crossings_with;
 use owned_values::Items;
 use std::test::Fail;
 
@@ -21,8 +21,11 @@ fn crossings_are_counted_up_to_a_limit(rt: HostRuntime) -> Result<(), Fail> {
         Items::of([Position::at(3, -9), Position::at(3, 9)].to_vec(alloc)?),
         Items::of([Position::at(6, -9), Position::at(6, 9)].to_vec(alloc)?),
     ];
-    assert!(rt; crossings_up_to(alloc, &lines, 100)? == 12);
-    assert!(rt; crossings_up_to(alloc, &lines, 7)? == 7);
-    assert!(rt; crossings_up_to(alloc, &lines, 0)? == 0);
+    let (all, some) = crossings_with(alloc, &lines, 100, 5)?;
+    assert!(rt; all == 12 && some.len() == 5);
+    let (few, each) = crossings_with(alloc, &lines, 7, 100)?;
+    assert!(rt; few == 7 && each.len() == 7);
+    let (none, nothing) = crossings_with(alloc, &lines, 0, 1)?;
+    assert!(rt; none == 0 && nothing.is_empty());
     Ok(())
 }

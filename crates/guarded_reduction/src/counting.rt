@@ -91,11 +91,3 @@ pub fn crossings_with(
     let count = count_pairs(&lines, &levels, limit, most, &mut crossings)?;
     Ok((count, crossings))
 }
-
-/// How many pairs of segments of arcs meet badly, each pair of places once, or the limit, if they are more. Equal neighbours make no segment.
-pub fn crossings_up_to(alloc: Global, arcs: &[Items<Position>], limit: u64) -> Result<u64, Memory>
-    ensures { IfOk result (λ n. n ≡ min limit (crossings arcs.now)) }
-{
-    let (count, _none) = crossings_with(alloc, arcs, limit, 0)?;
-    Ok(count)
-}

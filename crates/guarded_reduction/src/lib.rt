@@ -8,10 +8,10 @@
 //! of boxes for each place that goes. `holding` asks it from the side of the corner where fewer places lie. `free_law` and `blocked_law` tie it to
 //! the guard. Rings are asked by how often their arcs move on from a position to another (`src/kept_rings.rt`). Each look is a search of the index
 //! and a step of the heap; how many there are, and how many boxes each goes through, is not promised.
-//! `crossings_up_to` counts pairs of segments that meet badly. These are sorted along the same curve. Blocks of eight neighbours have a box round them,
+//! `crossings_with` counts pairs of segments that meet badly, and gives some of them. These are sorted along the same curve. Blocks of eight neighbours have a box round them,
 //! and so do eight blocks, and so on; and where all segments of a block have one end, as those of a star, the others have a box of their own. For
 //! each segment the later ones are gone through, without the blocks of which such a box shows that none meets it badly. How many are left is not
-//! promised. `crossings_with` also gives the first of them.
+//! promised.
 #![tactic(auto)]
 
 mod block;
@@ -50,7 +50,7 @@ mod waiting_lists;
 mod weighing;
 
 pub use blocking::{Blocked, Joined, Links};
-pub use counting::{crossings_up_to, crossings_with};
+pub use counting::crossings_with;
 pub use crossing::Crossing;
 pub use extent::Extent;
 pub use index::PositionIndex;

@@ -1,7 +1,7 @@
 -- The first bytes, looked at together.
-use Rattle.std.proofs.Common.{◌≡◌, ℕ, ◌-◌, ◌<◌, ◌≤◌, Bool, true, false, not, eqb, List, [], ◌∷◌, length, take, drop, get_or, sym, ap, subst, arith}
+use Rattle.std.proofs.Common.{◌≡◌, ℕ, ◌<◌, ◌≤◌, Bool, true, false, not, eqb, List, length, take, get_or, subst, arith}
 use Rattle.std.specs.List.{prefix_len}
-use Rattle.std.proofs.lemmas.List.{get_or-take, length-take-le, take_rest}
+use Rattle.std.proofs.lemmas.List.{get_or-take, length-take-le}
 use Rattle.std.proofs.lemmas.List.Sums.{prefix_len-le-length, prefix_len_passes}
 
 not_so : (b : Bool) → not b ≡ true → b ≡ false
@@ -21,8 +21,3 @@ module _ (bytes : List ℕ) (enough : 16 ≤ length bytes) where
         let before : k < prefix_len (λ x. not (eqb x byte)) (take 16 bytes) = omega (arith, counted, lt) in
         let prefix : k < 16 = omega (arith, lt, within) in
         not_so (eqb (get_or bytes k 0) byte) (subst (λ x. not (eqb x byte) ≡ true) (get_or-take 16 bytes k 0 prefix) (prefix_len_passes (λ x. not (eqb x byte)) (take 16 bytes) k 0 before))
-
--- the first byte, and those after it
-pub split : (rest : List ℕ) → 1 ≤ length rest → rest ≡ get_or rest 0 0 ∷ take (length rest - 1) (drop 1 rest)
-split [] h = absurd (omega (arith, h))
-split (b ∷ bs) h = ap (λ z. b ∷ z) (sym (take_rest (b ∷ bs) 1))

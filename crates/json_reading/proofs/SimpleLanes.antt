@@ -1,17 +1,12 @@
 -- The first bytes that stand for themselves in a string, looked at together.
-use Rattle.std.proofs.Common.{◌≡◌, ℕ, ◌+◌, ◌%◌, ◌^◌, Bool, true, false, not, ◌&&◌, cond, eqb, leb, List, [], ◌∷◌, length, map, replicate, bit_or, refl, ap, ◌∙◌, arith}
-use Rattle.std.specs.List.{prefix_len}
+use Rattle.std.proofs.Common.{◌≡◌, ℕ, ◌%◌, ◌^◌, Bool, true, false, not, ◌&&◌, eqb, List, length, map, replicate, bit_or, refl, ap, ◌∙◌, arith}
 use Rattle.std.specs.Simd.Lanes.{mask_l, top, zip2}
 use Rattle.std.proofs.Math.Dec.{ltb}
 use Rattle.std.proofs.lemmas.List.{length-map}
-use Rattle.std.proofs.lemmas.Bool.Decides.{leb_tells}
 use Rattle.std.proofs.lemmas.Simd.{mask_l-mod, zip2_of_maps, zip2_splat, zip2_splat_left}
+use Rattle.json_value.proofs.PlainLanes.{above, lane}
 use Rattle.json_value.proofs.Texts.{fused}
 use Rattle.json_reading.specs.Strings.{is_simple}
-
--- a lane of all ones, or of none
-abbrev pub lane : Bool → ℕ
-lane b = cond b 255 0
 
 any_of : (a b c d : Bool) → top 7 (bit_or (bit_or (lane a) (lane b)) (bit_or (lane c) (lane d))) ≡ not (not d && (not c && (not a && not b)))
 any_of false false false false = refl
@@ -31,9 +26,6 @@ any_of true true false true = refl
 any_of true true true false = refl
 any_of true true true true = refl
 
-above : (a b : ℕ) → not (ltb a b) ≡ leb b a
-above a b = grind (arith, leb_tells)
-
 is_marked : (x : ℕ) → top 7 (bit_or (bit_or (lane (eqb x 34)) (lane (eqb x 92))) (bit_or (lane (ltb x 32)) (lane (ltb 127 x)))) ≡ not (is_simple x)
 is_marked x = any_of (eqb x 34) (eqb x 92) (ltb x 32) (ltb 127 x) ∙ rw (above 127 x, above x 32) refl
 
@@ -49,15 +41,3 @@ marks xs h =
     ap (λ z. mask_l (map (top 7) z) % 2 ^ 64) all
     ∙ ap (λ z. mask_l z % 2 ^ 64) (fused (top 7) _ (λ x. not (is_simple x)) is_marked xs)
     ∙ mask_l-mod (map (λ x. not (is_simple x)) xs) 64 (omega (arith, length-map xs (λ x. not (is_simple x)), h))
-
-twice : (b : Bool) → b ≡ not (not b)
-twice true = refl
-twice false = refl
-
-counted : (b : Bool) (m n : ℕ) → m ≡ n → cond b (1 + m) 0 ≡ cond (not (not b)) (1 + n) 0
-counted true m n h = ap (λ k. 1 + k) h
-counted false m n h = refl
-
-pub not_not : (xs : List ℕ) → prefix_len is_simple xs ≡ prefix_len (λ x. not (not (is_simple x))) xs
-not_not [] = refl
-not_not (x ∷ xs) = counted (is_simple x) _ _ (not_not xs)

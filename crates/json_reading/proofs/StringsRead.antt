@@ -1,6 +1,7 @@
 -- What is read as a string, after its first quotation mark, is spelled so.
-use Rattle.std.proofs.Common.{◌≡◌, ℕ, zero, suc, ◌+◌, ◌-◌, ◌*◌, ◌≤◌, Bool, true, eqb, inl, inr, List, [], ◌∷◌, ◌++◌, length, take, Some, None, refl, sym, ap, subst, ◌∙◌, append_assoc, length-append, arith}
+use Rattle.std.proofs.Common.{◌≡◌, ℕ, zero, suc, ◌+◌, ◌*◌, Bool, true, eqb, inl, inr, List, [], ◌∷◌, ◌++◌, length, take, drop, Some, None, one-add, refl, sym, ap, subst, ◌∙◌, append_assoc, arith}
 use Rattle.std.specs.Prelude.{codes, encode_utf8}
+use Rattle.std.specs.List.{prefix_len}
 use Rattle.std.proofs.lemmas.Str.{encode_ascii}
 use Rattle.std.proofs.lemmas.Bool.{eqb-true}
 use Rattle.std.proofs.lemmas.List.{append-nil}
@@ -8,10 +9,10 @@ use Rattle.std.proofs.lemmas.Option.{option_and_then_some}
 use Rattle.owned_values.proofs.Tests.{chosen}
 use Rattle.json_value.specs.Grammar.{is_plain, hex_value, SpellsUnit, unit_of, is_high, is_low, paired, SpellsChars, chars_end, chars_plain, chars_escape, chars_unit, chars_pair}
 use Rattle.json_value.proofs.Letters.{letter_kind}
+use Rattle.json_value.proofs.Runs.{plain_decides}
 use Rattle.json_value.specs.Reading.{Parse, plain_prefix, after_plain, hex_at, unit_at, low_at, unicode_at, escape_at, chars_after, chars_at, if_text, string_at}
 use Rattle.json_reading.proofs.Steps.{pair_is, IsSound}
 use Rattle.json_reading.proofs.Words.{after_word_takes}
-use Rattle.json_reading.proofs.NumbersRead.{cut}
 
 -- ---- plain bytes
 
@@ -30,11 +31,21 @@ plain_spelled (b ∷ bs) s t h = elim (chosen (is_plain b) (b ∷ plain_prefix b
 ]
 
 -- what the code cuts off
-pub plain_cut : (bs : List ℕ) → take (length bs - length (after_plain bs)) bs ≡ plain_prefix bs
-plain_cut bs = cut (plain_prefix bs) (after_plain bs) bs (plain-split bs)
+pub plain_front : (bs : List ℕ) → take (prefix_len is_plain bs) bs ≡ plain_prefix bs
+unfolding plain_prefix
+plain_front [] = refl
+plain_front (b ∷ bs) = elim (plain_decides b) [
+  | inl p ↦ rw (p, one-add) (ap (λ z. b ∷ z) (plain_front bs))
+  | inr p ↦ rw p refl
+]
 
-pub after_plain-le : (bs : List ℕ) → length (after_plain bs) ≤ length bs
-after_plain-le bs = let l = ap length (plain-split bs) in omega (arith, l, length-append (plain_prefix bs) (after_plain bs))
+pub plain_back : (bs : List ℕ) → drop (prefix_len is_plain bs) bs ≡ after_plain bs
+unfolding after_plain
+plain_back [] = refl
+plain_back (b ∷ bs) = elim (plain_decides b) [
+  | inl p ↦ rw (p, one-add) (plain_back bs)
+  | inr p ↦ rw p refl
+]
 
 -- ---- escapes
 

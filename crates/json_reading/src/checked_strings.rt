@@ -8,8 +8,8 @@ ghost use Rattle.json_reading.specs.Strings.{EndsPlain, PassesSimple};
 ghost use Rattle.json_reading.specs.Strings as strings;
 
 use crate::fault::Fault;
-use crate::lanes::{LANES, first_lanes};
 use crate::strings::string_at;
+use json_value::{LANES, first_lanes};
 use std::alloc::Global;
 use std::simd::prelude::*;
 

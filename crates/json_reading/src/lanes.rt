@@ -4,19 +4,8 @@ ghost use Rattle.std.specs.Option.{option_copied};
 ghost use Rattle.std.specs.Prelude.{◌≡◌, ◌==◌, ◌≤◌, length, not, take};
 ghost use Rattle.json_reading.specs.Finding.{after_first};
 
+use json_value::{LANES, first_lanes};
 use std::simd::prelude::*;
-
-/// How many bytes are looked at together.
-pub const LANES: usize = 16;
-
-/// The first bytes, of which there have to be enough.
-#[inline(always)]
-pub fn first_lanes(bytes: &[u8]) -> u8x16
-    requires { 16 ≤ length bytes.now }
-    ensures { result ≡ take 16 bytes.now }
-{
-    u8x16::from_slice(bytes)
-}
 
 /// How many of them come before the first that is this byte.
 #[inline(always)]

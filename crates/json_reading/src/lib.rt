@@ -25,7 +25,7 @@ pub use checked_strings::plain_at;
 pub use checked_values::after_value;
 pub use checking::check;
 pub use fault::{Fault, JsonFault, Why};
-pub use lanes::{LANES, first_lanes, rest_after_first};
+pub use lanes::rest_after_first;
 pub use laws::{prefix_values_are_well_formed, written_text_is_read};
 pub use numbers::after_number;
 pub use parser::{LAYER_DEPTH, TOPOLOGY_DEPTH, one_value, parse};

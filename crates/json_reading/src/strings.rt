@@ -1,13 +1,13 @@
 // Strings (RFC 8259, section 7).
 ghost use Rattle.std.specs.Prelude.{◌≡◌, ◌++◌, ◌<◌, ℕ, length, IfOk, IfSome, IsTrue, MatchResult, OnOk, Some, encode_utf8, false};
-ghost use Rattle.json_value.specs.Grammar.{hex_value, is_plain, is_high, is_low, unescape, paired};
+ghost use Rattle.json_value.specs.Grammar.{hex_value, is_high, is_low, unescape, paired};
 ghost use Rattle.json_reading.specs.Gives.{Fails, Gives, IsMalformed, StopsBefore};
 ghost use Rattle.std.specs.Str.{is_utf8};
 ghost use Rattle.json_value.specs.Reading as spec;
 
 use crate::bytes::{after_word, next};
 use crate::fault::{Fault, Why, stopped};
-use json_value::OwnText;
+use json_value::{OwnText, plain_len};
 use std::alloc::{AllocError, Global};
 
 /// What a letter after a reverse solidus stands for, but for `u`.
@@ -166,35 +166,12 @@ fn escape_at(bytes: &[u8]) -> Result<(char, &[u8]), Fault>
     }
 }
 
-fn is_plain(byte: u8) -> bool
-    ensures { result ≡ is_plain byte }
-{
-    byte >= 32 && byte != b'"' && byte != b'\\'
-}
-
-/// What follows the bytes that stand for themselves.
-#[tactic(auto, unfolding(json_value::specs::Reading::after_plain))]
-fn after_plain(bytes: &[u8]) -> &[u8]
-    ensures { result.now ≡ spec.after_plain bytes.now }
-{
-    let mut rest = bytes;
-    while let [first, more @ ..] = rest {
-        if !is_plain(*first) {
-            break;
-        }
-        rest = more;
-    }
-    rest
-}
-
 /// The bytes at the front that stand for themselves, and what follows them.
 pub fn plain_run(bytes: &[u8]) -> (&[u8], &[u8])
     ensures prefix { result.0.now ≡ spec.plain_prefix bytes.now }
     ensures rest { result.1.now ≡ spec.after_plain bytes.now }
 {
-    let rest = after_plain(bytes);
-    let (prefix, _) = bytes.split_at(bytes.len() - rest.len());
-    (prefix, rest)
+    bytes.split_at(plain_len(bytes))
 }
 
 /// Appends the character's UTF-8.

@@ -9,6 +9,7 @@ pub mod Looking
 pub mod Nesting
 pub mod NumbersOf
 pub mod Parts
+pub mod PlainLanes
 pub mod Runs
 pub mod SpelledNumbers
 pub mod SpelledTexts

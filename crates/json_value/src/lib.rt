@@ -3,7 +3,8 @@
 //! it keeps. `specs/Grammar.antt` says which bytes spell which value and `specs/Text.antt` which text is written for a value; the contract
 //! of `text_spells_value` joins the two. `specs/Readers.antt` defines a reader that counts while it reads, or answers the first fault. The
 //! layers above look into a value by `Json::as_object` and its kin, find members by `find`, `need` and `take`, copy a value by
-//! `Json::copy`, and make properties by `Properties::of` and `Properties::of_text`.
+//! `Json::copy`, and make properties by `Properties::of` and `Properties::of_text`. Readers and writers of strings
+//! pass over bytes that stand for themselves by `plain_len`.
 #![tactic(auto)]
 
 mod copying;
@@ -11,6 +12,7 @@ mod fault;
 mod json;
 mod laws;
 mod look_up;
+mod plain_bytes;
 mod properties;
 
 pub use copying::copy_members;
@@ -22,4 +24,5 @@ pub use laws::{
 };
 pub use look_up::{find, need, need_text, take, take_needed};
 pub use owned_values::{Items, OwnText};
+pub use plain_bytes::{LANES, first_lanes, plain_len};
 pub use properties::{Properties, PropertiesForm};

@@ -7,25 +7,7 @@ ghost use Rattle.json_value.specs.Text.{escaped_byte, quoted};
 ghost use Rattle.json_value.specs.Text as spec;
 
 use crate::out::Out;
-
-/// A byte that stands for itself between quotation marks.
-fn is_plain(byte: u8) -> bool
-    ensures { result ≡ grammar.is_plain byte }
-{
-    byte >= 0x20 && (byte != b'"' && byte != b'\\')
-}
-
-/// How many bytes in front stand for themselves.
-fn plain_len(bytes: &[u8]) -> usize
-    ensures { result ≡ prefix_len grammar.is_plain bytes.now }
-{
-    for (i, byte) in bytes.iter().enumerate() {
-        if !is_plain(*byte) {
-            return i;
-        }
-    }
-    bytes.len()
-}
+use json_value::plain_len;
 
 /// The lower-case hexadecimal digit.
 fn hex_digit(number: u8) -> u8

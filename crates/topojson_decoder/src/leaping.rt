@@ -5,7 +5,7 @@ ghost use Rattle.std.specs.Simd.Lanes.{mask_l};
 ghost use Rattle.topojson_decoder.specs.Leaping as spec;
 ghost use Rattle.topojson_decoder.specs.Leaping.{Ends, at_depth, end_of, level};
 
-use json_reading::{LANES, first_lanes};
+use json_value::{LANES, first_lanes};
 use std::simd::prelude::*;
 
 /// Whether the byte opens an array or an object.

@@ -1,5 +1,5 @@
 use Rattle.std.proofs.Common.{sym, arith}
-use Rattle.json_reading.proofs.LaneParts.{split}
+use Rattle.json_value.proofs.PlainLanes.{split}
 use Rattle.json_reading.proofs.PlainStrings.{one_passed, shorter, string_ends}
 use Rattle.json_reading.proofs.checked_strings.plain_at.Goals as goal
 

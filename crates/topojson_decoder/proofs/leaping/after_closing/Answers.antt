@@ -1,5 +1,5 @@
 use Rattle.std.proofs.Common.{◌∙◌, arith, sym}
-use Rattle.json_reading.proofs.LaneParts as lane
+use Rattle.json_value.proofs.PlainLanes as lane
 use Rattle.json_reading.proofs.Steps.{not_equal}
 use Rattle.topojson_decoder.proofs.LeapParts as part
 use Rattle.topojson_decoder.proofs.leaping.after_closing.Goals as goal

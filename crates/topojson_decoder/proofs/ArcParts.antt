@@ -1,7 +1,7 @@
 -- Arcs as what is made of their cells one after another.
 use Rattle.std.specs.Prelude.{nat_le}
 use Rattle.std.proofs.lemmas.Bool.Decides.{nat_tests}
-use Rattle.std.proofs.Common.{◌≡◌, ◌<◌, ◌≤◌, true, false, length, arith, List, [], ◌∷◌, ◌++◌, Option, Some, None, Result, Ok, Err, refl, ap, ◌∙◌}
+use Rattle.std.proofs.Common.{◌≡◌, ◌<◌, ◌≤◌, true, false, length, arith, List, [], ◌∷◌, ◌++◌, Option, Some, None, Result, Ok, Err, refl, sym, ap, ◌∙◌}
 use Rattle.json_value.specs.declared.json.Json.{Json}
 use Rattle.json_value.specs.Kinds.{array_of}
 use Rattle.geojson_types.specs.declared.counts.Counts.{Counts}
@@ -15,8 +15,8 @@ use Rattle.topojson_meaning.specs.Members.{elements}
 use Rattle.topojson_meaning.specs.Reader.{Reader, ◌>>=◌, and_then, give, pure, or_fail, each, gather}
 use Rattle.json_cursor.specs.Arrays.{array_by, list_by}
 use Rattle.json_cursor.specs.Folds.{fold}
-use Rattle.topojson_decoder.specs.Cells.{Before, CellsSoFar, next_cell, after_cell, with_cell}
-use Rattle.topojson_decoder.proofs.Running.{run_to_end}
+use Rattle.topojson_decoder.specs.Cells.{ArcsSoFar, Before, CellsSoFar, next_cell, after_cell, same_transform, with_arc, with_cell}
+use Rattle.topojson_decoder.proofs.Running.{run_through, run_to_end}
 
 -- ---- cells
 
@@ -67,11 +67,32 @@ module _ (transform : Option Transform) where
   unfolding arc elements array_by
   arc_is v c = arc_by (array_of v) c
 
-  arcs_by : (o : Option (List Json)) (c : Counts) → (pure (or_fail WrongKind o) >>= each (arc transform)) c ≡ list_by WrongKind (each (arc transform)) o c
-  arcs_by None c = refl
-  arcs_by (Some vs) c = refl
+-- ---- arcs one after another
 
-  pub arcs_are : (v : Json) (c : Counts) → arc_list transform v c ≡ array_by WrongKind (each (arc transform)) v c
+no_arcs : (transform : Option Transform) (c : Counts) → each (arc transform) [] c ≡ Ok ([], c)
+unfolding gather
+no_arcs transform c = refl
+
+one_arc : (transform : Option Transform) (v : Json) (vs : List Json) (c : Counts) → each (arc transform) (v ∷ vs) c ≡ (arc transform v >>= λ x. each (arc transform) vs >>= λ xs. give (x ∷ xs)) c
+unfolding gather
+one_arc transform v vs c = first_of_each (each (arc transform) vs) (arc transform v c)
+
+-- the arcs that were read
+abbrev pub arcs_of : ArcsSoFar → Reader (List (List Point))
+arcs_of s = give s.1
+
+abbrev pub no_arc : Option Transform → ArcsSoFar
+no_arc transform = (transform, [])
+
+module _ (transform : Option Transform) where
+  all_arcs : (vs : List Json) (c : Counts) → each (arc transform) vs c ≡ and_then arcs_of (fold with_arc (no_arc transform) vs c)
+  all_arcs vs c = sym (run_through arc same_transform (λ t us. each (arc t) us) no_arcs one_arc transform vs c)
+
+  arcs_by : (o : Option (List Json)) (c : Counts) → (pure (or_fail WrongKind o) >>= each (arc transform)) c ≡ and_then arcs_of (list_by WrongKind (fold with_arc (no_arc transform)) o c)
+  arcs_by None c = refl
+  arcs_by (Some vs) c = all_arcs vs c
+
+  pub arcs_are : (v : Json) (c : Counts) → arc_list transform v c ≡ and_then arcs_of (array_by WrongKind (fold with_arc (no_arc transform)) v c)
   unfolding arc_list elements array_by
   arcs_are v c = arcs_by (array_of v) c
 

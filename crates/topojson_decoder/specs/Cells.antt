@@ -7,7 +7,7 @@ use Rattle.geojson_types.specs.Counting.{count_rounded, count_extra}
 use Rattle.topojson_types.specs.Transforms.{moved}
 use Rattle.unit_scanning.specs.declared.units.Units.{Units}
 use Rattle.topojson_meaning.specs.declared.fault.TopoFault.TheVariants.{GridNumber, Range}
-use Rattle.topojson_meaning.specs.Arcs.{position, cell, grid_cell, difference_limit}
+use Rattle.topojson_meaning.specs.Arcs.{position, cell, grid_cell, difference_limit, arc}
 use Rattle.topojson_meaning.specs.Reader.{Reader, ◌>>=◌, fail, pure, or_fail}
 use Rattle.topojson_decoder.specs.declared.pairs.Pair.{Pair}
 use Rattle.topojson_decoder.specs.Running.{running}
@@ -63,3 +63,14 @@ CellsSoFar = Before × List Point
 -- one more cell
 abbrev pub with_cell : CellsSoFar → Json → Reader CellsSoFar
 with_cell = running next_cell after_cell
+
+-- the arcs so far, and the transform by which the next one is read
+abbrev pub ArcsSoFar : Type 0
+ArcsSoFar = Option Transform × List (List Point)
+
+abbrev pub same_transform : Option Transform → List Point → Option Transform
+same_transform transform cells = transform
+
+-- one more arc
+abbrev pub with_arc : ArcsSoFar → Json → Reader ArcsSoFar
+with_arc = running arc same_transform

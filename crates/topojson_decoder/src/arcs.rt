@@ -1,17 +1,18 @@
 // Arcs (TopoJSON 1.0, section 2.1.3).
+ghost use Rattle.std.specs.Prelude.{◌≡◌, IfOk};
 ghost use Rattle.std.specs.Option.{option_copied};
 ghost use Rattle.json_cursor.specs.Answers.{Answers};
 ghost use Rattle.json_cursor.specs.Arrays.{prefix_value};
 ghost use Rattle.topojson_meaning.specs.Arcs as spec;
-ghost use Rattle.json_cursor.specs.Folds.{one};
-ghost use Rattle.topojson_decoder.specs.Cells.{CellsSoFar, with_cell};
+ghost use Rattle.topojson_decoder.specs.Cells.{ArcsSoFar, CellsSoFar, with_arc, with_cell};
 
 use crate::cells::cell_at;
 use geojson_types::Counts;
-use json_cursor::{Element, Elements, Stop, array_at, arrays_ahead, folded_array_at};
+use json_cursor::{Elements, Stop, folded_array_at};
 use json_value::Items;
-use std::alloc::Global;
+use std::alloc::{AllocError, Global};
 use std::marker::Model;
+use std::mem;
 use topojson_meaning::TopoFault;
 use topojson_types::{Cell, Transform};
 
@@ -63,17 +64,38 @@ impl<'t> Elements for Cells<'t> {
     }
 }
 
-/// The arc at the front, and what follows it; or why reading stops.
-pub fn arc_at<'a>(
+/// An arc of more cells is the list that they were read into.
+const SHORT_ARC: usize = 1024;
+
+/// The cells as an arc, and a list that the next arc may be read into.
+fn parted(alloc: Global, cells: Vec<Cell>) -> Result<(Items<Cell>, Vec<Cell>), AllocError>
+    ensures { IfOk result (λ x. x.0 ≡ cells.items) }
+{
+    if cells.len() > SHORT_ARC {
+        let mut long = cells;
+        long.shrink_to_fit();
+        return Ok((Items::of(long), Vec::new(alloc)));
+    }
+    let mut short = Vec::with_capacity(alloc, cells.len())?;
+    short.extend_from_slice(&cells)?;
+    Ok((Items::of(short), cells))
+}
+
+/// The arc at the front, beside a list that the next one may be read into, and what follows it; or why reading stops. Its cells are read into
+/// a list that was used before, so that it takes memory once.
+#[inline(always)]
+fn arc_through<'a>(
     alloc: Global,
     depth_left: u32,
     transform: Option<&Transform>,
+    used: Vec<Cell>,
     bytes: &'a [u8],
     counts: &mut Counts,
-) -> Result<(Items<Cell>, &'a [u8]), Stop<TopoFault>>
-    ensures { Answers (λ x. x) (spec.arc (option_copied transform.entry)) (prefix_value depth_left bytes.now) counts.old counts.new result }
+) -> Result<((Items<Cell>, Vec<Cell>), &'a [u8]), Stop<TopoFault>>
+    ensures { Answers (λ x. x.0) (spec.arc (option_copied transform.entry)) (prefix_value depth_left bytes.now) counts.old counts.new result }
 {
-    let list = Vec::with_capacity(alloc, arrays_ahead(bytes))?;
+    let mut list = used;
+    list.clear();
     let start = Cells {
         transform,
         before: Cell::at(0, 0),
@@ -90,40 +112,76 @@ pub fn arc_at<'a>(
     ) {
         Err(stop) => Err(stop),
         Ok((read, rest)) => {
-            let mut cells = read.list;
+            let cells = read.list;
             if cells.len() < 2 {
                 return Err(Stop::Fault(TopoFault::ShortArc));
             }
-            cells.shrink_to_fit();
-            Ok((Items::of(cells), rest))
+            let both = parted(alloc, cells)?;
+            Ok((both, rest))
         }
     }
 }
 
-/// How arcs are read as the elements of an array.
-#[derive(Clone, Copy)]
-struct Arcs<'t> {
-    transform: Option<&'t Transform>,
+/// The arc at the front, and what follows it; or why reading stops.
+pub fn arc_at<'a>(
+    alloc: Global,
+    depth_left: u32,
+    transform: Option<&Transform>,
+    bytes: &'a [u8],
+    counts: &mut Counts,
+) -> Result<(Items<Cell>, &'a [u8]), Stop<TopoFault>>
+    ensures { Answers (λ x. x) (spec.arc (option_copied transform.entry)) (prefix_value depth_left bytes.now) counts.old counts.new result }
+{
+    let none = Vec::new(alloc);
+    match arc_through(alloc, depth_left, transform, none, bytes, counts) {
+        Err(stop) => Err(stop),
+        Ok((both, rest)) => {
+            let (arc, used) = both;
+            drop(used);
+            Ok((arc, rest))
+        }
+    }
 }
 
-impl<'t> Element for Arcs<'t> {
-    type Read = Items<Cell>;
+/// The arcs that were read so far, and a list that the cells of the next one are read into.
+#[derive(Drop)]
+struct Arcs<'t> {
+    transform: Option<&'t Transform>,
+    list: Vec<Items<Cell>>,
+    used: Vec<Cell>,
+}
 
+impl<'t> Model for Arcs<'t> {
+    ghost Value = { ArcsSoFar };
+
+    ghost view = { λ s. (option_copied s.transform, s.list.items) };
+}
+
+impl<'t> Elements for Arcs<'t> {
     type Fault = TopoFault;
 
-    ghost reads = { λ s. one (spec.arc (option_copied s.transform)) };
+    type With = ();
+
+    ghost takes = { λ _. with_arc };
 
     #[inline(always)]
-    fn read<'a>(
-        self,
+    fn element<'a>(
+        &mut self,
         alloc: Global,
         depth_left: u32,
         bytes: &'a [u8],
+        _with: (),
         counts: &mut Counts,
-    ) -> Result<(Option<Items<Cell>>, &'a [u8]), Stop<TopoFault>> {
-        match arc_at(alloc, depth_left, self.transform, bytes, counts) {
+    ) -> Result<&'a [u8], Stop<TopoFault>> {
+        let used = mem::replace(&mut self.used, Vec::new(alloc));
+        match arc_through(alloc, depth_left, self.transform, used, bytes, counts) {
             Err(stop) => Err(stop),
-            Ok((arc, rest)) => Ok((Some(arc), rest)),
+            Ok((both, rest)) => {
+                let (arc, used) = both;
+                self.used = used;
+                self.list.push(arc)?;
+                Ok(rest)
+            }
         }
     }
 }
@@ -138,12 +196,29 @@ pub fn arcs_at<'a>(
 ) -> Result<(Items<Items<Cell>>, &'a [u8]), Stop<TopoFault>>
     ensures { Answers (λ x. x) (spec.arc_list (option_copied transform.entry)) (prefix_value depth_left bytes.now) counts.old counts.new result }
 {
-    array_at::<Arcs>(
+    let list = Vec::new(alloc);
+    let used = Vec::new(alloc);
+    let start = Arcs {
+        transform,
+        list,
+        used,
+    };
+    match folded_array_at::<Arcs>(
         alloc,
         depth_left,
+        start,
         bytes,
         TopoFault::WrongKind,
-        Arcs { transform },
+        (),
         counts,
-    )
+    ) {
+        Err(stop) => Err(stop),
+        Ok((read, rest)) => {
+            let used = read.used;
+            drop(used);
+            let mut arcs = read.list;
+            arcs.shrink_to_fit();
+            Ok((Items::of(arcs), rest))
+        }
+    }
 }

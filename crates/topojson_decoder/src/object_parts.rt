@@ -21,10 +21,11 @@ use crate::keeping::Keeping;
 use crate::occurrence::Occurrence;
 use crate::types::is_collection;
 use geojson_types::Counts;
-use json_cursor::{Members, Stop, name_at, object_at as parts_at};
+use json_cursor::{Members, Stop, name_at, object_into as parts_into};
 use json_reading::{Fault, after_value};
 use json_value::Items;
 use std::alloc::Global;
+use std::mem;
 use topojson_meaning::{GeometryType, TopoFault};
 use topojson_types::{Cell, TopoFeature, TopoObject, Transform};
 
@@ -232,34 +233,23 @@ fn collection_of(
     }
 }
 
-/// The features among the members of an object, of which the others are dropped.
-fn features_in<'a>(occurrence: ObjectParts<'a>) -> Occurrence<Features<'a>>
-    ensures { result ≡ occurrence.entry.features }
-{
-    let ObjectParts { feature, features } = occurrence;
-    drop(feature);
-    features
-}
-
-/// The object whose members were seen so.
+/// The object whose members were seen so. What was kept of them is moved out of there.
 fn object_of(
     alloc: Global,
     depth_left: u32,
-    mut occurrence: ObjectParts<'_>,
+    occurrence: &mut ObjectParts<'_>,
     start: Start<'_>,
     counts: &mut Counts,
 ) -> Result<TopoObject, Stop<TopoFault>>
-    ensures { (ms : Listed) → IsObject start.entry depth_left ms occurrence.entry → Judges (kept_typed_object start.entry ms) start.entry.counts counts.new result }
+    ensures { (ms : Listed) → IsObject start.entry depth_left ms occurrence.old → Judges (kept_typed_object start.entry ms) start.entry.counts counts.new result }
 {
     let kind = match kind_of(&occurrence.feature.parts.kind) {
-        Err(fault) => {
-            drop(occurrence);
-            return Err(Stop::Fault(fault));
-        }
+        Err(fault) => return Err(Stop::Fault(fault)),
         Ok(kind) => kind,
     };
     if is_collection(kind) {
-        return collection_of(alloc, depth_left, features_in(occurrence), start, counts);
+        let features = mem::replace(&mut occurrence.features, Occurrence::Never);
+        return collection_of(alloc, depth_left, features, start, counts);
     }
     let read = feature_of(
         alloc,
@@ -269,10 +259,31 @@ fn object_of(
         start,
         counts,
     );
-    drop(occurrence);
     match read {
         Err(stop) => Err(stop),
         Ok(feature) => Ok(TopoObject::One(feature)),
+    }
+}
+
+/// What is kept of the object at the front, and what follows it; or why reading stops. What is seen of its members goes into `occurrence`,
+/// which holds none yet, and what is kept of them is moved out of there.
+fn object_into<'a>(
+    alloc: Global,
+    depth_left: u32,
+    occurrence: &mut ObjectParts<'a>,
+    bytes: &'a [u8],
+    start: Start<'a>,
+    counts: &mut Counts,
+) -> Result<(TopoObject, &'a [u8]), Stop<TopoFault>>
+    ensures { ((d : ℕ) → IsObject start.entry d [] occurrence.old) → counts.old ≡ start.entry.counts → Answers (λ x. x) (kept_object start.entry.keeping (option_copied start.entry.transform) start.entry.arcs.now) (prefix_value depth_left bytes.now) start.entry.counts counts.new result }
+{
+    let Some(rest) = parts_into::<ObjectParts<'a>>(alloc, depth_left, occurrence, bytes, start)?
+    else {
+        return Err(Stop::Fault(TopoFault::WrongKind));
+    };
+    match object_of(alloc, depth_left - 1, occurrence, start, counts) {
+        Err(stop) => Err(stop),
+        Ok(object) => Ok((object, rest)),
     }
 }
 
@@ -294,15 +305,8 @@ pub(crate) fn kept_object_at<'a>(
         counts: *counts,
         keeping,
     };
-    let none = ObjectParts::none();
-    let (found, rest) = parts_at::<ObjectParts<'a>>(alloc, depth_left, none, bytes, start)?;
-    let Some(occurrence) = found else {
-        return Err(Stop::Fault(TopoFault::WrongKind));
-    };
-    match object_of(alloc, depth_left - 1, occurrence, start, counts) {
-        Err(stop) => Err(stop),
-        Ok(object) => Ok((object, rest)),
-    }
+    let mut occurrence = ObjectParts::none();
+    object_into(alloc, depth_left, &mut occurrence, bytes, start, counts)
 }
 
 /// The object of a topology at the front, and what follows it; or why reading stops. Its members may stand in any order.

@@ -1,28 +1,5 @@
-use Rattle.std.proofs.Common.{◌-◌}
-use Rattle.std.specs.Option.{option_copied}
-use Rattle.json_value.specs.declared.json.Json.TheVariants as j
-use Rattle.json_cursor.specs.Arrays.{prefix_value}
-use Rattle.topojson_decoder.specs.Kept.{kept_object, making, of_object}
-use Rattle.topojson_decoder.specs.ObjectParts.{typed_object}
-use Rattle.topojson_decoder.proofs.ObjectSeen as by
-use Rattle.topojson_decoder.proofs.MemberOccurrences.{object_reads, object_stops}
+use Rattle.std.proofs.Common.{refl}
 use Rattle.topojson_decoder.proofs.object_parts.kept_object_at.Goals as goal
 
-pub returns-in_default : goal.returns-in_default
-returns-in_default c = λ v rest found. by.no_object c.args.keeping (option_copied c.args.transform) c.args.arcs.now v c.args.counts.now ((rw c.in_default.is at c.in_ok-found.ensures) v rest found)
-
-pub returns-in-Err : goal.returns-in-Err
-returns-in-Err c =
-    let object = rw c.in-Some.is at c.in_ok-found.ensures in
-    let transform = option_copied c.args.transform in
-    object_stops (kept_object c.args.keeping transform c.args.arcs.now) (making (of_object c.args.keeping) (typed_object transform c.args.arcs.now object.members)) (prefix_value c.args.depth_left c.args.bytes.now) (j.Object object.members) _ c.args.counts.now object.prefix
-    (by.object_is c.args.keeping transform c.args.arcs.now object.members c.args.counts.now) c.object_of.new.counts c.in-Err.stop
-    (c.in-Err.ensures object.members (object.holds (c.none-none.ensures _ (c.args.depth_left - 1))))
-
-pub returns-in-Ok : goal.returns-in-Ok
-returns-in-Ok c =
-    let object = rw c.in-Some.is at c.in_ok-found.ensures in
-    let transform = option_copied c.args.transform in
-    object_reads (kept_object c.args.keeping transform c.args.arcs.now) (making (of_object c.args.keeping) (typed_object transform c.args.arcs.now object.members)) (prefix_value c.args.depth_left c.args.bytes.now) (j.Object object.members) _ c.args.counts.now object.prefix
-    (by.object_is c.args.keeping transform c.args.arcs.now object.members c.args.counts.now) _ c.object_of.new.counts
-    (c.in-Ok.ensures object.members (object.holds (c.none-none.ensures _ (c.args.depth_left - 1))))
+pub returns : goal.returns
+returns c = c.object_into.ensures (λ d. c.none-occurrence.ensures _ d) refl

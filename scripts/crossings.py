@@ -7,15 +7,16 @@
 N topologies are made, of few arcs between few places, so that lines cross, touch, lie on one another and go back, and so that corners wait for
 others. Each is simplified by the program, and here by the definition itself: of all corners under the threshold that may go the least goes, again
 and again, and each is looked at anew each time. For a share they go so without a threshold, and the one that is chosen is found among their weights. And
-the pairs of its segments that meet badly are counted by both. Its lines are also built as a layer, without a grid or on one: what that writes, and
-chooses, is to be what `simplify --no-crossings` makes of the layer that is built in full, by the area and by the share. It ends with status 1 where
-the arcs, the counts, the thresholds or the texts differ, or where more pairs meet badly than before. The last line says how many were tried, and how
-often the option made a difference.
+the pairs of its segments that meet badly are counted by both, and the first twenty named. Its lines are also built as a layer, without a grid or on
+one: what that writes, and chooses, is to be what `simplify --no-crossings` makes of the layer that is built in full, by the area and by the share. It
+ends with status 1 where the arcs, the counts, the pairs, the thresholds or the texts differ, or where more pairs meet badly than before. The last line
+says how many were tried, and how often the option made a difference.
 """
 import argparse
 import json
 import os
 import random
+import re
 import subprocess
 import sys
 import tempfile
@@ -55,10 +56,15 @@ def meets_badly(one, other):
     return touches(a, b, c) or touches(a, b, d) or touches(c, d, a) or touches(c, d, b)
 
 
-def crossings(arcs):
-    """How many pairs of segments of arcs meet badly."""
+def bad_pairs(arcs):
+    """The pairs of segments of arcs that meet badly, in order."""
     segments = [pair for arc in arcs for pair in zip(arc, arc[1:]) if pair[0] != pair[1]]
-    return sum(meets_badly(one, other) for i, one in enumerate(segments) for other in segments[:i])
+    return [(one, other) for i, one in enumerate(segments) for other in segments[i + 1 :] if meets_badly(one, other)]
+
+
+def crossings(arcs):
+    """How many they are."""
+    return len(bad_pairs(arcs))
 
 
 def may_go(arcs, k, i):
@@ -169,11 +175,21 @@ def as_built(program, room, arcs, level, options):
 
 
 def counted(program, room):
-    """How many pairs of segments of the topology that was simplified last meet badly, by the program."""
-    ran = subprocess.run([program, "stat", "--crossings", os.path.join(room, "map.topojson")], capture_output=True, check=True, text=True)
+    """How many pairs of segments of the topology that was simplified last meet badly, by the program, and those that it names."""
+    report = os.path.join(room, "report.json")
+    words = [program, "stat", "--crossings", "--report", report, os.path.join(room, "map.topojson")]
+    ran = subprocess.run(words, capture_output=True, check=True, text=True)
     name, count = ran.stdout.splitlines()[-1].split()
     assert name == "crossings"
-    return int(count)
+    with open(report, encoding="utf-8") as file:
+        lines = [line for line in json.load(file)["explanation"] if line.startswith("the segment ")]
+    return int(count), [segments_of(line) for line in lines]
+
+
+def segments_of(line):
+    """The two segments that a line names."""
+    ends = [(int(x), int(y)) for x, y in re.findall(r"\[(-?\d+), (-?\d+)\]", line)]
+    return (ends[0], ends[1]), (ends[2], ends[3])
 
 
 def is_small(arc):
@@ -214,9 +230,10 @@ def main():
                 if not as_built(program, room, arcs, level, options):
                     wrong += 1
                     print(f"layer {number} by {level}, {options}, isn't built as it is simplified: {layer_of(arcs)}")
-            if counted(program, room) != crossings(arcs):
+            pairs = bad_pairs(arcs)
+            if counted(program, room) != (len(pairs), pairs[:20]):
                 wrong += 1
-                print(f"topology {number} has {crossings(arcs)} crossings, and {counted(program, room)} are counted: {text_of(arcs)}")
+                print(f"topology {number} has {pairs} crossings, and {counted(program, room)} are counted: {text_of(arcs)}")
     print(f"crossings: {given.many} topologies tried, {wrong} wrong; by an area and by a share the option made a difference {differing} times, and {held} times there were more crossings without it")
     return 1 if wrong else 0
 

@@ -24,8 +24,10 @@ fn crossings_are_counted_up_to_a_limit(rt: HostRuntime) -> Result<(), Fail> {
     let (all, some) = crossings_with(alloc, &lines, 100, 5)?;
     assert!(rt; all == 12 && some.len() == 5);
     let (few, each) = crossings_with(alloc, &lines, 7, 100)?;
-    assert!(rt; few == 7 && each.len() == 7);
-    let (none, nothing) = crossings_with(alloc, &lines, 0, 1)?;
-    assert!(rt; none == 0 && nothing.is_empty());
+    assert!(rt; few == 7 && each.len() == 12);
+    let (none, first) = crossings_with(alloc, &lines, 0, 1)?;
+    assert!(rt; none == 0 && first.len() == 1);
+    let (every, nothing) = crossings_with(alloc, &lines, 100, 0)?;
+    assert!(rt; every == 12 && nothing.is_empty());
     Ok(())
 }

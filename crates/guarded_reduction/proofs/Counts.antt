@@ -21,7 +21,7 @@ both_or_none false false f g = refl
 back : (s t : Segment) → meets_badly s t ≡ meets_badly t s
 back s t = both_or_none (meets_badly s t) (meets_badly t s) (bad_back t s) (bad_back s t)
 
-itself : (s : Segment) → meets_badly s s ≡ true
+pub itself : (s : Segment) → meets_badly s s ≡ true
 unfolding meets_badly
 itself s = or_left (same_ends s s) _ (ends_self s)
 
@@ -63,7 +63,7 @@ same_sums : (f g : Segment → ℕ) → ((s : Segment) → f s ≡ g s) → (ss 
 same_sums f g h [] = refl
 same_sums f g h (s ∷ ss) = let e = same_sums f g h ss in let k = h s in omega (arith, e, k, sum_by-cons f s ss, sum_by-cons g s ss)
 
-among_permuted : (s : Segment) (ts us : List Segment) → IsPermutation ts us → bad_among s us ≡ bad_among s ts
+pub among_permuted : (s : Segment) (ts us : List Segment) → IsPermutation ts us → bad_among s us ≡ bad_among s ts
 among_permuted s ts us h = as_sum s us ∙ sum_by-IsPermutation (λ t. one (meets_badly s t)) ts us h ∙ sym (as_sum s ts)
 
 pub pairs_permuted : (ss ts : List Segment) → IsPermutation ss ts → bad_pairs ts ≡ bad_pairs ss

@@ -1,45 +1,90 @@
 -- Pairs of segments that meet badly, put one after another.
-use Rattle.std.proofs.Common.{◌≡◌, ℕ, ◌+◌, ◌<◌, ◌≤◌, ◌⊎◌, inl, inr, true, List, [], ◌∷◌, ◌++◌, length, map, min, sym, subst, arith}
-use Rattle.std.specs.List.{All, Contains}
+use Rattle.std.proofs.Common.{◌≡◌, ℕ, zero, suc, ◌+◌, ◌<◌, ◌≤◌, ◌⊎◌, inl, inr, true, false, List, [], ◌∷◌, ◌++◌, length, map, min, take, drop, refl, ap, sym, ◌∙◌, append_assoc, if◌then◌else◌, arith}
+use Rattle.std.specs.List.{filter}
 use Rattle.std.specs.List.Sorted.{IsPermutation}
 use Rattle.std.proofs.lemmas.Bool.{cases_lt}
-use Rattle.std.proofs.lemmas.List.{get_or-map, length-append, length-map}
-use Rattle.std.proofs.lemmas.List.Elements.{All-append, All-cons, All-nil}
-use Rattle.std.proofs.lemmas.List.Sorted.{Contains-permutation, IsPermutation-sym}
-use Rattle.guarded_meaning.specs.Segments.{Segment, meets_badly}
-use Rattle.guarded_reduction.specs.Crossings.{AreCrossingsOf, IsCrossingOf, crossing_of, first_segment, second_segment}
+use Rattle.std.proofs.lemmas.List.{length-append, length-map, nil_from_length, take_min}
+use Rattle.guarded_meaning.specs.Segments.{Segment, meets_badly, bad_pairs}
+use Rattle.guarded_reduction.specs.Crossings.{crossing_of, crossing_pairs, pairs_with}
 use Rattle.guarded_reduction.specs.declared.crossing.Crossing.{Crossing}
 use Rattle.guarded_reduction.specs.declared.line.Line.{Line}
-use Rattle.guarded_reduction.specs.Lines.{as_segment, line_at, no_line}
+use Rattle.guarded_reduction.specs.Lines.{as_segment, bad_from, line_at, pairs_from}
+use Rattle.guarded_reduction.proofs.Counts.{among_permuted, itself, one}
+use Rattle.guarded_reduction.proofs.Lines.{ahead, none_ahead, one_ahead}
 
-pub none_found : (ss : List Segment) (most : ℕ) → AreCrossingsOf ss 0 most []
-none_found ss most = record { length_is = omega arith; each = All-nil (IsCrossingOf ss) }
+-- ---- so many are enough
 
-there : (ls : List Line) (r : ℕ) → r < length ls → Contains (map as_segment ls) (as_segment (line_at ls r))
-unfolding line_at
-there ls r h = (r, omega (arith, h, length-map ls as_segment), get_or-map as_segment ls r no_line (as_segment (line_at ls r)) h)
+pairs_length : (ss : List Segment) → length (crossing_pairs ss) ≡ bad_pairs ss
+pairs_length [] = refl
+pairs_length (s ∷ ss) =
+    let e = length-append (pairs_with s ss) (crossing_pairs ss) in
+    let f = length-map (filter (meets_badly s) ss) (crossing_of s) in
+    let g = pairs_length ss in
+    omega (arith, e, f, g)
 
-pub bad_pair_is : (ls : List Line) (l k : Line) (r q : ℕ) → r < length ls → q < length ls → l ≡ line_at ls r → k ≡ line_at ls q → meets_badly (as_segment l) (as_segment k) ≡ true
-    → IsCrossingOf (map as_segment ls) (crossing_of l k)
-bad_pair_is ls l k r q h i e f bad = record {
-  first = subst (λ x. Contains (map as_segment ls) (as_segment x)) (sym e) (there ls r h);
-  second = subst (λ x. Contains (map as_segment ls) (as_segment x)) (sym f) (there ls q i);
-  bad = bad;
-}
+pub enough_pairs : (ss : List Segment) (n most : ℕ) → min n (bad_pairs ss) ≡ min most (bad_pairs ss) → take n (crossing_pairs ss) ≡ take most (crossing_pairs ss)
+enough_pairs ss n most h =
+    let all = crossing_pairs ss in
+    sym (take_min n all) ∙ ap (λ k. take k all) (ap (min n) (pairs_length ss) ∙ h ∙ sym (ap (min most) (pairs_length ss))) ∙ take_min most all
 
-pub found_more : (ss : List Segment) (n most : ℕ) (cs ks : List Crossing) (c : Crossing) → AreCrossingsOf ss n most cs → IsCrossingOf ss c
-    → (length cs < most → ks ≡ cs ++ c ∷ []) → (most ≤ length cs → ks ≡ cs) → AreCrossingsOf ss (n + 1) most ks
-found_more ss n most cs ks c was is fewer enough = on (cases_lt (length cs) most)
+-- ---- the first of two lists, and no more than so many
+
+taken_twice : {X : Type 0} → (n : ℕ) (xs ys : List X) → take n (take n xs ++ ys) ≡ take n (xs ++ ys)
+taken_twice zero xs ys = refl
+taken_twice (suc n) [] ys = refl
+taken_twice (suc n) (x ∷ xs) ys = ap (λ zs. x ∷ zs) (taken_twice n xs ys)
+
+-- ---- the pairs of a segment
+
+module _ (ls : List Line) (l : Line) (r : ℕ) (within : r < length ls) where
+  here : pairs_from ls l r ≡ pairs_with (as_segment l) (as_segment (line_at ls r) ∷ map as_segment (drop (r + 1) ls))
+  here = ap (λ ks. pairs_with (as_segment l) (map as_segment ks)) (ahead ls r within)
+
+  abbrev rest : List Segment
+  rest = filter (meets_badly (as_segment l)) (map as_segment (drop (r + 1) ls))
+
+  pub one_pair : meets_badly (as_segment l) (as_segment (line_at ls r)) ≡ true → pairs_from ls l r ≡ crossing_of (as_segment l) (as_segment (line_at ls r)) ∷ pairs_from ls l (r + 1)
+  one_pair h = here ∙ ap (λ b. map (crossing_of (as_segment l)) (if b then as_segment (line_at ls r) ∷ rest else rest)) h
+
+  pub no_pair : meets_badly (as_segment l) (as_segment (line_at ls r)) ≡ false → pairs_from ls l r ≡ pairs_from ls l (r + 1)
+  no_pair h = here ∙ ap (λ b. map (crossing_of (as_segment l)) (if b then as_segment (line_at ls r) ∷ rest else rest)) h
+
+-- one more is put, or the segment makes no pair
+pub one_put : {X : Type 0} → (n : ℕ) (xs ys all : List X) (y : X) (zs : List X) → zs ≡ y ∷ ys → take n (xs ++ zs) ≡ all → take n ((xs ++ y ∷ []) ++ ys) ≡ all
+one_put n xs ys all y zs e was = ap (take n) (append_assoc xs (y ∷ []) ys ∙ ap (λ ws. xs ++ ws) (sym e)) ∙ was
+
+-- ---- all pairs
+
+-- as many as so many ranks later, or more
+fewer_later : (ls : List Line) (l : Line) (r : ℕ) → bad_from ls l r ≤ bad_from ls l 0
+fewer_later ls l zero = omega arith
+fewer_later ls l (suc r) = on (fewer_later ls l r) (cases_lt r (length ls))
   where
-    on : (length cs < most) ⊎ (most ≤ length cs) → AreCrossingsOf ss (n + 1) most ks
-    on (inl w) = subst (AreCrossingsOf ss (n + 1) most) (sym (fewer w)) record {
-      length_is = omega (arith, w, was.length_is, length-append cs (c ∷ []));
-      each = All-append (IsCrossingOf ss) cs (c ∷ []) was.each (All-cons (IsCrossingOf ss) c [] is (All-nil (IsCrossingOf ss)));
-    }
-    on (inr w) = subst (AreCrossingsOf ss (n + 1) most) (sym (enough w)) record { length_is = omega (arith, w, was.length_is); each = was.each }
+    on : bad_from ls l r ≤ bad_from ls l 0 → (r < length ls) ⊎ (length ls ≤ r) → bad_from ls l (suc r) ≤ bad_from ls l 0
+    on f (inl h) = let e = one_ahead ls l r h in let m : r + 1 ≡ suc r = omega arith in let g = ap (bad_from ls l) m in omega (arith, e, f, g)
+    on f (inr h) = let e = none_ahead ls l (suc r) (omega (arith, h)) in omega (arith, e)
 
-pub found_in_order : (ss ts : List Segment) (n most : ℕ) (cs : List Crossing) → IsPermutation ts ss → AreCrossingsOf ss n most cs → AreCrossingsOf ts n most cs
-found_in_order ss ts n most cs h was = record {
-  length_is = was.length_is;
-  each = λ i d w. let c = was.each i d w in record { first = Contains-permutation ss ts _ (IsPermutation-sym ts ss h) c.first; second = Contains-permutation ss ts _ (IsPermutation-sym ts ss h) c.second; bad = c.bad };
-}
+module _ (ls near : List Line) (r : ℕ) (within : r < length ls) (h : IsPermutation (map as_segment ls) (map as_segment near)) where
+  abbrev own : Line
+  own = line_at ls r
+
+  -- it meets itself badly
+  alone : bad_from near own 0 ≤ 1 → pairs_from ls own (r + 1) ≡ []
+  alone few =
+      let e : bad_from near own 0 ≡ bad_from ls own 0 = among_permuted (as_segment own) (map as_segment ls) (map as_segment near) h in
+      let f = fewer_later ls own r in
+      let g = one_ahead ls own r within in
+      let k = ap one (itself (as_segment own)) in
+      let none : bad_from ls own (r + 1) ≡ 0 = omega (arith, few, e, f, g, k) in
+      nil_from_length (pairs_from ls own (r + 1)) (length-map (filter (meets_badly (as_segment own)) (map as_segment (drop (r + 1) ls))) (crossing_of (as_segment own)) ∙ none)
+
+  next_pairs : crossing_pairs (map as_segment (drop r ls)) ≡ pairs_from ls own (r + 1) ++ crossing_pairs (map as_segment (drop (r + 1) ls))
+  next_pairs = ap (λ ks. crossing_pairs (map as_segment ks)) (ahead ls r within)
+
+  pub left_out : (n : ℕ) (cs all : List Crossing) → bad_from near own 0 ≤ 1 → take n (cs ++ crossing_pairs (map as_segment (drop r ls))) ≡ all → take n (cs ++ crossing_pairs (map as_segment (drop (r + 1) ls))) ≡ all
+  left_out n cs all few was = ap (λ zs. take n (cs ++ zs)) (sym (next_pairs ∙ ap (λ zs. zs ++ crossing_pairs (map as_segment (drop (r + 1) ls))) (alone few))) ∙ was
+
+  pub pairs_put : (n : ℕ) (cs ks all : List Crossing) → ks ≡ take n (cs ++ pairs_from ls own (r + 1)) → take n (cs ++ crossing_pairs (map as_segment (drop r ls))) ≡ all → take n (ks ++ crossing_pairs (map as_segment (drop (r + 1) ls))) ≡ all
+  pairs_put n cs ks all put was =
+      let rest = crossing_pairs (map as_segment (drop (r + 1) ls)) in
+      ap (λ zs. take n (zs ++ rest)) put ∙ taken_twice n (cs ++ pairs_from ls own (r + 1)) rest ∙ ap (take n) (append_assoc cs (pairs_from ls own (r + 1)) rest ∙ ap (λ zs. cs ++ zs) (sym next_pairs)) ∙ was

@@ -6,12 +6,8 @@ use Rattle.std.proofs.lemmas.List.{drop_all}
 use Rattle.guarded_meaning.specs.Segments.{meets_badly, bad_pairs}
 use Rattle.guarded_reduction.specs.declared.line.Line.{Line}
 use Rattle.guarded_reduction.specs.Levels.{NoneBadWithin}
-use Rattle.guarded_reduction.specs.Lines.{as_segment, bad_after, bad_among, line_at, no_line}
+use Rattle.guarded_reduction.specs.Lines.{as_segment, bad_among, bad_from, line_at, no_line}
 use Rattle.guarded_reduction.proofs.Counts.{one, bad_more}
-
--- how many from this rank on meet it badly
-abbrev pub bad_from : List Line → Line → ℕ → ℕ
-bad_from ls l r = bad_among (as_segment l) (map as_segment (drop r ls))
 
 pub ahead : (ls : List Line) (r : ℕ) → r < length ls → drop r ls ≡ line_at ls r ∷ drop (r + 1) ls
 unfolding line_at
@@ -45,7 +41,7 @@ skipped ls l r e h n =
     skip_many ls l (e - r) r (subst (NoneBadWithin ls l r) (sym f) n) ∙ ap (bad_from ls l) f
 
 -- the pairs from this rank on
-pub pairs_ahead : (ls : List Line) (r : ℕ) → r < length ls → bad_pairs (map as_segment (drop r ls)) ≡ bad_after ls r + bad_pairs (map as_segment (drop (r + 1) ls))
+pub pairs_ahead : (ls : List Line) (r : ℕ) → r < length ls → bad_pairs (map as_segment (drop r ls)) ≡ bad_from ls (line_at ls r) (r + 1) + bad_pairs (map as_segment (drop (r + 1) ls))
 pairs_ahead ls r h = ap (λ ks. bad_pairs (map as_segment ks)) (ahead ls r h)
 
 pub no_pairs_ahead : (ls : List Line) (r : ℕ) → length ls ≤ r → bad_pairs (map as_segment (drop r ls)) ≡ 0

@@ -1,8 +1,10 @@
 -- The segments of arcs.
-use Rattle.std.specs.Prelude.{ℕ, pos, ◌+◌, List, [], ◌∷◌, length, map, drop, slice_index_or}
+use Rattle.std.specs.Prelude.{ℕ, pos, List, [], ◌∷◌, length, map, drop, slice_index_or}
 use Rattle.std.specs.List.{filter}
 use Rattle.geometry.specs.Points.{Point}
 use Rattle.guarded_meaning.specs.Segments.{Segment, segment, meets_badly}
+use Rattle.guarded_reduction.specs.Crossings.{pairs_with}
+use Rattle.guarded_reduction.specs.declared.crossing.Crossing.{Crossing}
 use Rattle.guarded_reduction.specs.declared.line.Line.{Line}
 
 abbrev pub as_segment : Line → Segment
@@ -31,6 +33,10 @@ line_segments (p ∷ ps) = segments_from p ps
 abbrev pub bad_among : Segment → List Segment → ℕ
 bad_among s ss = length (filter (meets_badly s) ss)
 
--- how many after the one of this rank meet it badly
-abbrev pub bad_after : List Line → ℕ → ℕ
-bad_after ls r = bad_among (as_segment (line_at ls r)) (map as_segment (drop (r + 1) ls))
+-- how many from this rank on meet it badly
+abbrev pub bad_from : List Line → Line → ℕ → ℕ
+bad_from ls l r = bad_among (as_segment l) (map as_segment (drop r ls))
+
+-- it with each from this rank on that meets it badly
+abbrev pub pairs_from : List Line → Line → ℕ → List Crossing
+pairs_from ls l r = pairs_with (as_segment l) (map as_segment (drop r ls))

@@ -51,7 +51,7 @@ fn put_lines(lines: &mut Vec<Line>, scale: &Scale, arc: &[Position]) -> Result<(
 }
 
 /// The segments of arcs.
-fn lines_of(alloc: Global, arcs: &[Items<Position>]) -> Result<Vec<Line>, Memory>
+pub fn lines_of(alloc: Global, arcs: &[Items<Position>]) -> Result<Vec<Line>, Memory>
     ensures { IfOk result (λ lines. map as_segment lines.items ≡ segments arcs.now) }
 {
     let scale = scale_over(&extent_over(arcs));

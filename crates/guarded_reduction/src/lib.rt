@@ -8,10 +8,10 @@
 //! of boxes for each place that goes. `holding` asks it from the side of the corner where fewer places lie. `free_law` and `blocked_law` tie it to
 //! the guard. Rings are asked by how often their arcs move on from a position to another (`src/kept_rings.rt`). Each look is a search of the index
 //! and a step of the heap; how many there are, and how many boxes each goes through, is not promised.
-//! `crossings_with` counts pairs of segments that meet badly, and gives some of them. These are sorted along the same curve. Blocks of eight neighbours have a box round them,
-//! and so do eight blocks, and so on; and where all segments of a block have one end, as those of a star, the others have a box of their own. For
-//! each segment the later ones are gone through, without the blocks of which such a box shows that none meets it badly. How many are left is not
-//! promised.
+//! `crossings_with` counts pairs of segments that meet badly, and gives the first of them. The segments are sorted along the same curve. Blocks of
+//! eight neighbours have a box round them, and so do eight blocks, and so on; and where all segments of a block have one end, as those of a star, the
+//! others have a box of their own. For each segment the later ones are gone through, without the blocks of which such a box shows that none meets it
+//! badly. How many are left is not promised. The pairs are looked for in the order of the arcs, among the segments that others meet badly.
 #![tactic(auto)]
 
 mod block;
@@ -34,6 +34,7 @@ mod linked_places;
 mod looking;
 mod meeting;
 mod ordering;
+mod pairing;
 mod pushing;
 mod query;
 mod reducing;
@@ -50,12 +51,12 @@ mod waiting_lists;
 mod weighing;
 
 pub use blocking::{Blocked, Joined, Links};
-pub use counting::crossings_with;
 pub use crossing::Crossing;
 pub use extent::Extent;
 pub use index::PositionIndex;
 pub use laws::{blocked_law, free_law};
 pub use meeting::{is_end, is_on, meets_badly, same_ends, touches};
+pub use pairing::crossings_with;
 pub use query::{Corner, Query};
 pub use reducing::reduce_guarded;
 pub use triangle::{in_triangle, is_clear};

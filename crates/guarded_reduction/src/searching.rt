@@ -90,7 +90,7 @@ fn may_hold<Q: Query>(index: &BoxTree, node: usize, within: &Extent, query: &Q) 
     meets(e, *within) && query.may_meet(&e)
 }
 
-/// A place under a node that is left and meets the test.
+/// A place under a node that is left and meets the test. The boxes of its children are looked at, and not its own.
 pub fn find_under<Q: Query>(
     index: &BoxTree,
     node: usize,
@@ -104,16 +104,18 @@ pub fn find_under<Q: Query>(
     ensures some { IfSome result (λ z. Meets index.now.positions.items index.now.present.items (Q.test query.now) z) }
     ensures none { IfNone result (NoneMeetsUnder index.now node (Q.test query.now)) }
 {
-    if !may_hold(index, node, within, query) {
-        return None;
-    }
     if node >= index.positions.len() {
         return found_at(index, node, within, query);
     }
-    match find_under(index, 2 * node, within, query) {
-        Some(place) => Some(place),
-        None => find_under(index, 2 * node + 1, within, query),
+    if may_hold(index, 2 * node, within, query) {
+        if let Some(place) = find_under(index, 2 * node, within, query) {
+            return Some(place);
+        }
     }
+    if !may_hold(index, 2 * node + 1, within, query) {
+        return None;
+    }
+    find_under(index, 2 * node + 1, within, query)
 }
 
 /// The other child of the node over a node.
@@ -141,7 +143,11 @@ fn find_over<Q: Query>(index: &BoxTree, node: usize, within: &Extent, query: &Q)
     ensures some { IfSome result (λ z. Meets index.now.positions.items index.now.present.items (Q.test query.now) z) }
     ensures none { IfNone result (NoneMeetsUnder index.now (node / 2) (Q.test query.now)) }
 {
-    find_under(index, other_child(node), within, query)
+    let other = other_child(node);
+    if !may_hold(index, other, within, query) {
+        return None;
+    }
+    find_under(index, other, within, query)
 }
 
 /// A place that is left and meets the test, where none under this node does: it is looked for near the node first.

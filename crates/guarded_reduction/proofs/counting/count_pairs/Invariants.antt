@@ -1,6 +1,5 @@
 use Rattle.std.proofs.Common.{◌≡◌, ◌+◌, ◌≤◌, drop, map, min}
 use Rattle.guarded_meaning.specs.Segments.{bad_pairs}
-use Rattle.guarded_reduction.specs.Crossings.{AreCrossingsOf}
 use Rattle.guarded_reduction.specs.Lines.{as_segment}
 use Rattle.guarded_reduction.proofs.counting.count_pairs.Given as goal
 
@@ -8,6 +7,5 @@ use Rattle.guarded_reduction.proofs.counting.count_pairs.Given as goal
 abbrev pub invariant-loop-rank : goal.invariant-loop-rank
 invariant-loop-rank l = record {
   count : l.count ≤ l.limit;
-  found : AreCrossingsOf (map as_segment l.lines) l.count l.most l.crossings.items;
   all : min l.limit (l.count + bad_pairs (map as_segment (drop l.rank l.lines))) ≡ min l.limit (bad_pairs (map as_segment l.lines));
 }

@@ -1,5 +1,4 @@
-use Rattle.std.proofs.Common.{arith, ◌∙◌, ap, false, List, length, length-set, subst}
-use Rattle.geometry.specs.Points.{Point}
+use Rattle.std.proofs.Common.{arith, ◌∙◌, false, length-set}
 use Rattle.guarded_reduction.proofs.Indexes.{fitted_without, leaves_without}
 use Rattle.guarded_reduction.proofs.box_tree.BoxTree.remove.Goals as goal
 

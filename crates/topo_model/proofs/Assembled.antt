@@ -1,6 +1,5 @@
 -- What is made of layers, of the indexes of their arcs and of the positions of each arc that are retained is what is assembled of them.
 use Rattle.std.proofs.Common.{arith, ◌≡◌, ℕ, ◌-◌, ℤ, Bool, true, false, List, [], ◌∷◌, map, length, Option, None, Some, refl, sym, ap, ◌∙◌, subst}
-use Rattle.std.specs.List.{AllByRecursion}
 use Rattle.std.specs.Prelude.{sum, if◌then◌else◌}
 use Rattle.std.proofs.lemmas.Option.{none-some}
 use Rattle.std.proofs.Math.Path.{fun_ext}
@@ -22,7 +21,7 @@ use Rattle.elimination_meaning.specs.Laws.{ZeroLaw}
 use Rattle.geojson_types.specs.Features.{Shape, Featured}
 use Rattle.geometry.specs.declared.address.Cause.{Cause}
 use Rattle.geometry.specs.declared.address.Cause.TheVariants.{Small}
-use Rattle.geometry.specs.Joins.{AreInRange, stitched}
+use Rattle.geometry.specs.Joins.{stitched}
 use Rattle.geometry.specs.Lists.{map_some, then_some}
 use Rattle.geometry.specs.DropCauses.{dropped_of_layers}
 use Rattle.geometry.specs.Points.{Point}
@@ -40,8 +39,9 @@ use Rattle.simplified_topology.proofs.ValidRetained.{retained_length}
 use Rattle.linework.specs.Linework.{linework}
 use Rattle.owned_values.proofs.Elements.{all_weaker}
 use Rattle.topojson_types.specs.declared.object.TopoObject.{TopoObject}
-use Rattle.topojson_types.specs.Topologies.{Contents, object_features, objects_lines_and_rings}
+use Rattle.topojson_types.specs.Topologies.{Contents, object_features}
 use Rattle.topojson_types.specs.Validity.{AreDistinct, IsTopology}
+use Rattle.topo_model.specs.ArcUses.{AllNameArcs}
 use Rattle.topo_model.specs.Drops.{draft_cause, objects_drops}
 use Rattle.topo_model.proofs.Drops.{plain_drops, objects_plainly}
 use Rattle.topo_model.proofs.Result as result
@@ -185,9 +185,9 @@ module _ (kept : List (List ℕ)) (limit : ℕ) (ls : Named) (zero : ZeroLaw) (s
   unfolding assembled simplified_by
   is_assembled = ap trimmed draft_is
 
-  pub ranged : IsTopology whole → EachFromFirstToLast kept (arcs_of_layers ls) → AllByRecursion (λ b. AreInRange (length retained) b.1) (objects_lines_and_rings (objects_pruned (large_refs limit retained) draft))
-  ranged valid h =
-      subst (λ (os : Objects). AllByRecursion (λ b. AreInRange (length retained) b.1) (objects_lines_and_rings os)) (sym large_is) (result.ranged no_protection kept limit whole retained retained_is valid (through h))
+  pub indexed : IsTopology whole → EachFromFirstToLast kept (arcs_of_layers ls) → AllNameArcs (length retained) (objects_pruned (large_refs limit retained) draft)
+  indexed valid h =
+      subst (AllNameArcs (length retained)) (sym large_is) (result.indexed no_protection kept limit whole retained retained_is valid (through h))
 
   pub many : EachFromFirstToLast kept (arcs_of_layers ls) → length retained ≡ length (arcs_of_layers ls)
   many h = ap length picks ∙ retained_length kept (arcs_of_layers ls) h

@@ -14,7 +14,6 @@ use Rattle.geojson_types.specs.Features.{Shape, Featured}
 use Rattle.geometry.specs.declared.address.Cause.{Cause}
 use Rattle.geometry.specs.declared.address.Cause.TheVariants.{Collapsed}
 use Rattle.geometry.specs.DropCauses.{drop_causes, dropped_of_layers}
-use Rattle.geometry.specs.Joins.{AreInRange}
 use Rattle.geometry.specs.Lists.{map_some, then_some}
 use Rattle.geometry.specs.Paths.{Placed}
 use Rattle.geometry.specs.Points.{Point}
@@ -38,10 +37,11 @@ use Rattle.simplified_topology.proofs.Simplified.{IsWholeAtZero}
 use Rattle.topojson_types.specs.declared.feature.TopoFeature.{TopoFeature}
 use Rattle.topojson_types.specs.declared.object.TopoObject.{TopoObject}
 use Rattle.topojson_types.specs.declared.object.TopoObject.TheVariants.{Many}
-use Rattle.topojson_types.specs.Topologies.{TopoShape, Contents, object_features, objects_lines_and_rings}
+use Rattle.topojson_types.specs.Topologies.{TopoShape, Contents, object_features}
 use Rattle.topojson_types.specs.Validity.{IsTopology}
 use Rattle.topo_model.specs.Along.{Ways, large_along}
 use Rattle.topo_model.specs.Drafts.{RefsOf, draft_refs, relined, feature_drafted, objects_drafted}
+use Rattle.topo_model.specs.ArcUses.{AllNameArcs}
 use Rattle.topo_model.specs.Drops.{draft_cause, objects_drops}
 use Rattle.topo_model.specs.Ways.{ways_of}
 use Rattle.topo_model.proofs.Along.{objects_are}
@@ -192,11 +192,11 @@ module _ (kept : List (List ℕ)) (limit : ℕ) (ls : Named) (zero : ZeroLaw) (s
   unfolding assembled_sparing spared_by
   is_assembled = ap trimmed draft_is
 
-  pub ranged : IsTopology whole → EachFromFirstToLast kept (arcs_of_layers ls)
-      → AllByRecursion (λ b. AreInRange (length retained) b.1) (objects_lines_and_rings (objects_spared (greatest_ring (arcs_of_layers ls)) (sparing (large_refs limit retained)) draft))
-  ranged valid h =
-      subst (λ (os : Objects). AllByRecursion (λ b. AreInRange (length retained) b.1) (objects_lines_and_rings os)) (sym large_is)
-      (result.ranged ring_of_each kept limit whole retained are valid (through kept limit ls zero sound retained picks h))
+  pub indexed : IsTopology whole → EachFromFirstToLast kept (arcs_of_layers ls)
+      → AllNameArcs (length retained) (objects_spared (greatest_ring (arcs_of_layers ls)) (sparing (large_refs limit retained)) draft)
+  indexed valid h =
+      subst (AllNameArcs (length retained)) (sym large_is)
+      (result.indexed ring_of_each kept limit whole retained are valid (through kept limit ls zero sound retained picks h))
 
   pub drops_are : (ways : Ways) → ways ≡ ways_of (greatest_ring (arcs_of_layers ls)) draft → objects_drops (of_arcs limit retained) 0 ways draft ≡ assembled_sparing_dropped kept limit ls
   unfolding assembled_sparing_dropped

@@ -9,14 +9,19 @@ use Rattle.geometry.specs.Points.{Point}
 use Rattle.geometry.specs.Pruning.{prune, area_by, lines_and_rings, option_lines_and_rings}
 use Rattle.geometry.proofs.Cases.{prune-point, prune-points, prune-line, prune-lines, prune-area, prune-areas, prune-group, lines_and_rings-point, lines_and_rings-points, lines_and_rings-line, lines_and_rings-lines, lines_and_rings-area, lines_and_rings-areas, lines_and_rings-group}
 use Rattle.build_meaning.specs.Trimming.{is_used}
-use Rattle.simplified_topology.specs.Simplified.{feature_pruned, object_pruned, objects_pruned}
+use Rattle.geojson_types.specs.Features.{is_some_list}
+use Rattle.owned_values.proofs.Elements.{all_weaker}
+use Rattle.simplified_topology.specs.Simplified.{Refs, feature_pruned, object_pruned, objects_pruned}
+use Rattle.simplified_topology.proofs.Again.{all_hold}
+use Rattle.simplified_topology.proofs.Objects.{objects_then, objects_replaced}
 use Rattle.topojson_types.specs.declared.feature.TopoFeature.{TopoFeature}
 use Rattle.topojson_types.specs.declared.object.TopoObject.{TopoObject}
 use Rattle.topojson_types.specs.declared.object.TopoObject.TheVariants.{Many}
 use Rattle.topojson_types.specs.Topologies.{TopoShape, object_features, features_lines_and_rings, objects_lines_and_rings}
-use Rattle.topo_model.specs.ArcUses.{any_uses}
+use Rattle.topo_model.specs.ArcUses.{AllNameArcs, NamesArcs, any_uses}
 use Rattle.topo_model.specs.DraftUses.{with_refs, area_uses, shape_uses}
 use Rattle.topo_model.specs.Marks.{also_set, names_arc}
+use Rattle.topo_model.specs.Uses.{answers}
 use Rattle.topo_model.proofs.Marked.{also_none, also_same}
 use Rattle.topo_model.proofs.Marks.{of_joined, of_tagged, of_rings}
 
@@ -171,3 +176,26 @@ no_outer rs o old e h = marks_none (area_uses rs) old (empty_first rs o e h)
 
 pub with_outer : (rs : List (List ℤ)) (o : List ℤ) (old new : List Bool) → Some o ≡ slice_get rs 0 → 0 < length o → new ≡ also_set (λ n. list_any (λ l. names_arc l n) rs) 0 old → new ≡ also_set (area_uses rs) 0 old
 with_outer rs o old new e h k = marks (λ n. list_any (λ l. names_arc l n) rs) (area_uses rs) old new (some_first rs o e h) k
+
+-- ---- objects in which each line and ring has an index
+
+has_refs : (b : Bool × List ℤ) → is_some_list b.1 ≡ true → with_refs b.0 b.1 ≡ Some b.1
+has_refs (closed, []) h = absurd cc
+has_refs (closed, r ∷ refs) h = refl
+
+each_again : (bs : List (Bool × List ℤ)) → map (λ b. (b.0, b.1)) bs ≡ bs
+each_again [] = refl
+each_again ((closed, l) ∷ bs) = ap (λ cs. (closed, l) ∷ cs) (each_again bs)
+
+abbrev as_they_are : Refs
+as_they_are closed refs = Some refs
+
+-- they use what is left of them as a draft
+pub all_used : (n count : ℕ) (os : List (List ℕ × TopoObject)) → AllNameArcs n os → answers (is_used (objects_pruned with_refs os)) 0 count ≡ answers (is_used os) 0 count
+all_used n count os h =
+    let bs = objects_lines_and_rings os in
+    ap (λ (cs : List (Bool × List ℤ)). answers (λ i. list_any (λ b. names_arc b.1 i) cs) 0 count)
+    (ap objects_lines_and_rings
+    (sym (objects_then as_they_are with_refs with_refs os (all_hold (λ b. with_refs b.0 b.1 ≡ with_refs b.0 b.1) (λ b. refl) bs))
+    ∙ objects_then as_they_are with_refs as_they_are os (all_weaker (NamesArcs n) (λ b. with_refs b.0 b.1 ≡ Some b.1) (λ b k. has_refs b k.1) bs h))
+    ∙ objects_replaced (λ refs. refs) os ∙ each_again bs)

@@ -12,7 +12,7 @@ use Rattle.build_meaning.proofs.Trimmed.{kept_of_map}
 use Rattle.geometry.specs.declared.address.Cause.{Cause}
 use Rattle.geometry.specs.Joins.{AreInRange}
 use Rattle.geometry.specs.DropCauses.{dropped_of_layers}
-use Rattle.geometry.specs.Pruning.{lines_and_rings}
+use Rattle.geometry.specs.Pruning.{lines_and_rings, option_lines_and_rings}
 use Rattle.geometry.proofs.Moved.{refilled}
 use Rattle.std.proofs.Math.Seq.{take-append_seam}
 use Rattle.geometry.specs.Lists.{map_some}
@@ -27,14 +27,14 @@ use Rattle.simplified_topology.proofs.Marks.{lines_and_rings_back, without_mark}
 use Rattle.simplified_topology.proofs.Objects.{objects_then}
 use Rattle.simplified_topology.proofs.Spared.{Leaves, objects_left as spared_left}
 use Rattle.simplified_topology.proofs.ValidRetained.{retained_length}
-use Rattle.owned_values.proofs.Elements.{all_of_map, all_weaker}
+use Rattle.owned_values.proofs.Elements.{all_append, all_two, all_of_map, all_weaker}
 use Rattle.topojson_features.proofs.Standing.{lines_and_rings_full}
 use Rattle.topojson_types.specs.declared.feature.TopoFeature.{TopoFeature}
 use Rattle.topojson_types.specs.declared.object.TopoObject.{TopoObject}
 use Rattle.topojson_types.specs.declared.object.TopoObject.TheVariants.{One, Many}
 use Rattle.topojson_types.specs.declared.transform.Transform.{Transform}
 use Rattle.topojson_types.specs.Decoding.{placed_arcs}
-use Rattle.topojson_types.specs.Topologies.{TopoShape, Contents, object_features, objects_lines_and_rings}
+use Rattle.topojson_types.specs.Topologies.{TopoShape, Contents, features_lines_and_rings, object_features, objects_lines_and_rings}
 use Rattle.topojson_types.specs.Transforms.{place_on}
 use Rattle.topojson_types.specs.Validity.{is_full_option, IsPlace, IsFeature, IsObject, IsTopology}
 use Rattle.topo_model.specs.Along.{Ways, ways_after, by_object, object_along, objects_along, large_along, AreWays}
@@ -42,7 +42,7 @@ use Rattle.topo_model.specs.Drops.{draft_cause, objects_drops}
 use Rattle.topo_model.proofs.Along.{objects_are as objects_along_are}
 use Rattle.topo_model.proofs.Drops.{protected_drops, objects_are as drops_along}
 use Rattle.topo_model.specs.Parts.{contents}
-use Rattle.topo_model.specs.ArcUses.{renumbered_refs}
+use Rattle.topo_model.specs.ArcUses.{AllNameArcs, NamesArcs, renumbered_refs}
 use Rattle.topo_model.proofs.Picks.{places_retained, topology_places}
 
 abbrev Objects : Type 0
@@ -53,22 +53,41 @@ Objects = List (List ℕ × TopoObject)
 abbrev InRange : ℕ → Bool × List ℤ → Type 0
 InRange n b = AreInRange n b.1
 
-same_range : (n : ℕ) (b : Bool × List ℤ) (m : List ℤ) (w : Option Cause) → InRange n b → unless w b.1 ≡ Some m → AreInRange n m
-same_range n b m w r e = grind arith
-
--- those of the lines that stay name arcs
-range_stays : (protects : Protection) (n limit : ℕ) (arcs : List (List Point)) (os : Objects) → AllByRecursion (InRange n) (objects_lines_and_rings os)
-    → AllByRecursion (InRange n) (objects_lines_and_rings (objects_spared protects (sparing (large_refs limit arcs)) os))
-range_stays protects n limit arcs os h =
-    spared_left protects (sparing (large_refs limit arcs)) (InRange n) os
-    (all_weaker (InRange n) (Leaves protects (sparing (large_refs limit arcs)) (InRange n)) each (objects_lines_and_rings os) h)
+-- what holds of the lines and rings holds of those that stay
+lines_stay : (X : Bool × List ℤ → Type 0) (protects : Protection) (limit : ℕ) (arcs : List (List Point)) (os : Objects) → AllByRecursion X (objects_lines_and_rings os)
+    → AllByRecursion X (objects_lines_and_rings (objects_spared protects (sparing (large_refs limit arcs)) os))
+lines_stay X protects limit arcs os h =
+    spared_left protects (sparing (large_refs limit arcs)) X os
+    (all_weaker X (Leaves protects (sparing (large_refs limit arcs)) X) each (objects_lines_and_rings os) h)
   where
     same : (l m : List ℤ) → Some l ≡ Some m → l ≡ m
     same l m e = cc
 
-    each : (b : Bool × List ℤ) → InRange n b → (mark : Bool) (m : List ℤ) → sparing (large_refs limit arcs) b.0 (mark, b.1) ≡ Some m → AreInRange n m
-    each b r true m e = subst (AreInRange n) (same b.1 m e) r
-    each b r false m e = same_range n b m (small_cause limit arcs b.0 b.1) r e
+    kept : (w : Option Cause) (l m : List ℤ) → unless w l ≡ Some m → l ≡ m
+    kept None l m e = cc
+    kept (Some c) l m e = absurd cc
+
+    each : (b : Bool × List ℤ) → X b → (mark : Bool) (m : List ℤ) → sparing (large_refs limit arcs) b.0 (mark, b.1) ≡ Some m → X (b.0, m)
+    each (closed, l) x true m e = subst (λ k. X (closed, k)) (same l m e) x
+    each (closed, l) x false m e = subst (λ k. X (closed, k)) (kept (small_cause limit arcs closed l) l m e) x
+
+-- each line and ring of a valid topology has an index
+option_full : (s : Option TopoShape) → is_full_option s ≡ true → AllByRecursion (λ b. is_some_list b.1 ≡ true) (option_lines_and_rings s)
+option_full None h = tt
+option_full (Some s) h = lines_and_rings_full s h
+
+features_full : (transform : Option Transform) (fs : List TopoFeature) → AllByRecursion (IsFeature transform) fs → AllByRecursion (λ b. is_some_list b.1 ≡ true) (features_lines_and_rings fs)
+features_full transform [] h = tt
+features_full transform (f ∷ fs) h = all_append (λ b. is_some_list b.1 ≡ true) (option_lines_and_rings f.shape) (features_lines_and_rings fs) (option_full f.shape h.0.0) (features_full transform fs h.1)
+
+object_full : (transform : Option Transform) (o : TopoObject) → IsObject transform o → AllByRecursion (λ b. is_some_list b.1 ≡ true) (features_lines_and_rings (object_features o))
+object_full transform (One f) h = features_full transform (f ∷ []) (h.0, tt)
+object_full transform (Many fs) h = features_full transform fs h
+
+objects_full : (transform : Option Transform) (os : Objects) → AllByRecursion (λ o. IsObject transform o.1) os → AllByRecursion (λ b. is_some_list b.1 ≡ true) (objects_lines_and_rings os)
+objects_full transform [] h = tt
+objects_full transform (o ∷ os) h =
+    all_append (λ b. is_some_list b.1 ≡ true) (features_lines_and_rings (object_features o.1)) (objects_lines_and_rings os) (object_full transform o.1 h.0) (objects_full transform os h.1)
 
 abbrev as_they_are : Refs
 as_they_are closed refs = Some refs
@@ -177,10 +196,12 @@ module _ (protects : Protection) (kept : List (List ℕ)) (limit : ℕ) (y : Con
   pub retained_long : EachFromFirstToLast kept y.arcs → length retained ≡ length y.arcs
   retained_long through = ap length is ∙ retained_length kept y.arcs through
 
-  -- each index names an arc
-  pub ranged : IsTopology y → EachFromFirstToLast kept y.arcs → AllByRecursion (InRange (length retained)) (objects_lines_and_rings large)
-  ranged valid through =
-      range_stays protects (length retained) limit (placed_arcs y.transform retained) y.objects (subst (λ n. AllByRecursion (InRange n) (objects_lines_and_rings y.objects)) (sym (retained_long through)) valid.ranged)
+  -- each line and ring names arcs
+  pub indexed : IsTopology y → EachFromFirstToLast kept y.arcs → AllNameArcs (length retained) large
+  indexed valid through =
+      lines_stay (NamesArcs (length retained)) protects limit (placed_arcs y.transform retained) y.objects
+      (all_two (InRange (length retained)) (λ b. is_some_list b.1 ≡ true) (NamesArcs (length retained)) (λ b h k. (h, k)) (objects_lines_and_rings y.objects)
+      (subst (λ n. AllByRecursion (InRange n) (objects_lines_and_rings y.objects)) (sym (retained_long through)) valid.ranged) (objects_full y.transform y.objects valid.objects))
 
   -- the cells that are retained may stand in the topology
   pub places_are : IsTopology y → AllByRecursion (λ a. AllByRecursion (IsPlace y.transform) a) retained

@@ -1,4 +1,4 @@
-// Which arcs a draft uses before any is reduced.
+// Which arcs a draft uses. One in which each line and ring has an arc index uses those that they name.
 ghost use Rattle.std.specs.Prelude.{◌≡◌, IfOk, Some};
 ghost use Rattle.std.specs.List.{list_any};
 ghost use Rattle.build_meaning.specs.Trimming.{is_used};
@@ -9,8 +9,7 @@ ghost use Rattle.topo_model.specs.DraftUses.{area_uses, shape_uses, with_refs};
 ghost use Rattle.topo_model.specs.Marks.{also_set};
 ghost use Rattle.topo_model.specs.Uses.{answers};
 
-use crate::arc_uses::mark_lines;
-use crate::marking::{mark_refs, unused_flags};
+use crate::marking::{mark_lines, mark_refs, unused_flags};
 use geojson_types::Geometry;
 use json_value::{Items, OwnText};
 use owned_values::Memory;

@@ -14,11 +14,12 @@ ghost use Rattle.topojson_types.specs.Decoding.{placed_arcs as all_placed};
 ghost use Rattle.topojson_types.specs.Topologies.{objects_lines_and_rings};
 ghost use Rattle.topojson_types.specs.Validity.{IsPlace};
 ghost use Rattle.topo_model.specs.Along.{large_along};
+ghost use Rattle.topo_model.specs.ArcUses.{AllNameArcs};
 ghost use Rattle.topo_model.specs.Drops.{objects_drops};
 ghost use Rattle.topo_model.specs.Parts.{contents};
 
-use crate::arc_uses::used_arcs;
 use crate::choosing::Renumbered;
+use crate::draft_uses::draft_arcs;
 use crate::dropping::dropped_lines;
 use crate::placing::placed_arcs;
 use crate::position_counting::position_sum;
@@ -95,13 +96,13 @@ fn without_unused(
     counts: &[usize],
 ) -> Result<(Vec<Items<Cell>>, u64), Memory>
     requires many { length retained.items ≡ length counts.now }
-    requires ranged { AllByRecursion (λ b. AreInRange (length retained.items) b.1) (objects_lines_and_rings objects.old) }
+    requires indexed { AllNameArcs (length retained.items) objects.old }
     ensures objects { OnOk result (objects.new ≡ objects_pruned (line_renumbered (is_used objects.old)) objects.old) }
     ensures arcs { IfOk result (λ r. r.0.items ≡ keep_from (is_used objects.old) 0 retained.items) }
     ensures removed_count { IfOk result (λ r. r.1
         ≡ saturated (sum (keep_from (is_used objects.old) 0 counts.now) - positions_of (keep_from (is_used objects.old) 0 retained.items))) }
 {
-    let used = used_arcs(alloc, objects, retained.len())?;
+    let used = draft_arcs(alloc, objects, retained.len())?;
     let before = used_sum(counts, &used);
     renumber(alloc, objects, &used)?;
     let stay = kept_arcs(alloc, retained, &used)?;
@@ -137,8 +138,8 @@ pub fn finish(
     requires places { AllByRecursion (λ arc. AllByRecursion (IsPlace (option_copied transform)) arc) retained.items }
     requires limit { ring_limit ≤ threshold_limit }
     requires many { length retained.items ≡ length counts.now }
-    requires ranged { AllByRecursion (λ b. AreInRange (length retained.items) b.1)
-        (objects_lines_and_rings (large_along ring_limit (all_placed (option_copied transform) retained.items) (map (map_some (λ v. v.items)) ways.now) objects.items)) }
+    requires indexed { AllNameArcs (length retained.items)
+        (large_along ring_limit (all_placed (option_copied transform) retained.items) (map (map_some (λ v. v.items)) ways.now) objects.items) }
     ensures left { IfOk result (λ r. contents r.objects.items r.arcs.items (option_copied transform.entry)
         ≡ trimmed (contents (large_along ring_limit (all_placed (option_copied transform.entry) retained.items) (map (map_some (λ v. v.items)) ways.now) objects.items) retained.items (option_copied transform.entry))) }
     ensures dropped { IfOk result (λ r. r.dropped.items ≡ objects_drops (record { arcs = all_placed (option_copied transform.entry) retained.items; limit = ring_limit }) 0 (map (map_some (λ v. v.items)) ways.now) objects.items) }

@@ -9,7 +9,6 @@
 //! what is built of the layers, and on `arc_table`. The layers above use the contracts of `assemble_retained` and of `reassemble`.
 #![tactic(auto)]
 
-mod arc_uses;
 mod assembling;
 mod choosing;
 mod draft_laws;

@@ -1,7 +1,9 @@
 // Which arcs lines and rings use.
 ghost use Rattle.std.specs.Prelude.{◌≡◌, IfOk, false, replicate};
+ghost use Rattle.std.specs.List.{list_any};
 ghost use Rattle.topo_model.specs.Marks.{also_set, names_arc};
 
+use json_value::Items;
 use owned_values::Memory;
 use std::alloc::Global;
 use topojson_types::ArcRef;
@@ -23,5 +25,14 @@ pub fn mark_refs(refs: &[ArcRef], used: &mut [bool])
         if index < used.len() {
             used[index] = true;
         }
+    }
+}
+
+/// Sets the flags of the arcs that the lines or rings use.
+pub fn mark_lines(lines: &[Items<ArcRef>], used: &mut [bool])
+    ensures { used.new ≡ also_set (λ n. list_any (λ refs. names_arc refs n) lines.now) 0 used.old }
+{
+    'lines: for refs in lines {
+        mark_refs(refs.as_slice(), used);
     }
 }

@@ -1,23 +1,21 @@
 use Rattle.std.proofs.Common.{rules, ℕ, ◌-◌, List, [], length, sym, ap, ◌∙◌, subst}
 use Rattle.std.specs.Prelude.{sum}
-use Rattle.std.specs.List.{AllByRecursion}
 use Rattle.std.proofs.lemmas.List.{length-map}
 use Rattle.std.proofs.lemmas.Result.{IfOk-weaker}
 use Rattle.build_meaning.specs.Built.{positions_of, untrimmed}
 use Rattle.build_meaning.specs.Trimming.{is_used, keep_from, trimmed}
 use Rattle.build_meaning.proofs.ValidUntrimmed.{untrimmed_is_valid}
 use Rattle.byte_ends.specs.Ends.{saturated}
-use Rattle.geometry.specs.Joins.{AreInRange}
 use Rattle.simplified_topology.specs.Assembled.{arcs_of_layers, own_refs}
 use Rattle.simplified_topology.specs.Protected.{no_protection}
 use Rattle.simplified_topology.specs.Simplified.{large_refs, objects_pruned}
 use Rattle.simplified_topology.proofs.Assembled.{contents}
-use Rattle.topojson_types.specs.Topologies.{objects_lines_and_rings}
 use Rattle.topo_model.specs.Drops.{objects_drops}
+use Rattle.topo_model.specs.ArcUses.{AllNameArcs}
 use Rattle.topo_model.proofs.Result as result
 use Rattle.topo_model.proofs.Along.{objects_plainly}
 use Rattle.topo_model.specs.Drafts.{objects_drafted}
-use Rattle.topo_model.proofs.Assembled.{drops_are, is_assembled, removed_count_is, lines_of, many, retained_is, ranged}
+use Rattle.topo_model.proofs.Assembled.{drops_are, is_assembled, removed_count_is, lines_of, many, retained_is, indexed}
 use Rattle.topo_model.proofs.assembling.objects_and_arcs.Goals as goal
 
 pub finish-requires : goal.finish-requires
@@ -31,8 +29,8 @@ finish-requires c =
       limit = search rules;
       places = result.places_are no_protection r.kept c.args.ring_limit (untrimmed 0 0 d.layers) c.args.retained.items is valid;
       many = many r.kept c.args.ring_limit d.layers c.zero_law.ensures d.of_layers.sound c.args.retained.items r.picks r.through ∙ sym (ap length d.counts_are ∙ length-map (arcs_of_layers d.layers) length);
-      ranged = subst (λ os. AllByRecursion (λ b. AreInRange (length retained) b.1) (objects_lines_and_rings os)) (sym (objects_plainly (large_refs c.args.ring_limit retained) c.args.objects.items ∙ ap (objects_pruned (large_refs c.args.ring_limit retained)) d.of_layers.drafted))
-          (ranged r.kept c.args.ring_limit d.layers c.zero_law.ensures d.of_layers.sound retained r.picks valid r.through);
+      indexed = subst (AllNameArcs (length retained)) (sym (objects_plainly (large_refs c.args.ring_limit retained) c.args.objects.items ∙ ap (objects_pruned (large_refs c.args.ring_limit retained)) d.of_layers.drafted))
+          (indexed r.kept c.args.ring_limit d.layers c.zero_law.ensures d.of_layers.sound retained r.picks valid r.through);
     }
 
 pub returns : goal.returns

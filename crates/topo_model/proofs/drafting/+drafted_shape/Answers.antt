@@ -5,7 +5,7 @@ use Rattle.geometry.specs.Points.{Point}
 use Rattle.geometry.specs.Pruning.{lines_and_rings}
 use Rattle.geometry.proofs.Cases.{lines_and_rings-point, lines_and_rings-points, lines_and_rings-line, lines_and_rings-lines, lines_and_rings-area, lines_and_rings-areas, lines_and_rings-group}
 use Rattle.topo_model.specs.Drafts.{draft_refs, relined, Drafts}
-use Rattle.topo_model.proofs.Relined.{relined_at}
+use Rattle.topo_model.proofs.RelinedMarks.{relined_at}
 use Rattle.topo_model.proofs.Taking.{begun, mapped_next, mapped_all, shape_alone, shape_of}
 use Rattle.topo_model.proofs.drafting.+drafted_shape.Goals as goal
 

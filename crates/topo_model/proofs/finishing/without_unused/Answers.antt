@@ -8,20 +8,26 @@ use Rattle.build_meaning.specs.Trimming.{is_used, keep_from}
 use Rattle.byte_ends.specs.Ends.{saturated}
 use Rattle.geometry.specs.Joins.{AreInRange}
 use Rattle.topojson_types.specs.Topologies.{objects_lines_and_rings}
+use Rattle.owned_values.proofs.Elements.{all_weaker}
+use Rattle.topo_model.specs.ArcUses.{NamesArcs}
+use Rattle.topo_model.proofs.DraftUses.{all_used}
 use Rattle.topo_model.proofs.Result.{flags_are, flags_long}
 use Rattle.topo_model.proofs.finishing.without_unused.Goals as goal
 
 pub renumber-requires : goal.renumber-requires
 renumber-requires c =
     let flags : c.in_ok-used.used.items ≡ answers (is_used c.args.objects.now) 0 (length c.args.retained.items) =
-    flags_are c.args.objects.now c.args.objects.now c.args.retained.items c.len.result c.in_ok-used.used.items refl (c.len.ensures ∙ c.args.retained.ok.0) c.in_ok-used.ensures in
+    flags_are c.args.objects.now c.args.objects.now c.args.retained.items c.len.result c.in_ok-used.used.items refl (c.len.ensures ∙ c.args.retained.ok.0)
+    (c.in_ok-used.ensures ∙ all_used (length c.args.retained.items) c.len.result c.args.objects.now c.requires.indexed) in
     subst (λ n. AllByRecursion (λ b. AreInRange n b.1) (objects_lines_and_rings c.args.objects.now))
-    (flags_long (is_used c.args.objects.now) c.in_ok-used.used.items c.deref-2.result.now (length c.args.retained.items) flags c.deref-2.ensures.value).1 c.requires.ranged
+    (flags_long (is_used c.args.objects.now) c.in_ok-used.used.items c.deref-2.result.now (length c.args.retained.items) flags c.deref-2.ensures.value).1
+    (all_weaker (NamesArcs (length c.args.retained.items)) (λ b. AreInRange (length c.args.retained.items) b.1) (λ b k. k.0) (objects_lines_and_rings c.args.objects.now) c.requires.indexed)
 
 pub returns : goal.returns
 returns c =
     let flags : c.in_ok-used.used.items ≡ answers (is_used c.args.objects.now) 0 (length c.args.retained.items) =
-    flags_are c.args.objects.now c.args.objects.now c.args.retained.items c.len.result c.in_ok-used.used.items refl (c.len.ensures ∙ c.args.retained.ok.0) c.in_ok-used.ensures in
+    flags_are c.args.objects.now c.args.objects.now c.args.retained.items c.len.result c.in_ok-used.used.items refl (c.len.ensures ∙ c.args.retained.ok.0)
+    (c.in_ok-used.ensures ∙ all_used (length c.args.retained.items) c.len.result c.args.objects.now c.requires.indexed) in
     let u = is_used c.args.objects.now in
     let n = length c.args.retained.items in
     let stay = c.in_ok-stay.ensures ∙ chosen_as u n c.deref-3.result.now c.args.retained.items (c.deref-3.ensures.value ∙ flags) refl in

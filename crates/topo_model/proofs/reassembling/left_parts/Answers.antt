@@ -5,13 +5,11 @@ use Rattle.std.proofs.lemmas.List.{length-map}
 use Rattle.std.proofs.lemmas.Result.{IfOk-weaker}
 use Rattle.build_meaning.specs.Built.{positions_of}
 use Rattle.build_meaning.specs.Trimming.{is_used, keep_from, trimmed}
-use Rattle.geometry.specs.Joins.{AreInRange}
 use Rattle.geometry.specs.Lists.{map_some}
-use Rattle.topojson_types.specs.Topologies.{objects_lines_and_rings}
-use Rattle.std.specs.List.{AllByRecursion}
 use Rattle.byte_ends.specs.Ends.{saturated}
 use Rattle.topo_model.specs.Parts.{contents}
-use Rattle.topo_model.proofs.Result.{drops_are, is_spared, large, large_is, retained_long, places_are, ranged, taken_is}
+use Rattle.topo_model.specs.ArcUses.{AllNameArcs}
+use Rattle.topo_model.proofs.Result.{drops_are, is_spared, large, large_is, retained_long, places_are, indexed, taken_is}
 use Rattle.topo_model.proofs.reassembling.left_parts.Goals as goal
 
 pub finish-requires : goal.finish-requires
@@ -25,9 +23,9 @@ finish-requires c =
       places = places_are c.requires.ways.protects r.retained_are.kept c.args.ring_limit (contents c.args.objects.items r.arcs (option_copied c.args.transform)) c.args.retained.items r.retained_are.picks r.valid;
       many = retained_long c.requires.ways.protects r.retained_are.kept c.args.ring_limit (contents c.args.objects.items r.arcs (option_copied c.args.transform)) c.args.retained.items r.retained_are.picks r.retained_are.through
           ∙ sym (ap length r.counts_are ∙ length-map r.arcs length);
-      ranged = subst (λ os. AllByRecursion (λ b. AreInRange (length retained) b.1) (objects_lines_and_rings os))
+      indexed = subst (AllNameArcs (length retained))
           (sym (large_is w.protects r.retained_are.kept c.args.ring_limit y retained r.retained_are.picks (map (map_some (λ v. v.items)) c.args.ways.now) w.are))
-          (ranged w.protects r.retained_are.kept c.args.ring_limit y retained r.retained_are.picks r.valid r.retained_are.through);
+          (indexed w.protects r.retained_are.kept c.args.ring_limit y retained r.retained_are.picks r.valid r.retained_are.through);
     }
 
 pub returns : goal.returns

@@ -1,13 +1,11 @@
 use Rattle.std.proofs.Common.{rules, ℕ, ◌-◌, List, length, map, sym, ap, ◌∙◌, subst}
 use Rattle.std.specs.Prelude.{sum}
-use Rattle.std.specs.List.{AllByRecursion}
 use Rattle.std.proofs.lemmas.List.{length-map}
 use Rattle.std.proofs.lemmas.Result.{IfOk-weaker}
 use Rattle.build_meaning.specs.Built.{positions_of, untrimmed}
 use Rattle.build_meaning.specs.Trimming.{is_used, keep_from, trimmed}
 use Rattle.build_meaning.proofs.ValidUntrimmed.{untrimmed_is_valid}
 use Rattle.byte_ends.specs.Ends.{saturated}
-use Rattle.geometry.specs.Joins.{AreInRange}
 use Rattle.geometry.specs.Lists.{map_some}
 use Rattle.linework.specs.Linework.{linework}
 use Rattle.build_meaning.specs.Layers.{layers_of}
@@ -15,13 +13,13 @@ use Rattle.simplified_topology.specs.Assembled.{arcs_of_layers, own_refs}
 use Rattle.simplified_topology.specs.Protected.{greatest_ring, objects_spared, sparing}
 use Rattle.simplified_topology.specs.Simplified.{large_refs}
 use Rattle.simplified_topology.proofs.Assembled.{contents}
-use Rattle.topojson_types.specs.Topologies.{objects_lines_and_rings}
 use Rattle.topo_model.specs.Along.{Ways, large_along}
 use Rattle.topo_model.specs.Drafts.{objects_drafted}
 use Rattle.topo_model.specs.Drops.{objects_drops}
 use Rattle.topo_model.specs.Ways.{ways_of}
+use Rattle.topo_model.specs.ArcUses.{AllNameArcs}
 use Rattle.topo_model.proofs.Assembled.{many, retained_is}
-use Rattle.topo_model.proofs.AssembledSparing.{along_is, drops_are, is_assembled, ranged, removed_count_is}
+use Rattle.topo_model.proofs.AssembledSparing.{along_is, drops_are, is_assembled, indexed, removed_count_is}
 use Rattle.topo_model.proofs.Result as result
 use Rattle.topo_model.proofs.sparing.objects_and_arcs.Goals as goal
 
@@ -38,9 +36,9 @@ finish-requires c =
       limit = search rules;
       places = result.places_are (greatest_ring (arcs_of_layers d.layers)) r.kept c.args.ring_limit (untrimmed 0 0 d.layers) c.args.retained.items is valid;
       many = many r.kept c.args.ring_limit d.layers c.zero_law.ensures d.of_layers.sound c.args.retained.items r.picks r.through ∙ sym (ap length d.counts_are ∙ length-map (arcs_of_layers d.layers) length);
-      ranged = subst (λ os. AllByRecursion (λ b. AreInRange (length retained) b.1) (objects_lines_and_rings os))
+      indexed = subst (AllNameArcs (length retained))
           (sym (ap (large_along c.args.ring_limit retained ways) d.of_layers.drafted ∙ along_is r.kept c.args.ring_limit d.layers c.zero_law.ensures d.of_layers.sound retained r.picks ways are))
-          (ranged r.kept c.args.ring_limit d.layers c.zero_law.ensures d.of_layers.sound retained r.picks valid r.through);
+          (indexed r.kept c.args.ring_limit d.layers c.zero_law.ensures d.of_layers.sound retained r.picks valid r.through);
     }
 
 pub returns : goal.returns

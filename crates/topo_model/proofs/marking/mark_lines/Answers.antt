@@ -2,7 +2,7 @@ use Rattle.std.proofs.Common.{ap, ◌∙◌}
 use Rattle.topo_model.specs.Marks.{also_set, names_arc}
 use Rattle.topo_model.proofs.Marked.{begins, marks_more}
 use Rattle.topo_model.proofs.Marks.{all_marked}
-use Rattle.topo_model.proofs.arc_uses.mark_lines.Goals as goal
+use Rattle.topo_model.proofs.marking.mark_lines.Goals as goal
 
 pub lines-init : goal.lines-init
 lines-init c = begins names_arc c.args.used.now c.args.lines.now

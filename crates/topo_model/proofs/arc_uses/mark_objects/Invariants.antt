@@ -1,9 +1,0 @@
-use Rattle.std.proofs.Common.{◌≡◌, take}
-use Rattle.topo_model.specs.Marks.{also_set}
-use Rattle.topo_model.proofs.Marked.{any_of}
-use Rattle.topojson_types.specs.Topologies.{features_lines_and_rings, object_features}
-use Rattle.topo_model.specs.ArcUses.{any_uses}
-use Rattle.topo_model.proofs.arc_uses.mark_objects.Given as goal
-
-abbrev pub invariant-objects : goal.invariant-objects
-invariant-objects l = l.used ≡ also_set (any_of (λ o. any_uses (features_lines_and_rings (object_features o.1))) (take l.object-index l.objects)) 0 l.initial.used

@@ -4,7 +4,7 @@ use Rattle.std.specs.Prelude.{codes}
 use Rattle.json_value.specs.declared.json.Json.{Json}
 use Rattle.json_value.specs.declared.json.Json.TheVariants as j
 use Rattle.json_value.specs.Text.{json_text, escaped_byte}
-use Rattle.json_value.proofs.Texts.{text-object}
+use Rattle.json_value.proofs.Texts.{text-object, text-text}
 
 -- pairs of texts in a row, and what closes it
 abbrev pub in_row : List (List ℕ × List ℕ) → List ℕ → List ℕ
@@ -36,6 +36,19 @@ unfolding escaped_byte
 dropped-text layer feature path cause = text-object _ ∙ ap (λ z. codes "{" ++ z)
     (closed ((codes "\"layer\":", json_text layer) ∷ (codes ",\"feature\":", json_text feature)
     ∷ (codes ",\"path\":", json_text path) ∷ (codes ",\"cause\":", json_text cause) ∷ []) (codes "}"))
+
+-- the words for why a line or a ring isn't written, as JSON texts
+pub collapsed-text : json_text (j.Text (codes "collapsed")) ≡ codes "\"collapsed\""
+unfolding escaped_byte
+collapsed-text = text-text (codes "collapsed")
+
+pub small-text : json_text (j.Text (codes "small")) ≡ codes "\"small\""
+unfolding escaped_byte
+small-text = text-text (codes "small")
+
+pub outer-text : json_text (j.Text (codes "outer")) ≡ codes "\"outer\""
+unfolding escaped_byte
+outer-text = text-text (codes "outer")
 
 pub fault-text : (code name layer feature at sent : Json)
     → json_text (j.Object ((codes "code", code) ∷ (codes "name", name) ∷ (codes "layer", layer) ∷ (codes "feature", feature) ∷ (codes "at", at) ∷ (codes "sent", sent) ∷ []))

@@ -1,16 +1,28 @@
 // What was counted, as a JSON object.
-ghost use Rattle.std.specs.Prelude.{◌≡◌, ◌++◌};
+ghost use Rattle.std.specs.Prelude.{◌≡◌, ◌++◌, codes};
 ghost use Rattle.json_value.specs.Text.{json_text};
+ghost use Rattle.json_value.specs.declared.json.Json.TheVariants as j;
 ghost use Rattle.json_writer.specs.Standing.{Start};
+ghost use Rattle.reports.specs.Reports.{cause_text};
 ghost use Rattle.reports.specs.RunReports as spec;
 ghost use Rattle.reports.specs.Values.{number_or_null};
 
 use crate::report::Report;
-use crate::report_writer::cause_word;
-use crate::value_writer::{Numbers, put_null, put_number_member, put_string};
-use geojson_types::Dropped;
+use crate::value_writer::{Numbers, put_null, put_number_member};
+use geojson_types::{Cause, Dropped};
 use itoa::Buffer;
 use json_writer::{Out, PutValue, put_array};
+
+/// What ends a line or a ring that isn't written: why it isn't, and the brace.
+fn cause_ending(cause: Cause) -> &'static [u8]
+    ensures { result.now ≡ (codes ",\"cause\":" ++ json_text (j.Text (cause_text cause))) ++ codes "}" }
+{
+    match cause {
+        Cause::Collapsed => b",\"cause\":\"collapsed\"}",
+        Cause::Small => b",\"cause\":\"small\"}",
+        Cause::Outer => b",\"cause\":\"outer\"}",
+    }
+}
 
 /// Puts a line or a ring that isn't written.
 fn put_dropped<O: Out>(dropped: &Dropped, out: &mut O)
@@ -21,9 +33,7 @@ fn put_dropped<O: Out>(dropped: &Dropped, out: &mut O)
     put_number_member(b",\"feature\":", dropped.address.feature as u64, out);
     out.put(b",\"path\":");
     put_array::<Numbers, usize, O>(dropped.address.path.as_slice(), out);
-    out.put(b",\"cause\":");
-    put_string(cause_word(dropped.cause), out);
-    out.put(b"}");
+    out.put(cause_ending(dropped.cause));
 }
 
 // The way to write lines and rings that aren't written.

@@ -24,7 +24,7 @@ pub(crate) fn put_line<O: Out>(word: &str, number: u64, out: &mut O)
 }
 
 /// The word for why a line or a ring isn't written.
-pub(crate) fn cause_word(cause: Cause) -> &'static str
+fn cause_word(cause: Cause) -> &'static str
     ensures { result.now ≡ spec.cause_text cause }
 {
     match cause {

@@ -12,6 +12,4 @@ returns-clause-text g c =
     let s2 = next _ _ s1 c.put_number_member-2.ensures.text refl in
     let s3 = next _ _ s2 c.put.ensures.text refl in
     let s4 = next _ _ s3 (rw c.as_slice.ensures at c.put_array.ensures.text) refl in
-    let s5 = next _ _ s4 c.put-2.ensures.text refl in
-    let s6 = next _ _ s5 (rw c.cause_word.ensures at c.put_string.ensures.text) refl in
-    last s6 c.put-3.ensures.text
+    last s4 (rw c.cause_ending.ensures at c.put-2.ensures.text)

@@ -66,11 +66,26 @@ fn chosen(alloc: Global, threshold: u128) -> Result<String, AllocError> {
     )
 }
 
+/// The line that says of which arcs the share is that was asked for, where so many lines and rings of them aren't written.
+fn share_line(alloc: Global, dropped: usize) -> Result<String, AllocError> {
+    if dropped == 0 {
+        return Ok(String::new(alloc));
+    }
+    format!(in alloc;
+        "  the share is of the points of all arcs, before {dropped} lines and rings were left out\n"
+    )
+}
+
 /// How many positions of how many were kept, and, where some were removed, how many between the ends of arcs, which always stay; and which
-/// area was chosen, if one was.
+/// area was chosen, if one was, and of which arcs.
 pub fn built(alloc: Global, report: &Report) -> Result<String, AllocError> {
     let removed = report.removed;
-    let mut lines = kept_line(alloc, "positions of the arcs", report.kept, removed)?;
+    let mut lines = kept_line(
+        alloc,
+        "positions of the arcs that are written",
+        report.kept,
+        removed,
+    )?;
     if removed > 0 {
         let between = report.kept.saturating_sub(report.arcs.saturating_mul(2));
         let line = kept_line(alloc, "between their ends", between, removed)?;
@@ -78,6 +93,7 @@ pub fn built(alloc: Global, report: &Report) -> Result<String, AllocError> {
     }
     if let Some(threshold) = report.chosen {
         lines.push_str(chosen(alloc, threshold)?.as_str())?;
+        lines.push_str(share_line(alloc, report.dropped.len())?.as_str())?;
     }
     Ok(lines)
 }

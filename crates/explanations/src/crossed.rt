@@ -11,7 +11,10 @@ use std::alloc::{AllocError, Global};
 use topojson_types::Topology;
 
 /// So many pairs of segments are named at most.
-pub(crate) const MOST_NAMED: usize = 20;
+const MOST_NAMED: usize = 20;
+
+/// So many pairs are asked for: one more, which tells that there are others.
+pub(crate) const MOST_ASKED: usize = MOST_NAMED + 1;
 
 /// A segment, by its ends.
 type Ends = (Position, Position);
@@ -82,7 +85,7 @@ fn segment_text(
     }
 }
 
-/// A line for each of these pairs of segments that meet badly, of the topology's arcs of these positions.
+/// A line for each of these pairs of segments that meet badly, of the topology's arcs of these positions, and one where there are others.
 pub(crate) fn crossing_lines(
     alloc: Global,
     topology: &Topology,
@@ -91,7 +94,11 @@ pub(crate) fn crossing_lines(
 ) -> Result<String, AllocError> {
     let mut lines = String::new(alloc);
     let owners = owners_of(alloc, topology)?;
-    for crossing in crossings {
+    for (number, crossing) in crossings.iter().enumerate() {
+        if number == MOST_NAMED {
+            lines.push_str("  and others, which aren't named\n")?;
+            break;
+        }
         let first = segment_text(alloc, topology, arcs, owners.as_slice(), &crossing.first)?;
         let second = segment_text(alloc, topology, arcs, owners.as_slice(), &crossing.second)?;
         write!(lines, "  the segment {first} meets {second}\n")?;

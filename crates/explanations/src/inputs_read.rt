@@ -31,8 +31,12 @@ fn swapped_line(alloc: Global, place: &str, layer: &Layer) -> Result<String, All
     }
 }
 
-/// The coordinate reference systems of degrees that GeoJSON of 2008 names mostly: how their names end.
-const DEGREES: [&str; 4] = ["CRS84", "EPSG::4326", "EPSG:4326", "EPSG::4269"];
+/// The coordinate reference systems of degrees that layers of GeoJSON of 2008 mostly have: how their names end. By their numbers in the list of the
+/// EPSG they are WGS 84, ETRS89, NAD83, GDA94, GDA2020, CGCS2000, SIRGAS 2000, JGD2011 and NZGD2000.
+const DEGREES: [&str; 11] = [
+    "CRS84", ":4326", "/4326", ":4258", ":4269", ":4283", ":7844", ":4490", ":4674", ":6668",
+    ":4167",
+];
 
 /// The name that the member `crs` of GeoJSON of 2008 gives, of this value.
 fn crs_name(crs: &Json) -> Option<&str> {

@@ -1,6 +1,6 @@
 // What was seen of a run.
 use crate::contents::{step_line, topology_lines};
-use crate::crossed::{MOST_NAMED, crossing_lines};
+use crate::crossed::{MOST_ASKED, crossing_lines};
 use crate::escaping::quoted;
 use crate::inputs_read::InputLines;
 use crate::losses::{DropsLeft, add_losses};
@@ -129,7 +129,7 @@ impl Watch for Observed {
     }
 
     fn most_crossings(&self) -> usize {
-        if self.seen.is_some() { MOST_NAMED } else { 0 }
+        if self.seen.is_some() { MOST_ASKED } else { 0 }
     }
 
     fn crossed(

@@ -11,6 +11,12 @@ pub(crate) enum Slip {
     LastComma,
     Comment,
     SingleQuote,
+    /// `None`, `True` or `False`.
+    PythonWord,
+    /// A number that begins with its point.
+    FrontPoint,
+    /// The name of a first member without quotes.
+    BareName,
 }
 
 impl Slip {
@@ -22,6 +28,9 @@ impl Slip {
             Slip::LastComma => "the bracket comes after a comma",
             Slip::Comment => "a comment, which JSON has none of",
             Slip::SingleQuote => "a single quote, where JSON has double ones",
+            Slip::PythonWord => "a word of Python, which JSON has not",
+            Slip::FrontPoint => "a number that begins with a point",
+            Slip::BareName => "a name without quotes",
         }
     }
 
@@ -36,6 +45,11 @@ impl Slip {
             Slip::SingleQuote => {
                 "  write texts and names in double quotes, as json.dumps of Python does\n"
             }
+            Slip::PythonWord => {
+                "  write null, true and false for None, True and False, as json.dumps of Python does\n"
+            }
+            Slip::FrontPoint => "  write a zero in front of the point\n",
+            Slip::BareName => "  write names in double quotes\n",
         }
     }
 }
@@ -63,14 +77,22 @@ fn without_blanks(bytes: &[u8]) -> &[u8] {
     rest
 }
 
-/// Whether they are NaN, of which reading takes an `n` at its front for that of null.
+/// Whether they are NaN, as programs write it. Reading takes an `n` at its front for that of null.
 fn is_nan(before: &[u8], rest: &[u8]) -> bool {
-    begins(b"NaN", rest) || (matches!(before, [.., b'n']) && begins(b"an", rest))
+    begins(b"NaN", rest)
+        || begins(b"NAN", rest)
+        || begins(b"nan", rest)
+        || (matches!(before, [.., b'n']) && begins(b"an", rest))
 }
 
 /// Whether they are an infinity, as programs write it.
 fn is_infinity(rest: &[u8]) -> bool {
-    begins(b"Inf", rest) || begins(b"inf", rest)
+    begins(b"Inf", rest) || begins(b"inf", rest) || begins(b"INF", rest)
+}
+
+/// Whether they are a word that Python prints for what JSON has, too.
+fn is_python_word(rest: &[u8]) -> bool {
+    begins(b"None", rest) || begins(b"True", rest) || begins(b"False", rest)
 }
 
 /// What stands at the byte of this number, where reading stops.
@@ -83,11 +105,19 @@ pub(crate) fn slip_at(bytes: &[u8], at: usize) -> Option<Slip> {
     if is_infinity(rest) {
         return Some(Slip::Infinity);
     }
+    if is_python_word(rest) {
+        return Some(Slip::PythonWord);
+    }
     match rest {
         [b'\'', ..] => Some(Slip::SingleQuote),
-        [b'/', b'/' | b'*', ..] => Some(Slip::Comment),
+        [b'#', ..] | [b'/', b'/' | b'*', ..] => Some(Slip::Comment),
+        [b'.', b'0'..=b'9', ..] => Some(Slip::FrontPoint),
         [b']' | b'}', ..] => match without_blanks(before) {
             [.., b','] => Some(Slip::LastComma),
+            _ => None,
+        },
+        [b'a'..=b'z' | b'A'..=b'Z' | b'_', ..] => match without_blanks(before) {
+            [.., b'{'] => Some(Slip::BareName),
             _ => None,
         },
         _ => None,

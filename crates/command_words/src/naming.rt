@@ -29,6 +29,17 @@ fn suggested_name(path: &str) -> &str {
     }
 }
 
+/// Whether shells take the letter as it is.
+fn is_bare(letter: char) -> bool {
+    letter.is_ascii_alphanumeric() || "_-./=+,:@%".contains(letter)
+}
+
+/// Whether the word is a number, as other programs take one after an option of theirs.
+fn is_number(word: &str) -> bool {
+    matches!(word.as_bytes(), [b'0'..=b'9', ..])
+        && word.chars().all(|letter| letter.is_ascii_digit() || ".eE+-".contains(letter))
+}
+
 /// How the layer of a word is named that has no `=`, as a line, where that is asked and its path suggests a name.
 pub(crate) fn naming(alloc: Global, word: &str, is_asked: bool) -> Result<String, AllocError>
     ensures { IfOk result (λ t. IsAdvice is_asked (string_bytes t)) }
@@ -37,8 +48,11 @@ pub(crate) fn naming(alloc: Global, word: &str, is_asked: bool) -> Result<String
         return Ok(String::new(alloc));
     }
     let name = suggested_name(word);
-    if name.is_empty() || !word.chars().all(is_shown) {
+    if name.is_empty() || is_number(word) || !word.chars().all(is_shown) {
         return Ok(String::new(alloc));
     }
-    format!(in alloc; "  name it: {name}={word}\n")
+    if word.chars().all(is_bare) || word.contains('\'') {
+        return format!(in alloc; "  name it: {name}={word}\n");
+    }
+    format!(in alloc; "  name it: '{name}={word}'\n")
 }

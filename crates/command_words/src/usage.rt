@@ -52,7 +52,7 @@ pub(crate) const EXPLAIN: &str = "explain";
 pub(crate) const QUIET: &str = "quiet";
 
 /// The version of the program.
-const VERSION: &str = "1.6.0";
+const VERSION: &str = "1.6.1";
 
 const PROGRAM_HELP: Help = Help {
     about: "Build TopoJSON topologies from GeoJSON files, simplify them, and decode them again",
@@ -152,8 +152,8 @@ const NO_CROSSINGS_LONG_HELP: &str =
     "Of the points that '--min-area' removes leave those where lines would then cross, lie on
 one another, or touch but at an end of both. A point that is left so goes later, once
 what holds it is gone. Where no lines crossed before, a ring that encloses something
-stays, as a triangle at least: small islands go by '--min-ring-area'. Lines that crossed
-before go on crossing: nothing is repaired";
+stays, as a triangle at least, and so do slivers between two borders: small islands go
+by '--min-ring-area'. Lines that crossed before go on crossing: nothing is repaired";
 
 const KEEP_SHAPES_HELP: &str = "Keep the largest outer ring of each feature";
 

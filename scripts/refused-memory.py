@@ -228,8 +228,8 @@ OUTPUT, REPORT = "output", "run.json"
 SMALL = ("0 0 1 small", "0 1 0 small")
 BUILD, FILE = "B7", "E6"
 # Lines that explain a run, some or all of which aren't there where memory for them is refused.
-KEPT_ALL = "kept 2 of 2 positions of the arcs, 100.0 %"
-KEPT_RING = "kept 4 of 4 positions of the arcs, 100.0 %"
+KEPT_ALL = "kept 2 of 2 positions of the arcs that are written, 100.0 %"
+KEPT_RING = "kept 4 of 4 positions of the arcs that are written, 100.0 %"
 CUT_SHORT = ('layer 0 is "a", the file cut.json', "line 1, column 41 (byte 40): the text ends too early")
 LINE_COUNTED = '{"rounded":0,"extra":0,"empty":0,"dropped":[],"lost":0,"arcs":1,"kept":2,"removed":0,"chosen":null}'
 LINE_LAYER = layer(("LineString", "[[0,0],[1.5,0.25]]"))

@@ -11,7 +11,7 @@ of its last section is tried in a browser by scripts/web-example.py, which needs
 
 A block `KIND file NAME` of the guide is a file. A block `console` has commands for bash, each after `$ `, with what each writes below it,
 standard output and standard error as they come. They run one after another in a folder with `countries.shp` and the files of examples/;
-`mapchain` and `picture.py` are on the path. What they leave in files `guide-*.svg` are the pictures. A table between a line
+`mapchain` and `mapchain-picture` are on the path. What they leave in files `guide-*.svg` are the pictures. A table between a line
 `<!-- made: NAME -->` and a line `<!-- end -->` is computed here. The status is 0 where all is as it stands.
 """
 import argparse
@@ -156,7 +156,7 @@ def main():
         names.mkdir()
         folder.mkdir()
         (names / "mapchain").symlink_to(Path(program).resolve())
-        (names / "picture.py").symlink_to(ROOT / "scripts" / "picture.py")
+        (names / "mapchain-picture").symlink_to(ROOT / "scripts" / "picture.py")
         make_shapefile(folder)
         for path in (ROOT / "examples").glob("*.json"):
             shutil.copy(path, folder)

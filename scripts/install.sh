@@ -10,7 +10,7 @@
 #
 #     bin/mapchain
 #     bin/mapchain-picture                            scripts/picture.py, which takes Python 3
-#     share/doc/mapchain/                             README.md, CHANGELOG.md, and docs/ with the guide and its pictures
+#     share/doc/mapchain/                             README.md and its like, docs/ with the guide and its pictures, and examples/
 #     share/man/man1/mapchain.1
 #     share/bash-completion/completions/mapchain
 #     share/zsh/site-functions/_mapchain
@@ -38,10 +38,8 @@ put() {
 put_all() {
     put 755 "$program" bin/mapchain
     put 755 "$root/scripts/picture.py" bin/mapchain-picture
-    put 644 "$root/README.md" "$documents/README.md"
-    put 644 "$root/CHANGELOG.md" "$documents/CHANGELOG.md"
-    for file in "$root"/docs/*; do
-        put 644 "$file" "$documents/docs/$(basename "$file")"
+    for file in "$root"/*.md "$root"/docs/* "$root"/examples/*.* "$root"/examples/web/*; do
+        put 644 "$file" "$documents/${file#"$root"/}"
     done
     put 644 "$root/docs/mapchain.1" "$man"
     put 644 "$root/completions/mapchain.bash" "$bash"

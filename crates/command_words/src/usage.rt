@@ -52,7 +52,7 @@ pub(crate) const EXPLAIN: &str = "explain";
 pub(crate) const QUIET: &str = "quiet";
 
 /// The version of the program.
-const VERSION: &str = "1.6.1";
+const VERSION: &str = "1.6.2";
 
 const PROGRAM_HELP: Help = Help {
     about: "Build TopoJSON topologies from GeoJSON files, simplify them, and decode them again",
@@ -185,11 +185,11 @@ const EXPLAIN_HELP: &str = "Explain in words what is wrong, or what was left out
 
 const EXPLAIN_LONG_HELP: &str =
     "Say in words, on standard error below the line of a fault, what is wrong and where, as
-far as that can be found out. Where all is done, say below the report how much was kept,
-which area '--keep' chose, which features lost all of their geometry, and what was left
-out of the layers (ten lines of a kind, and how many more); of 'mapchain stat', what is
-in the topology. A file that is refused is read once more for it; where all is done,
-none is";
+far as that can be found out. Where all is done, say below the report, if there is one,
+how much was kept, which area was chosen for a share, which features lost all of their
+geometry, and what was left out of the layers (ten lines of a kind, and how many more);
+of 'mapchain stat', what is in the topology. A file that is refused is read once more
+for it; where all is done, none is";
 
 const QUIET_HELP: &str = "Leave out the report, where all is done";
 

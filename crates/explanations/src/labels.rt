@@ -61,35 +61,54 @@ fn name_among(properties: &[(OwnText, Json)]) -> Option<(&str, &str)> {
     best
 }
 
-/// The same among the properties of this text; nothing for want of memory, too.
+/// The best text that was found among properties so far, after its own name, and how far behind the best it is.
+#[derive(Drop)]
+struct Best<'a> {
+    found: Option<(Name<'a>, Name<'a>)>,
+    rank: usize,
+}
+
+impl<'a> Best<'a> {
+    /// With the property of this name, which is this text.
+    fn see(&mut self, name: Name<'a>, text: Name<'a>) {
+        let rank = rank(name.as_str(), text.as_str());
+        if rank < self.rank {
+            self.found = Some((name, text));
+            self.rank = rank;
+        }
+    }
+
+    /// What follows the property at the front, which is seen; nothing of what is none, or for want of memory.
+    fn pass(&mut self, alloc: Global, bytes: &'a [u8]) -> Option<&'a [u8]> {
+        let (name, value) = member_at(alloc, bytes)?;
+        match string_at(alloc, value).ok()? {
+            Some((text, after)) => {
+                self.see(name, text);
+                Some(after)
+            }
+            None => rest_after(alloc, value),
+        }
+    }
+}
+
+/// The same among the properties of this text, as far as memory lasts.
 fn name_in<'a>(alloc: Global, text: &'a [u8]) -> Option<(Name<'a>, Name<'a>)> {
-    let mut best = None;
-    let mut best_rank = NAMES.len() + 1;
+    let mut best = Best {
+        found: None,
+        rank: NAMES.len() + 1,
+    };
     let mut rest = skip(after_byte(b'{', text)?);
     for _ in 0..text.len() {
-        let Some((name, value)) = member_at(alloc, rest) else {
+        let after = best.pass(alloc, rest);
+        if best.rank == 0 {
             break;
-        };
-        let after = match string_at(alloc, value).ok()? {
-            Some((text, after)) => {
-                let rank = rank(name.as_str(), text.as_str());
-                if rank == 0 {
-                    return Some((name, text));
-                }
-                if rank < best_rank {
-                    best = Some((name, text));
-                    best_rank = rank;
-                }
-                after
-            }
-            None => rest_after(alloc, value)?,
-        };
-        match next_member(after) {
+        }
+        match after.and_then(next_member) {
             Some(more) => rest = more,
             None => break,
         }
     }
-    best
+    best.found
 }
 
 /// Adds what is found among properties.

@@ -20,6 +20,7 @@ mod json_faults;
 mod labels;
 mod layer_faults;
 mod losses;
+mod member_names;
 mod members;
 mod observed;
 mod options;

@@ -39,11 +39,15 @@ fn up_to_bracket(bytes: &[u8]) -> Option<&[u8]> {
     None
 }
 
-/// The name of the member at the front, where it stands there as it is, and where its value begins.
-pub(crate) fn plain_member(bytes: &[u8]) -> Option<(&[u8], &[u8])> {
-    let (name, name_end) = plain_at(after_byte(b'"', bytes)?)?;
-    let value = after_byte(b':', skip(name_end))?;
-    Some((name, skip(value)))
+/// Whether a name stands at the front as it is.
+fn is_plain_name(bytes: &[u8]) -> bool {
+    let Some(inside) = after_byte(b'"', bytes) else {
+        return false;
+    };
+    match plain_at(inside) {
+        Some((_, name_end)) => after_byte(b':', skip(name_end)).is_some(),
+        None => false,
+    }
 }
 
 /// What follows the array that a member has at the front, where there is neither a text nor an object in it, as in most coordinates. That is
@@ -56,15 +60,18 @@ fn after_plain_array(bytes: &[u8]) -> Option<&[u8]> {
     if before_brace.len() < before_quote.len() {
         return Some(rest);
     }
-    plain_member(next_member(rest)?)?;
-    Some(rest)
+    if is_plain_name(next_member(rest)?) {
+        Some(rest)
+    } else {
+        None
+    }
 }
 
-/// What follows the number or the word at the front.
+/// What follows the number or the word at the front: what ends one.
 fn after_scalar(bytes: &[u8]) -> &[u8] {
     let mut rest = bytes;
     while let [first, more @ ..] = rest {
-        if !first.is_ascii_alphanumeric() && !matches!(first, b'.' | b'-' | b'+') {
+        if matches!(first, b',' | b'}' | b']' | b' ' | b'\t' | b'\n' | b'\r') {
             break;
         }
         rest = more;
@@ -72,19 +79,31 @@ fn after_scalar(bytes: &[u8]) -> &[u8] {
     rest
 }
 
+/// What follows the array at the front.
+fn after_array(bytes: &[u8]) -> Option<&[u8]> {
+    match after_plain_array(bytes) {
+        Some(rest) => Some(rest),
+        None => leap(bytes),
+    }
+}
+
+/// What follows the text at the front; nothing for want of memory.
+#[inline(always)]
+fn after_text(alloc: Global, bytes: &[u8]) -> Option<&[u8]> {
+    match plain_at(after_byte(b'"', bytes)?) {
+        Some((_, rest)) => Some(rest),
+        None => after_value(alloc, TOPOLOGY_DEPTH, bytes).ok(),
+    }
+}
+
 /// What follows the value of a member at the front; nothing of what is none, or for want of memory. What was taken as a value is passed over
 /// by its marks alone.
+#[inline(always)]
 pub(crate) fn rest_after(alloc: Global, bytes: &[u8]) -> Option<&[u8]> {
     match kind_at(bytes) {
         Kind::Object => leap(bytes),
-        Kind::Array => match after_plain_array(bytes) {
-            Some(rest) => Some(rest),
-            None => leap(bytes),
-        },
-        Kind::Text => match plain_at(after_byte(b'"', bytes)?) {
-            Some((_, rest)) => Some(rest),
-            None => after_value(alloc, TOPOLOGY_DEPTH, bytes).ok(),
-        },
+        Kind::Array => after_array(bytes),
+        Kind::Text => after_text(alloc, bytes),
         Kind::Null | Kind::Bool | Kind::Number => Some(after_scalar(bytes)),
     }
 }

@@ -9,6 +9,7 @@ use guarded_reduction::Crossing;
 use inputs::Watch;
 use json_value::Items;
 use std::alloc::{AllocError, Global};
+use std::mem;
 use topojson_types::Topology;
 
 /// What is said of the inputs, and of what was made of them.
@@ -20,9 +21,18 @@ struct Seen {
     layers: usize,
     /// All lines, once the topology is written or counted.
     lines: String,
+    /// Whether memory was refused for some of it.
+    is_short: bool,
 }
 
 impl Seen {
+    /// Notes whether memory was refused.
+    fn note(&mut self, added: Result<(), AllocError>) {
+        if added.is_err() {
+            self.is_short = true;
+        }
+    }
+
     fn add_layer(&mut self, alloc: Global, bytes: &[u8], layer: &Layer) -> Result<(), AllocError> {
         self.inputs.add_layer(alloc, self.layers, bytes, layer)?;
         self.layers = self.layers.saturating_add(1);
@@ -65,12 +75,38 @@ impl Seen {
         }
         self.inputs.add_to(&mut self.lines)
     }
+
+    /// Adds what is in the topology that is counted.
+    fn add_counted(&mut self, alloc: Global, topology: &Topology) -> Result<(), AllocError> {
+        let lines = topology_lines(alloc, topology)?;
+        self.lines.push_str(lines.as_str())
+    }
+
+    /// Adds where these pairs of segments of the topology's arcs meet badly.
+    fn add_crossed(
+        &mut self,
+        alloc: Global,
+        topology: &Topology,
+        arcs: &[Items<Position>],
+        crossings: &[Crossing],
+    ) -> Result<(), AllocError> {
+        let lines = crossing_lines(alloc, topology, arcs, crossings)?;
+        self.lines.push_str(lines.as_str())
+    }
+
+    /// Gives its lines away.
+    fn take_lines(&mut self, alloc: Global) -> Result<String, AllocError> {
+        if self.is_short {
+            return Err(AllocError);
+        }
+        Ok(mem::replace(&mut self.lines, String::new(alloc)))
+    }
 }
 
 /// What was seen of a run, for the explanation of what was built, simplified or counted: nothing of it is read again.
 #[derive(Drop)]
 pub struct Observed {
-    /// Nothing where nobody asks for it, or for want of memory.
+    /// Nothing where nobody asks for it.
     seen: Option<Seen>,
 }
 
@@ -85,14 +121,16 @@ impl Observed {
                 inputs: InputLines::none(alloc),
                 layers: 0,
                 lines: String::new(alloc),
+                is_short: false,
             }),
         }
     }
 
-    /// What became of the features, and what is said of the inputs; or what is in the topology that was counted.
-    pub fn lines(&self) -> Result<&str, AllocError> {
-        match &self.seen {
-            Some(seen) => Ok(seen.lines.as_str()),
+    /// What became of the features, and what is said of the inputs; or what is in the topology that was counted. They are given away: nothing
+    /// is left of them here.
+    pub fn take_lines(&mut self, alloc: Global) -> Result<String, AllocError> {
+        match &mut self.seen {
+            Some(seen) => seen.take_lines(alloc),
             None => Err(AllocError),
         }
     }
@@ -100,18 +138,16 @@ impl Observed {
 
 impl Watch for Observed {
     fn layer_read(&mut self, alloc: Global, bytes: &[u8], layer: &Layer) {
-        if let Some(mut seen) = self.seen.take() {
-            if seen.add_layer(alloc, bytes, layer).is_ok() {
-                self.seen = Some(seen);
-            }
+        if let Some(seen) = &mut self.seen {
+            let added = seen.add_layer(alloc, bytes, layer);
+            seen.note(added);
         }
     }
 
     fn file_read(&mut self, alloc: Global, bytes: &[u8]) {
-        if let Some(mut seen) = self.seen.take() {
-            if seen.inputs.add_file(alloc, bytes).is_ok() {
-                self.seen = Some(seen);
-            }
+        if let Some(seen) = &mut self.seen {
+            let added = seen.inputs.add_file(alloc, bytes);
+            seen.note(added);
         }
     }
 
@@ -120,11 +156,9 @@ impl Watch for Observed {
     }
 
     fn counted(&mut self, alloc: Global, topology: &Topology) {
-        if let Some(mut seen) = self.seen.take() {
-            if let Ok(lines) = topology_lines(alloc, topology) {
-                seen.lines = lines;
-                self.seen = Some(seen);
-            }
+        if let Some(seen) = &mut self.seen {
+            let added = seen.add_counted(alloc, topology);
+            seen.note(added);
         }
     }
 
@@ -139,28 +173,23 @@ impl Watch for Observed {
         arcs: &[Items<Position>],
         crossings: &[Crossing],
     ) {
-        if let Some(mut seen) = self.seen.take() {
-            if let Ok(lines) = crossing_lines(alloc, topology, arcs, crossings) {
-                if seen.lines.push_str(lines.as_str()).is_ok() {
-                    self.seen = Some(seen);
-                }
-            }
+        if let Some(seen) = &mut self.seen {
+            let added = seen.add_crossed(alloc, topology, arcs, crossings);
+            seen.note(added);
         }
     }
 
     fn built(&mut self, alloc: Global, topology: &Topology, dropped: &[Dropped]) {
-        if let Some(mut seen) = self.seen.take() {
-            if seen.add_built(alloc, topology, dropped).is_ok() {
-                self.seen = Some(seen);
-            }
+        if let Some(seen) = &mut self.seen {
+            let added = seen.add_built(alloc, topology, dropped);
+            seen.note(added);
         }
     }
 
     fn simplified(&mut self, alloc: Global, topology: &Topology, dropped: &[Dropped]) {
-        if let Some(mut seen) = self.seen.take() {
-            if seen.add_simplified(alloc, topology, dropped).is_ok() {
-                self.seen = Some(seen);
-            }
+        if let Some(seen) = &mut self.seen {
+            let added = seen.add_simplified(alloc, topology, dropped);
+            seen.note(added);
         }
     }
 }

@@ -1,8 +1,9 @@
 // Members of layers and topologies that aren't read, counted in the bytes of an input that was taken.
-use crate::members::{member_at, next_member, plain_member, rest_after};
+use crate::member_names::{MemberName, named_member};
+use crate::members::{next_member, rest_after};
 use crate::trees::after_mark;
 use geojson_meaning::{CoordinatesType, GeoJsonType, GeometryType, geojson_type};
-use json_cursor::{after_byte, named_at, string_at};
+use json_cursor::{after_byte, string_at};
 use json_reading::{TOPOLOGY_DEPTH, skip};
 use std::alloc::{AllocError, Global};
 
@@ -36,12 +37,20 @@ impl Part {
         }
     }
 
-    /// Whether its type says which members of it are read.
-    fn is_typed(self) -> bool {
-        matches!(
-            self,
-            Part::Layer | Part::Geometry | Part::Object | Part::ObjectFeature
-        )
+    /// Whether its type says if a member of this name is read in it.
+    #[inline(always)]
+    fn asks_type(self, name: MemberName) -> bool {
+        match self {
+            Part::Layer | Part::Object => true,
+            Part::Geometry | Part::ObjectFeature => matches!(
+                name,
+                MemberName::Type
+                    | MemberName::Arcs
+                    | MemberName::Coordinates
+                    | MemberName::Geometries
+            ),
+            _ => false,
+        }
     }
 
     /// What the elements of a list of such are.
@@ -64,19 +73,50 @@ enum Member {
     Holds(Part),
 }
 
-/// Whether it is this name.
-fn is(known: &str, name: &[u8]) -> bool {
-    known.as_bytes() == name
+/// A member that is read, or not.
+fn read_if(is_read: bool) -> Member {
+    if is_read {
+        Member::Read
+    } else {
+        Member::Unread
+    }
 }
 
-/// A member of this name, which is read if that is one of these.
-fn read_if(name: &[u8], names: &[&str]) -> Member {
-    for known in names {
-        if is(known, name) {
-            return Member::Read;
-        }
+/// The member of this name of a FeatureCollection.
+fn layer_member(name: MemberName) -> Member {
+    match name {
+        MemberName::Features => Member::Holds(Part::Features),
+        MemberName::Type => Member::Read,
+        _ => Member::Unread,
     }
-    Member::Unread
+}
+
+/// The member of this name of a Feature.
+fn feature_member(name: MemberName) -> Member {
+    match name {
+        MemberName::Geometry => Member::Holds(Part::Geometry),
+        MemberName::Type | MemberName::Id | MemberName::Properties => Member::Read,
+        _ => Member::Unread,
+    }
+}
+
+/// The member of this name of a topology.
+fn topology_member(name: MemberName) -> Member {
+    match name {
+        MemberName::Transform => Member::Holds(Part::Transform),
+        MemberName::Objects => Member::Holds(Part::Objects),
+        MemberName::Type | MemberName::Bbox | MemberName::Arcs => Member::Read,
+        _ => Member::Unread,
+    }
+}
+
+/// The member of this name of an object that is a collection.
+fn object_member(name: MemberName) -> Member {
+    match name {
+        MemberName::Geometries => Member::Holds(Part::ObjectFeatures),
+        MemberName::Type => Member::Read,
+        _ => Member::Unread,
+    }
 }
 
 /// What the members of an input that aren't read are.
@@ -127,56 +167,62 @@ impl<'a> Unread<'a> {
     }
 
     /// With the member of this name of a part, with what stands from its value on.
-    fn count(&mut self, part: Part, name: &[u8], value: &'a [u8]) {
-        if is("bbox", name) {
-            self.bbox = self.bbox.saturating_add(1);
-        } else if is("crs", name) {
-            self.crs = self.crs.saturating_add(1);
-            if part == Part::Layer {
-                self.layer_crs = Some(value);
+    fn count(&mut self, part: Part, name: MemberName, value: &'a [u8]) {
+        match name {
+            MemberName::Bbox => self.bbox = self.bbox.saturating_add(1),
+            MemberName::Crs => {
+                self.crs = self.crs.saturating_add(1);
+                if part == Part::Layer {
+                    self.layer_crs = Some(value);
+                }
             }
-        } else {
-            self.others = self.others.saturating_add(1);
+            _ => self.others = self.others.saturating_add(1),
         }
     }
 
-    /// The name of the member that a geometry of this type is made of.
-    fn coordinates_name(&self, coordinates: CoordinatesType) -> &'static str {
-        match coordinates {
-            CoordinatesType::Point | CoordinatesType::MultiPoint => "coordinates",
-            _ if self.is_topology => "arcs",
-            _ => "coordinates",
+    /// Whether a geometry with these coordinates is made of the member of this name.
+    fn is_made_of(&self, coordinates: CoordinatesType, name: MemberName) -> bool {
+        let is_of_arcs = match coordinates {
+            CoordinatesType::Point | CoordinatesType::MultiPoint => false,
+            _ => self.is_topology,
+        };
+        if is_of_arcs {
+            matches!(name, MemberName::Arcs)
+        } else {
+            matches!(name, MemberName::Coordinates)
         }
     }
 
     /// The member of this name of a geometry of this type.
-    fn geometry_member(&self, of_type: Option<GeoJsonType>, name: &[u8]) -> Member {
+    fn geometry_member(&self, of_type: Option<GeoJsonType>, name: MemberName) -> Member {
+        if matches!(name, MemberName::Type) {
+            return Member::Read;
+        }
         match of_type {
-            Some(GeoJsonType::Geometry(GeometryType::Collection)) if is("geometries", name) => {
-                Member::Holds(Part::Geometries)
-            }
+            Some(GeoJsonType::Geometry(GeometryType::Collection)) => match name {
+                MemberName::Geometries => Member::Holds(Part::Geometries),
+                _ => Member::Unread,
+            },
             Some(GeoJsonType::Geometry(GeometryType::Coordinates(coordinates))) => {
-                read_if(name, &["type", self.coordinates_name(coordinates)])
+                read_if(self.is_made_of(coordinates, name))
             }
-            _ => read_if(name, &["type"]),
+            _ => Member::Unread,
         }
     }
 
     /// The member of this name of such a part, whose own type is this, if it has one.
-    fn member(&self, part: Part, of_type: Option<GeoJsonType>, name: &[u8]) -> Member {
+    #[inline(always)]
+    fn member(&self, part: Part, of_type: Option<GeoJsonType>, name: MemberName) -> Member {
         match part.as_typed(of_type) {
-            Part::Layer if is("features", name) => Member::Holds(Part::Features),
-            Part::Layer => read_if(name, &["type"]),
-            Part::Feature if is("geometry", name) => Member::Holds(Part::Geometry),
-            Part::Feature => read_if(name, &["type", "id", "properties"]),
-            Part::Topology if is("transform", name) => Member::Holds(Part::Transform),
-            Part::Topology if is("objects", name) => Member::Holds(Part::Objects),
-            Part::Topology => read_if(name, &["type", "bbox", "arcs"]),
-            Part::Transform => read_if(name, &["scale", "translate"]),
+            Part::Layer => layer_member(name),
+            Part::Feature => feature_member(name),
+            Part::Topology => topology_member(name),
+            Part::Transform => read_if(matches!(name, MemberName::Scale | MemberName::Translate)),
             Part::Objects => Member::Holds(Part::Object),
-            Part::Object if is("geometries", name) => Member::Holds(Part::ObjectFeatures),
-            Part::Object => read_if(name, &["type"]),
-            Part::ObjectFeature if is("id", name) || is("properties", name) => Member::Read,
+            Part::Object => object_member(name),
+            Part::ObjectFeature if matches!(name, MemberName::Id | MemberName::Properties) => {
+                Member::Read
+            }
             _ => self.geometry_member(of_type, name),
         }
     }
@@ -204,7 +250,7 @@ impl<'a> Unread<'a> {
         }
     }
 
-    /// What follows the members of such a part.
+    /// What follows the members of such a part. Where one of them hangs on its type, and comes first, that is looked for behind it.
     #[cycle(passing)]
     fn pass_members(
         &mut self,
@@ -216,23 +262,16 @@ impl<'a> Unread<'a> {
         if let Some(rest) = after_byte(b'}', inside) {
             return Some(rest);
         }
-        let of_type = if part.is_typed() {
-            type_among(alloc, inside)?
-        } else {
-            None
-        };
+        let mut is_typed = false;
+        let mut of_type = None;
         let mut rest = inside;
         for _ in 0..inside.len() {
-            let after = match plain_member(rest) {
-                Some((name, value)) => {
-                    self.pass_member(alloc, part, of_type, depth_left, name, value)?
-                }
-                None => {
-                    let (name, value) = member_at(alloc, rest)?;
-                    let name = name.as_str().as_bytes();
-                    self.pass_member(alloc, part, of_type, depth_left, name, value)?
-                }
-            };
+            let (name, value) = named_member(alloc, rest)?;
+            if !is_typed && part.asks_type(name) {
+                of_type = type_among(alloc, name, value)?;
+                is_typed = true;
+            }
+            let after = self.pass_member(alloc, part, of_type, depth_left, name, value)?;
             match next_member(after) {
                 Some(more) => rest = more,
                 None => return after_byte(b'}', skip(after)),
@@ -243,23 +282,22 @@ impl<'a> Unread<'a> {
 
     /// What follows the member of this name of such a part, whose own type is this, if it has one.
     #[cycle(passing)]
+    #[inline(always)]
     fn pass_member(
         &mut self,
         alloc: Global,
         part: Part,
         of_type: Option<GeoJsonType>,
         depth_left: u32,
-        name: &[u8],
+        name: MemberName,
         value: &'a [u8],
     ) -> Option<&'a [u8]> {
         match self.member(part, of_type, name) {
-            Member::Holds(held) => self.pass(alloc, held, depth_left, value),
-            Member::Read => rest_after(alloc, value),
-            Member::Unread => {
-                self.count(part, name, value);
-                rest_after(alloc, value)
-            }
+            Member::Holds(held) => return self.pass(alloc, held, depth_left, value),
+            Member::Unread => self.count(part, name, value),
+            Member::Read => {}
         }
+        rest_after(alloc, value)
     }
 
     /// What follows the elements of a list of such parts.
@@ -286,24 +324,27 @@ impl<'a> Unread<'a> {
     }
 }
 
-/// The type that the first of these members which is `type` has, if it is one of GeoJSON's (RFC 7946, section 1.4); nothing for want of memory.
-fn type_among(alloc: Global, inside: &[u8]) -> Option<Option<GeoJsonType>> {
-    let mut rest = inside;
-    for _ in 0..inside.len() {
-        let (name, value) = match named_at("type", rest) {
-            Some(found) => found,
-            None => member_at(alloc, rest)?,
+/// The type that this value is, if it is one of GeoJSON's (RFC 7946, section 1.4); nothing for want of memory.
+fn type_at(alloc: Global, value: &[u8]) -> Option<Option<GeoJsonType>> {
+    match string_at(alloc, value).ok()? {
+        Some((text, _)) => Some(geojson_type(text.as_str())),
+        None => Some(None),
+    }
+}
+
+/// The type that the first of some members has which is `type`: of the one of this name and value, and of those after it. Nothing for want of
+/// memory.
+fn type_among(alloc: Global, first: MemberName, value: &[u8]) -> Option<Option<GeoJsonType>> {
+    let mut name = first;
+    let mut here = value;
+    for _ in 0..value.len() {
+        if matches!(name, MemberName::Type) {
+            return type_at(alloc, here);
+        }
+        let Some(more) = next_member(rest_after(alloc, here)?) else {
+            return Some(None);
         };
-        if name.is("type") {
-            return match string_at(alloc, value).ok()? {
-                Some((text, _)) => Some(geojson_type(text.as_str())),
-                None => Some(None),
-            };
-        }
-        match next_member(rest_after(alloc, value)?) {
-            Some(more) => rest = more,
-            None => return Some(None),
-        }
+        (name, here) = named_member(alloc, more)?;
     }
     Some(None)
 }

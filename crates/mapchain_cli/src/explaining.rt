@@ -98,13 +98,12 @@ fn explain_file<F: Files>(
 fn explain_done(
     alloc: Global,
     report: &Option<Report>,
-    observed: &Observed,
+    observed: &mut Observed,
 ) -> Result<String, AllocError> {
-    let mut text = match report {
-        Some(report) => built(alloc, report)?,
-        None => String::new(alloc),
-    };
-    text.push_str(observed.lines()?)?;
+    let mut text = observed.take_lines(alloc)?;
+    if let Some(report) = report {
+        text.insert_str(0, built(alloc, report)?.as_str())?;
+    }
     Ok(text)
 }
 
@@ -199,7 +198,7 @@ fn explain<F: Files>(
     alloc: Global,
     order: &Order<'_>,
     outcome: &Result<Option<Report>, Ending>,
-    observed: &Observed,
+    observed: &mut Observed,
     files: &mut F,
 ) -> Result<String, AllocError>
     ensures reads { OnlyReads (used (F.state files.old) (F.state files.new)) }
@@ -218,7 +217,7 @@ pub(crate) fn explanation_of<F: Files>(
     alloc: Global,
     order: &Order<'_>,
     outcome: &Result<Option<Report>, Ending>,
-    observed: &Observed,
+    observed: &mut Observed,
     files: &mut F,
 ) -> String
     ensures reads { OnlyReads (used (F.state files.old) (F.state files.new)) }

@@ -136,7 +136,7 @@ pub(crate) fn follow<F: Files, W: Drain>(
     alloc: Global,
     order: &Order<'_>,
     outcome: &Result<Option<Report>, Ending>,
-    observed: &Observed,
+    observed: &mut Observed,
     files: &mut F,
     err: &mut Sink<W>,
 ) -> u8

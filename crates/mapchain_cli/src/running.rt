@@ -215,7 +215,7 @@ fn carry_out<F: Files, V: Drain, W: Drain>(
         out,
     );
     print_outcome(order.quiet, &outcome, err);
-    follow(alloc, order, &outcome, &observed, files, err)
+    follow(alloc, order, &outcome, &mut observed, files, err)
 }
 
 /// Runs the program on these words, in which an option whose value may be any text and that value are one word.

@@ -28,7 +28,7 @@ COUNTS = ROOT / "scripts" / "commands.txt"
 
 # What lines of a kind have in common, of which there may be many: how they end, or begin, without their indent.
 ENDINGS = (": nothing of its geometry is left", " left out", ", not in square degrees", ", as GeoJSON has the longitude first")
-BEGINNINGS = ("object ", "its feature ")
+BEGINNING = "object "
 # So many lines of a kind stand beside each other at most.
 MOST_LINES = 10
 
@@ -38,7 +38,7 @@ def kind(line):
     for ending in ENDINGS:
         if line.endswith(ending):
             return ending
-    return BEGINNINGS if line.startswith(BEGINNINGS) else None
+    return BEGINNING if line.startswith(BEGINNING) else None
 
 
 def brief(lines):

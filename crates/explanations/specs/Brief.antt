@@ -1,5 +1,5 @@
 -- An explanation in brief: of lines of one kind that stand beside each other ten, and how many more there are.
-use Rattle.std.specs.Prelude.{ℕ, Bool, true, false, List, [], ◌∷◌, ◌++◌, ◌-◌, ◌||◌, Option, None, Some, codes, decimal, nat_eq, nat_le, nat_lt, if◌then◌else◌}
+use Rattle.std.specs.Prelude.{ℕ, Bool, true, false, List, [], ◌∷◌, ◌++◌, ◌-◌, Option, None, Some, codes, decimal, nat_eq, nat_le, nat_lt, if◌then◌else◌}
 use Rattle.std.specs.List.{ends_with}
 use Rattle.geojson_types.specs.Counting.{one_more}
 use Rattle.reports.specs.Lines.{lines_of}
@@ -26,15 +26,12 @@ system_ending = codes ", not in square degrees"
 abbrev pub swapped_ending : List ℕ
 swapped_ending = codes ", as GeoJSON has the longitude first"
 
--- how lines begin that tell of an object of a topology, and of the properties in it
+-- how a line begins that tells of an object of a topology
 abbrev pub object_beginning : List ℕ
 object_beginning = codes "  object "
 
-abbrev pub properties_beginning : List ℕ
-properties_beginning = codes "  its feature "
-
 abbrev pub other_kind : List ℕ → Option LineKind
-other_kind line = if begins object_beginning line || begins properties_beginning line then Some Object else None
+other_kind line = if begins object_beginning line then Some Object else None
 
 -- what a line tells of, where there may be many such lines
 abbrev pub kind_of : List ℕ → Option LineKind

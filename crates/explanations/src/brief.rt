@@ -25,9 +25,6 @@ pub(crate) const SWAPPED_ENDING: &str = ", as GeoJSON has the longitude first";
 /// How a line begins that tells of an object of a topology.
 pub(crate) const OBJECT_BEGINNING: &str = "  object ";
 
-/// How a line begins that tells of the properties in an object.
-pub(crate) const PROPERTIES_BEGINNING: &str = "  its feature ";
-
 /// So many of a kind stand beside each other at most.
 const MOST: u64 = 10;
 
@@ -57,7 +54,7 @@ pub struct Run {
 fn other_kind(line: &[u8]) -> Option<LineKind>
     ensures { result ≡ spec.other_kind line.now }
 {
-    if begins(OBJECT_BEGINNING.as_bytes(), line) || begins(PROPERTIES_BEGINNING.as_bytes(), line) {
+    if begins(OBJECT_BEGINNING.as_bytes(), line) {
         return Some(LineKind::Object);
     }
     None

@@ -1,5 +1,5 @@
 // What is in a topology.
-use crate::brief::{OBJECT_BEGINNING, PROPERTIES_BEGINNING};
+use crate::brief::OBJECT_BEGINNING;
 use crate::building::decimal_of_units;
 use crate::escaping::quoted;
 use crate::owners::{count_owners, owners_of};
@@ -43,17 +43,23 @@ fn type_number(shape: &Option<TopoShape>) -> usize {
     }
 }
 
+/// How many of these features are of each of `TYPES`.
+fn type_counts(features: &[TopoFeature]) -> [u64; 8] {
+    let mut counts: [u64; 8] = [0; 8];
+    for feature in features {
+        if let Some(count) = counts.get_mut(type_number(&feature.shape)) {
+            *count = count.saturating_add(1);
+        }
+    }
+    counts
+}
+
 /// Of how many features of which type an object is made, as in `: Polygon 3, null 1`.
 fn types_text(alloc: Global, features: &[TopoFeature]) -> Result<String, AllocError> {
     let mut text = String::new(alloc);
-    for (number, name) in TYPES.iter().enumerate() {
-        let mut count: u64 = 0;
-        for feature in features {
-            if type_number(&feature.shape) == number {
-                count = count.saturating_add(1);
-            }
-        }
-        if count > 0 {
+    let counts = type_counts(features);
+    for (name, count) in TYPES.iter().zip(counts.iter()) {
+        if *count > 0 {
             let before = if text.is_empty() { ": " } else { ", " };
             write!(text, "{before}{name} {count}")?;
         }
@@ -117,28 +123,26 @@ fn properties_text(alloc: Global, properties: &Properties) -> Result<String, All
     }
 }
 
-/// The line for the properties of the first of these features that has any.
-fn properties_line(alloc: Global, features: &[TopoFeature]) -> Result<String, AllocError> {
+/// What is said of the properties of the first of these features that has any.
+fn first_properties(alloc: Global, features: &[TopoFeature]) -> Result<String, AllocError> {
     for (number, feature) in features.iter().enumerate() {
         if let Some(properties) = &feature.properties {
             let text = properties_text(alloc, properties)?;
             if !text.is_empty() {
-                return format!(in alloc;
-                    "{PROPERTIES_BEGINNING}{number} has the properties {text}\n"
-                );
+                return format!(in alloc; "; its feature {number} has the properties {text}");
             }
         }
     }
     Ok(String::new(alloc))
 }
 
-/// The lines for an object of this name.
-fn object_lines(alloc: Global, name: &str, object: &TopoObject) -> Result<String, AllocError> {
+/// The line for an object of this name.
+fn object_line(alloc: Global, name: &str, object: &TopoObject) -> Result<String, AllocError> {
     let name = quoted(alloc, name)?;
     let features = features_in(object);
     let types = types_text(alloc, features)?;
-    let properties = properties_line(alloc, features)?;
-    format!(in alloc; "{OBJECT_BEGINNING}{name}{types}\n{properties}")
+    let properties = first_properties(alloc, features)?;
+    format!(in alloc; "{OBJECT_BEGINNING}{name}{types}{properties}\n")
 }
 
 /// The line for the least and the greatest coordinates.
@@ -175,7 +179,7 @@ fn arcs_line(alloc: Global, topology: &Topology) -> Result<String, AllocError> {
 pub(crate) fn topology_lines(alloc: Global, topology: &Topology) -> Result<String, AllocError> {
     let mut lines = String::new(alloc);
     for object in topology.objects() {
-        lines.push_str(object_lines(alloc, object.0.as_str(), &object.1)?.as_str())?;
+        lines.push_str(object_line(alloc, object.0.as_str(), &object.1)?.as_str())?;
     }
     if let Some((least, greatest)) = topology.bounds() {
         lines.push_str(bounds_line(alloc, least, greatest)?.as_str())?;

@@ -9,6 +9,7 @@ at its end how much was tried. The status is 0 where all went well, and where as
 It takes some ten seconds, and a few MB of disk.
 """
 import contextlib
+import json
 import os
 import re
 import resource
@@ -399,6 +400,22 @@ def try_parts_of_others():
         try_run("1000 parts of other runs", ["build", "a=line", "-o", "old"], (3, write_fault("B6", 0)))
 
 
+def try_parts_beside_reports():
+    """What `--explain` and `--report` say of new files of other runs beside the report, once where the output has the same name."""
+    with new_folder():
+        said = plain(["build", "--explain", "a=line"])[2]
+        output = plain(["build", "a=line"])[1]
+        words = " is of another run: where none goes on, one was interrupted, and the file can be deleted"
+        write("run.json.0.part", b"a part", 0o600)
+        ended = plain(["build", "--explain", "--report", "run.json", "a=line"])
+        expect("a part beside a report", (0, output, said + f"  run.json.0.part{words}\n".encode()), ended)
+        with open("run.json", encoding="utf-8") as file:
+            expect("a report beside a part", f"run.json.0.part{words}", json.load(file)["explanation"][-1])
+        write("old.0.part", b"a part", 0o600)
+        ended = plain(["build", "--explain", "-o", "old", "--report", "old", "a=line"])
+        expect("a part beside both", (0, b"", said + f"  old.0.part{words}\n".encode()), ended)
+
+
 # ---- runs that are refused
 
 REFUSED = (
@@ -632,6 +649,7 @@ PARTS = (
     (try_unreported, 4),
     (try_too_many_open, 1),
     (try_parts_of_others, 1055),
+    (try_parts_beside_reports, 3),
     (try_refused, 1140),
     (try_full_disks, 1084),
     (try_while_it_runs, 21),

@@ -1,4 +1,5 @@
 // What is said in words of how a request came out.
+ghost use Rattle.std.specs.Prelude.{◌≡◌};
 ghost use Rattle.mapchain_cli.specs.Files.{OnlyReads, used};
 ghost use Rattle.mapchain_cli.specs.Following.{ReadsNothing};
 
@@ -181,16 +182,47 @@ fn explain_refused<F: Files>(
     }
 }
 
-/// Which new files of other runs stand beside the one that this order's output went to.
+/// The new file of this number beside the file of this path is looked for up to this number.
+const MOST_PARTS: u32 = 1000;
+
+/// How many new files of other runs stand beside the file of this path, before one is begun for this run.
+fn parts_beside<F: Files>(alloc: Global, path: &str, files: &mut F) -> Result<u32, AllocError>
+    ensures { F.state files.new ≡ F.state files.old }
+{
+    'parts: for number in 0..MOST_PARTS {
+        let part = format!(in alloc; "{path}.{number}.part")?;
+        if files.look(part.as_str()) != FileKind::Regular {
+            return Ok(number);
+        }
+    }
+    Ok(MOST_PARTS)
+}
+
+/// The path of the report that an order asks for, if it isn't that of its output, too.
+fn unnamed_report<'a>(order: &Order<'a>) -> Option<&'a str> {
+    match (order.output, order.report) {
+        (Some(output), Some(report)) if output == report => None,
+        (_, report) => report,
+    }
+}
+
+/// Which new files of other runs stand beside the one that this order's output went to, and beside the one that its report is to go to.
 fn explain_parts<F: Files>(
     alloc: Global,
     order: &Order<'_>,
-    files: &F,
-) -> Result<String, AllocError> {
-    match order.output {
-        Some(path) => other_parts(alloc, path, files.other_parts()),
-        None => Ok(String::new(alloc)),
+    files: &mut F,
+) -> Result<String, AllocError>
+    ensures { F.state files.new ≡ F.state files.old }
+{
+    let mut text = match order.output {
+        Some(path) => other_parts(alloc, path, files.other_parts())?,
+        None => String::new(alloc),
+    };
+    if let Some(path) = unnamed_report(order) {
+        let count = parts_beside(alloc, path, files)?;
+        text.push_str(other_parts(alloc, path, count)?.as_str())?;
     }
+    Ok(text)
 }
 
 /// What is said in words of how an order came out.

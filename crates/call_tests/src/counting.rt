@@ -37,11 +37,9 @@ fn steps_of_building(alloc: Global) -> Option<Steps> {
     };
     let mut heap = HeapLinks::new();
     let mut sink = Sink::new(MemoryDrain::new(alloc));
-    let report = build(alloc, &mut heap, &mut sources, &options, &mut sink).ok()?;
-    if report.removed == 2 {
-        Some(heap.steps())
-    } else {
-        None
+    match build(alloc, &mut heap, &mut sources, &options, &mut sink) {
+        Ok(report) if report.removed == 2 => Some(heap.steps()),
+        _ => None,
     }
 }
 
@@ -49,7 +47,7 @@ fn steps_of_building(alloc: Global) -> Option<Steps> {
 fn steps_of_simplifying(alloc: Global) -> Option<Steps> {
     let mut heap = HeapLinks::new();
     let mut sink = Sink::new(MemoryDrain::new(alloc));
-    let report = simplify(
+    let simplified = simplify(
         alloc,
         &mut heap,
         &mut source(TOPOLOGY),
@@ -60,12 +58,10 @@ fn steps_of_simplifying(alloc: Global) -> Option<Steps> {
         Level::Fixed(THRESHOLD),
         0,
         &mut sink,
-    )
-    .ok()?;
-    if report.removed == 2 {
-        Some(heap.steps())
-    } else {
-        None
+    );
+    match simplified {
+        Ok(report) if report.removed == 2 => Some(heap.steps()),
+        _ => None,
     }
 }
 
@@ -78,11 +74,7 @@ fn are_of_one_arc(steps: Option<Steps>) -> bool {
 }
 
 #[test]
-fn building_reduces_each_arc_once(rt: HostRuntime) {
+fn each_arc_is_reduced_once(rt: HostRuntime) {
     assert!(rt; are_of_one_arc(steps_of_building(rt.alloc())));
-}
-
-#[test]
-fn simplifying_reduces_each_arc_once(rt: HostRuntime) {
     assert!(rt; are_of_one_arc(steps_of_simplifying(rt.alloc())));
 }

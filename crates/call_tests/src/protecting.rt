@@ -22,7 +22,34 @@ fn is_of(ring: &Items<ArcRef>, written: i64) -> bool {
     }
 }
 
+/// Of the features of the topology of a text the ways to the rings that are to stay, and these rings.
+fn rings_of(alloc: Global, text: &[u8]) -> Option<(Vec<Option<Vec<usize>>>, Vec<Items<ArcRef>>)> {
+    let topology = topology_of(alloc, text)?;
+    rings_to_stay(alloc, &topology).ok()
+}
+
 /// Whether of three features each keeps the ring of the arc with its index, at the end of its way.
+fn are_kept(
+    ways: &[Option<Vec<usize>>],
+    rings: &[Items<ArcRef>],
+    first: (&[usize], i64),
+    second: (&[usize], i64),
+    third: (&[usize], i64),
+) -> bool {
+    match (ways, rings) {
+        ([a, b, c], [one, two, three]) => {
+            is_at(a, first.0)
+                && is_at(b, second.0)
+                && is_at(c, third.0)
+                && is_of(one, first.1)
+                && is_of(two, second.1)
+                && is_of(three, third.1)
+        }
+        _ => false,
+    }
+}
+
+/// The same of the topology of a text.
 fn keep(
     alloc: Global,
     text: &[u8],
@@ -30,58 +57,37 @@ fn keep(
     second: (&[usize], i64),
     third: (&[usize], i64),
 ) -> bool {
-    let Some(topology) = topology_of(alloc, text) else {
-        return false;
-    };
-    let Ok((ways, rings)) = rings_to_stay(alloc, &topology) else {
-        return false;
-    };
-    let ([a, b, c], [one, two, three]) = (ways.as_slice(), rings.as_slice()) else {
-        return false;
-    };
-    is_at(a, first.0)
-        && is_at(b, second.0)
-        && is_at(c, third.0)
-        && is_of(one, first.1)
-        && is_of(two, second.1)
-        && is_of(three, third.1)
+    match rings_of(alloc, text) {
+        Some((ways, rings)) => are_kept(&ways, &rings, first, second, third),
+        None => false,
+    }
 }
 
 // A polygon whose hole is greater than its outer ring, two islands of which the second is the greater and runs the other way, and two that enclose alike.
 const ISLANDS: &[u8] =
     b"{\"type\":\"Topology\",\"objects\":{\"a\":{\"type\":\"GeometryCollection\",\"geometries\":[{\"type\":\"Polygon\",\"arcs\":[[0],[2]]},{\"type\":\"MultiPolygon\",\"arcs\":[[[0]],[[-3]]]},{\"type\":\"MultiPolygon\",\"arcs\":[[[1]],[[0]]]}]}},\"arcs\":[[[0,0],[1,0],[0,1],[0,0]],[[5,0],[6,0],[5,1],[5,0]],[[9,0],[9,2],[11,0],[9,0]]]}";
 
-#[test]
-fn of_outer_rings_the_first_that_encloses_most_stays(rt: HostRuntime) {
-    assert!(rt; keep(rt.alloc(), ISLANDS, (&[], 0), (&[1], -3), (&[0], 1)));
-}
-
 // Three polygons in a collection in a collection, of which the last encloses most; two of which the first has three positions, with equal neighbours
 // as one, and the second four; and an object that is no collection. They are on a grid.
 const PARTS: &[u8] =
     b"{\"type\":\"Topology\",\"transform\":{\"scale\":[2,3],\"translate\":[1,1]},\"objects\":{\"a\":{\"type\":\"GeometryCollection\",\"geometries\":[{\"type\":\"GeometryCollection\",\"geometries\":[{\"type\":\"LineString\",\"arcs\":[0]},{\"type\":\"GeometryCollection\",\"geometries\":[{\"type\":\"Polygon\",\"arcs\":[[1]]},{\"type\":\"MultiPolygon\",\"arcs\":[[[1]],[[2]]]}]}]},{\"type\":\"MultiPolygon\",\"arcs\":[[[0]],[[1]]]}]},\"p\":{\"type\":\"Polygon\",\"arcs\":[[2],[1]]}},\"arcs\":[[[0,0],[5,0],[0,0],[-5,0]],[[0,0],[0,0],[1,0],[-1,1],[0,-1]],[[9,0],[2,0],[-2,2],[0,-2]]]}";
 
-#[test]
-fn rings_of_four_positions_stay_wherever_they_stand(rt: HostRuntime) {
-    assert!(rt; keep(rt.alloc(), PARTS, (&[1, 1, 1], 2), (&[1], 1), (&[], 2)));
-}
-
 /// Whether no feature of three has a ring to keep.
 fn keeps_none(alloc: Global, text: &[u8]) -> bool {
-    let Some(topology) = topology_of(alloc, text) else {
-        return false;
-    };
-    let Ok((ways, rings)) = rings_to_stay(alloc, &topology) else {
-        return false;
-    };
-    matches!(ways.as_slice(), [None, None, None]) && rings.is_empty()
+    match rings_of(alloc, text) {
+        Some((ways, rings)) => matches!(ways.as_slice(), [None, None, None]) && rings.is_empty(),
+        None => false,
+    }
 }
 
 // A line, a ring of three positions, and no geometry.
 const NO_RINGS: &[u8] =
     b"{\"type\":\"Topology\",\"objects\":{\"a\":{\"type\":\"GeometryCollection\",\"geometries\":[{\"type\":\"LineString\",\"arcs\":[0]},{\"type\":\"Polygon\",\"arcs\":[[0],[1]]},{\"type\":null}]}},\"arcs\":[[[0,0],[5,5],[0,0]],[[0,0],[1,0],[0,1],[0,0]]]}";
 
+// Of outer rings the first that encloses most stays, and rings of four positions do wherever they stand; a feature without one keeps none.
 #[test]
-fn a_feature_without_a_ring_of_four_positions_keeps_none(rt: HostRuntime) {
+fn greatest_rings_stay(rt: HostRuntime) {
+    assert!(rt; keep(rt.alloc(), ISLANDS, (&[], 0), (&[1], -3), (&[0], 1)));
+    assert!(rt; keep(rt.alloc(), PARTS, (&[1, 1, 1], 2), (&[1], 1), (&[], 2)));
     assert!(rt; keeps_none(rt.alloc(), NO_RINGS));
 }

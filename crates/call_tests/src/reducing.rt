@@ -4,47 +4,44 @@ use byte_ends::Memory;
 use effective_area::{HeapLinks, Reducer, Rescan, Steps};
 use geojson_types::Position;
 use std::alloc::Global;
-use std::test::Fail;
+
+/// Whether the reducer keeps these positions of a line, by their indexes.
+fn keeps(
+    reducer: &mut impl Reducer,
+    alloc: Global,
+    line: &[Position],
+    threshold: u128,
+    wanted: &[usize],
+) -> bool {
+    if line.len() < 2 {
+        return false;
+    }
+    match reducer.kept(alloc, line, threshold) {
+        Ok(kept) => kept.as_slice() == wanted,
+        Err(_) => false,
+    }
+}
 
 // Of two equal positions whose areas tie, the one with the lesser index is removed first.
-#[test]
-fn repeated_positions_are_removed_by_index(rt: HostRuntime) -> Result<(), Fail> {
-    let alloc = rt.alloc();
+fn removes_repeated_positions_by_index(reducer: &mut impl Reducer, alloc: Global) -> bool {
     let top = Position::at(1, 1);
     let line = [Position::at(0, 0), top, top, Position::at(2, 0)];
-    let mut heap = HeapLinks::new();
-    let mut rescan = Rescan::new();
-    assert_eq!(rt;
-        heap.kept(alloc, &line, 1)?.as_slice(),
-        [0, 2, 3].as_slice()
-    );
-    assert_eq!(rt;
-        rescan.kept(alloc, &line, 1)?.as_slice(),
-        [0, 2, 3].as_slice()
-    );
-    assert_eq!(rt; heap.kept(alloc, &line, 3)?.as_slice(), [0, 3].as_slice());
-    assert_eq!(rt; rescan.kept(alloc, &line, 3)?.as_slice(), [0, 3].as_slice());
-    Ok(())
+    keeps(reducer, alloc, &line, 1, &[0, 2, 3]) && keeps(reducer, alloc, &line, 3, &[0, 3])
 }
 
 // Two areas at first, and one more for the neighbour of the position that is removed.
-#[test]
-fn steps_are_counted(rt: HostRuntime) -> Result<(), Fail> {
+fn steps_are_counted(heap: &mut HeapLinks, alloc: Global) -> bool {
     let line = [
         Position::at(0, 0),
         Position::at(1, 1),
         Position::at(2, 3),
         Position::at(3, 0),
     ];
-    let mut heap = HeapLinks::new();
-    assert_eq!(rt;
-        heap.kept(rt.alloc(), &line, 7)?.as_slice(),
-        [0, 2, 3].as_slice()
-    );
+    if !keeps(heap, alloc, &line, 7, &[0, 2, 3]) {
+        return false;
+    }
     let steps = heap.steps();
-    assert!(rt; steps.areas >= 3 && steps.areas <= 6);
-    assert!(rt; steps.pushes >= 1 && steps.pushes <= 6);
-    Ok(())
+    steps.areas >= 3 && steps.areas <= 6 && steps.pushes >= 1 && steps.pushes <= 6
 }
 
 // 200 positions, ten in a row and eight in a column, so many of them twice.
@@ -58,39 +55,51 @@ fn crowded(alloc: Global) -> Result<Vec<Position>, Memory> {
     Ok(positions)
 }
 
-// The greatest weight of theirs is 31, so each weight is met, and one more than it.
-#[test]
-fn both_reducers_agree_at_each_threshold(rt: HostRuntime) -> Result<(), Fail> {
-    let alloc = rt.alloc();
-    let line = crowded(alloc)?;
+/// Whether two reducers keep the same positions of a line.
+fn agree(
+    one: &mut impl Reducer,
+    other: &mut impl Reducer,
+    alloc: Global,
+    line: &[Position],
+    threshold: u128,
+) -> bool {
     if line.len() < 2 {
-        return Err("short".into());
+        return false;
     }
-    let mut heap = HeapLinks::new();
-    let mut rescan = Rescan::new();
-    for t in 0..33u32 {
-        assert_eq!(rt;
-            heap.kept(alloc, &line, t as u128)?.as_slice(),
-            rescan.kept(alloc, &line, t as u128)?.as_slice()
-        );
+    match one.kept(alloc, line, threshold) {
+        Ok(kept) => keeps(other, alloc, line, threshold, &kept),
+        Err(_) => false,
     }
-    assert_eq!(rt;
-        heap.kept(alloc, &line, 32)?.as_slice(),
-        [0, 199].as_slice()
-    );
-    assert!(rt; heap.steps().areas >= 34 * 198);
-    Ok(())
+}
+
+// The greatest weight of the crowded line's is 31, so each weight is met, and one more than it. At that all 198 between the ends are removed.
+fn agree_at_each_threshold(
+    heap: &mut HeapLinks,
+    rescan: &mut Rescan,
+    alloc: Global,
+    line: &[Position],
+) -> bool {
+    for threshold in 0..33u32 {
+        if !agree(heap, rescan, alloc, line, threshold as u128) {
+            return false;
+        }
+    }
+    keeps(heap, alloc, line, 32, &[0, 199]) && heap.steps().areas >= 34 * 198
+}
+
+fn both_reducers_agree_at_each_threshold(alloc: Global) -> bool {
+    match crowded(alloc) {
+        Ok(line) => {
+            agree_at_each_threshold(&mut HeapLinks::new(), &mut Rescan::new(), alloc, &line)
+        }
+        Err(_) => false,
+    }
 }
 
 /// What a new reducer does where all 198 positions between the ends are removed.
-fn steps_of_all(alloc: Global) -> Option<Steps> {
+fn steps_of_all(heap: &mut HeapLinks, alloc: Global) -> Option<Steps> {
     let line = crowded(alloc).ok()?;
-    if line.len() < 2 {
-        return None;
-    }
-    let mut heap = HeapLinks::new();
-    let kept = heap.kept(alloc, &line, 32).ok()?;
-    if kept.len() == 2 {
+    if keeps(heap, alloc, &line, 32, &[0, 199]) {
         Some(heap.steps())
     } else {
         None
@@ -98,16 +107,20 @@ fn steps_of_all(alloc: Global) -> Option<Steps> {
 }
 
 // An area for each at first, and from one to two for the neighbours of each that goes but the last.
+fn steps_are_linear(alloc: Global) -> bool {
+    match steps_of_all(&mut HeapLinks::new(), alloc) {
+        Some(steps) => {
+            steps.areas >= 395 && steps.areas <= 594 && steps.pushes >= 197 && steps.pushes <= 594
+        }
+        None => false,
+    }
+}
+
 #[test]
-fn steps_are_linear(rt: HostRuntime) {
-    let areas = steps_of_all(rt.alloc()).map(|steps| steps.areas);
-    let pushes = steps_of_all(rt.alloc()).map(|steps| steps.pushes);
-    assert!(rt;
-        areas.is_some_and(|areas| areas >= 395 && areas <= 594),
-        "{areas:?}"
-    );
-    assert!(rt;
-        pushes.is_some_and(|pushes| pushes >= 197 && pushes <= 594),
-        "{pushes:?}"
-    );
+fn lines_are_reduced(rt: HostRuntime) {
+    assert!(rt; removes_repeated_positions_by_index(&mut HeapLinks::new(), rt.alloc()));
+    assert!(rt; removes_repeated_positions_by_index(&mut Rescan::new(), rt.alloc()));
+    assert!(rt; steps_are_counted(&mut HeapLinks::new(), rt.alloc()));
+    assert!(rt; both_reducers_agree_at_each_threshold(rt.alloc()));
+    assert!(rt; steps_are_linear(rt.alloc()));
 }

@@ -5,11 +5,10 @@ use byte_ends::Memory;
 use cutter::cut;
 use decimal_json::{LAYER_DEPTH, parse};
 use geojson_model::read_layer;
-use geojson_types::{Layer, Position};
+use geojson_types::Position;
 use junctions::Numbering;
 use linework::{Lines, OfLayers, Vertices};
 use std::alloc::{AllocError, Global};
-use std::test::Fail;
 
 // Units of 10^-9 in a unit of the coordinates.
 const ONE: i64 = 1_000_000_000;
@@ -39,12 +38,12 @@ fn square(alloc: Global, x: u32, y: u32) -> Result<String, AllocError> {
     )
 }
 
-/// The layer of so many squares.
-fn layer_of(alloc: Global, width: u32, height: u32) -> Result<Layer, Fail> {
-    let text = squares(alloc, width, height)?;
-    let value = parse(alloc, text.as_bytes(), LAYER_DEPTH)?;
-    let (layer, _counts) = read_layer(alloc, value, false)?;
-    Ok(layer)
+/// The lines of so many squares.
+fn lines_of(alloc: Global, width: u32, height: u32) -> Option<Lines> {
+    let text = squares(alloc, width, height).ok()?;
+    let value = parse(alloc, text.as_bytes(), LAYER_DEPTH).ok()?;
+    let (layer, _counts) = read_layer(alloc, value, false).ok()?;
+    Lines::of(alloc, &[layer]).ok()
 }
 
 /// The number of a position of the lines, if it is one.
@@ -57,12 +56,14 @@ fn number_of(vertices: &Vertices, x: i64, y: i64) -> Option<usize> {
     }
 }
 
+/// The positions of so many squares with their numbers.
+fn vertices_of(alloc: Global, width: u32, height: u32) -> Option<Vertices> {
+    let lines = lines_of(alloc, width, height)?;
+    Vertices::of(alloc, &lines).ok()
+}
+
 // The positions of two squares, in the order in which they are first seen. The two at the common side count once.
-#[test]
-fn positions_are_numbered_in_reading_order(rt: HostRuntime) -> Result<(), Fail> {
-    let layer = layer_of(rt.alloc(), 2, 1)?;
-    let lines = Lines::of(rt.alloc(), &[layer])?;
-    let vertices = Vertices::of(rt.alloc(), &lines)?;
+fn are_in_reading_order(vertices: &Vertices) -> bool {
     let places = [
         (0, 0),
         (ONE, 0),
@@ -72,28 +73,61 @@ fn positions_are_numbered_in_reading_order(rt: HostRuntime) -> Result<(), Fail> 
         (2 * ONE, ONE),
     ];
     for (number, (x, y)) in places.iter().enumerate() {
-        assert_eq!(rt; number_of(&vertices, *x, *y), Some(number));
+        if number_of(vertices, *x, *y) != Some(number) {
+            return false;
+        }
     }
-    assert_eq!(rt; number_of(&vertices, 3 * ONE, 0), None);
-    Ok(())
+    number_of(vertices, 3 * ONE, 0).is_none()
+}
+
+fn positions_are_numbered_in_reading_order(alloc: Global) -> bool {
+    match vertices_of(alloc, 2, 1) {
+        Some(vertices) => are_in_reading_order(&vertices),
+        None => false,
+    }
+}
+
+/// The number that is found for the position this far along the first axis, once it is numbered.
+fn number_at(numbering: &mut Numbering<Position>, x: u32) -> Option<usize> {
+    let position = Position::new(x as i64, 0)?;
+    let number = numbering.number(position).ok()?;
+    if numbering.find(position) == Some(number) {
+        Some(number)
+    } else {
+        None
+    }
+}
+
+/// Whether twenty positions in a row have their numbers in turn.
+fn are_in_turn(numbering: &mut Numbering<Position>) -> bool {
+    for x in 0..20u32 {
+        if number_at(numbering, x) != Some(x as usize) {
+            return false;
+        }
+    }
+    true
+}
+
+/// Whether they have them again once all are numbered, and one more has none.
+fn stay_in_turn(numbering: &mut Numbering<Position>) -> bool {
+    if !are_in_turn(numbering) || !are_in_turn(numbering) {
+        return false;
+    }
+    match Position::new(20, 0) {
+        Some(other) => numbering.find(other).is_none(),
+        None => false,
+    }
 }
 
 // Numbers stay as the table grows, and don't depend on the seed.
-#[test]
-fn numbers_stay_as_the_table_grows(rt: HostRuntime) -> Result<(), Fail> {
-    let mut numbering = Numbering::with_room(rt.alloc(), 0, 7)?;
-    for number in 0..20usize {
-        let position = Position::new(number as i64, 0).ok_or("no position")?;
-        assert_eq!(rt; numbering.number(position)?, number);
+fn numbers_stay_as_the_table_grows(alloc: Global) -> bool {
+    match Numbering::with_room(alloc, 0, 7) {
+        Ok(numbering) => {
+            let mut numbering = numbering;
+            stay_in_turn(&mut numbering)
+        }
+        Err(_) => false,
     }
-    for number in 0..20usize {
-        let position = Position::new(number as i64, 0).ok_or("no position")?;
-        assert_eq!(rt; numbering.number(position)?, number);
-        assert_eq!(rt; numbering.find(position), Some(number));
-    }
-    let other = Position::new(20, 0).ok_or("no position")?;
-    assert_eq!(rt; numbering.find(other), None);
-    Ok(())
 }
 
 /// The arcs of these lines.
@@ -103,13 +137,25 @@ fn table_of(alloc: Global, lines: Lines) -> Result<Table, Memory> {
     Table::build(alloc, pieces)
 }
 
+/// How many arcs so many squares have, and how often pieces were compared for them.
+fn arcs_and_comparisons(alloc: Global, width: u32, height: u32) -> Option<(usize, u64)> {
+    let lines = lines_of(alloc, width, height)?;
+    let table = table_of(alloc, lines).ok()?;
+    Some((table.len(), table.compared()))
+}
+
 // 400 squares have 1600 sides, of which the two at each corner of the whole are one piece: 1596 pieces, of which 836 become arcs. Each of
 // the other 760 is compared with an arc or its reverse at least once, and each of all at most twice.
+fn pieces_are_compared_with_few_arcs(alloc: Global) -> bool {
+    match arcs_and_comparisons(alloc, 20, 20) {
+        Some((arcs, compared)) => arcs == 836 && compared >= 760 && compared <= 3192,
+        None => false,
+    }
+}
+
 #[test]
-fn pieces_are_compared_with_few_arcs(rt: HostRuntime) -> Result<(), Fail> {
-    let layer = layer_of(rt.alloc(), 20, 20)?;
-    let table = table_of(rt.alloc(), Lines::of(rt.alloc(), &[layer])?)?;
-    assert_eq!(rt; table.len(), 836);
-    assert!(rt; table.compared() >= 760 && table.compared() <= 3192);
-    Ok(())
+fn tables_find_what_they_have(rt: HostRuntime) {
+    assert!(rt; positions_are_numbered_in_reading_order(rt.alloc()));
+    assert!(rt; numbers_stay_as_the_table_grows(rt.alloc()));
+    assert!(rt; pieces_are_compared_with_few_arcs(rt.alloc()));
 }

@@ -69,19 +69,29 @@ fn is_small_ring(dropped: &[Dropped], ring: usize) -> bool {
     }
 }
 
+/// What the ends of each arc leave of a topology, what is dropped, and how many positions they remove.
+fn reduced_to_ends(alloc: Global, topology: Topology) -> Option<(Topology, Vec<Dropped>, u64)> {
+    match kept_ends(alloc, &topology) {
+        Ok(kept) => topology.reduce(alloc, &kept, 0).ok(),
+        Err(_) => {
+            drop(topology);
+            None
+        }
+    }
+}
+
+/// The same of the topology of a text.
+fn text_reduced_to_ends(alloc: Global, text: &[u8]) -> Option<(Topology, Vec<Dropped>, u64)> {
+    reduced_to_ends(alloc, topology_of(alloc, text)?)
+}
+
 /// Whether the ends of each arc of a text leave this text and drop this ring alone, and how many positions they remove.
 fn leaves(alloc: Global, text: &[u8], left: &[u8], ring: usize, removed_count: u64) -> bool {
-    let Some(topology) = topology_of(alloc, text) else {
-        return false;
-    };
-    let Ok(kept) = kept_ends(alloc, &topology) else {
-        return false;
-    };
-    match topology.reduce(alloc, &kept, 0) {
-        Ok((less, dropped, out)) => {
+    match text_reduced_to_ends(alloc, text) {
+        Some((less, dropped, out)) => {
             is_text(alloc, &less, left) && is_small_ring(&dropped, ring) && out == removed_count
         }
-        Err(_) => false,
+        None => false,
     }
 }
 
@@ -91,11 +101,6 @@ const FILLED_UP: &[u8] =
 
 const NOTHING: &[u8] = b"{\"type\":\"Topology\",\"objects\":{\"a\":{\"type\":null}},\"arcs\":[]}";
 
-#[test]
-fn a_ring_that_was_filled_up_is_small(rt: HostRuntime) {
-    assert!(rt; leaves(rt.alloc(), FILLED_UP, NOTHING, 0, 0));
-}
-
 // The first arc is the hole's, the next four are the sides of its square, and the last is a line of three positions.
 const LAKE: &[u8] =
     b"{\"type\":\"Topology\",\"objects\":{\"land\":{\"type\":\"GeometryCollection\",\"geometries\":[{\"type\":\"Polygon\",\"arcs\":[[1,2,3,4],[0]]},{\"type\":\"LineString\",\"arcs\":[5]}]}},\"arcs\":[[[4,4],[4,5],[5,4],[4,4]],[[0,0],[10,0]],[[10,0],[10,10]],[[10,10],[0,10]],[[0,10],[0,0]],[[20,0],[25,1],[30,0]]]}";
@@ -103,7 +108,9 @@ const LAKE: &[u8] =
 const WITHOUT_LAKE: &[u8] =
     b"{\"type\":\"Topology\",\"bbox\":[0,0,30,10],\"objects\":{\"land\":{\"type\":\"GeometryCollection\",\"geometries\":[{\"type\":\"Polygon\",\"arcs\":[[0,1,2,3]]},{\"type\":\"LineString\",\"arcs\":[4]}]}},\"arcs\":[[[0,0],[10,0]],[[10,0],[10,10]],[[10,10],[0,10]],[[0,10],[0,0]],[[20,0],[30,0]]]}";
 
+// A ring that was filled up is small, and a hole goes with its arc.
 #[test]
-fn a_hole_goes_with_its_arc(rt: HostRuntime) {
+fn small_rings_go(rt: HostRuntime) {
+    assert!(rt; leaves(rt.alloc(), FILLED_UP, NOTHING, 0, 0));
     assert!(rt; leaves(rt.alloc(), LAKE, WITHOUT_LAKE, 1, 1));
 }

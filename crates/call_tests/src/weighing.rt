@@ -15,17 +15,15 @@ fn weighs(alloc: Global, line: &[Position], wanted: &[Weight]) -> bool {
 }
 
 // Fewer than three positions are ends, whatever stands twice.
-#[test]
-fn short_lines_are_ends(rt: HostRuntime) {
+fn short_lines_are_ends(alloc: Global) -> bool {
     let here = Position::at(1, 1);
-    assert!(rt; weighs(rt.alloc(), &[], &[]));
-    assert!(rt; weighs(rt.alloc(), &[here], &[Weight::End]));
-    assert!(rt; weighs(rt.alloc(), &[here, here], &[Weight::End, Weight::End]));
+    weighs(alloc, &[], &[])
+        && weighs(alloc, &[here], &[Weight::End])
+        && weighs(alloc, &[here, here], &[Weight::End, Weight::End])
 }
 
 // Of two equal positions the one with the lesser index goes first, at no area.
-#[test]
-fn repeated_positions_weigh_by_index(rt: HostRuntime) {
+fn repeated_positions_weigh_by_index(alloc: Global) -> bool {
     let line = [
         Position::at(0, 0),
         Position::at(1, 1),
@@ -33,12 +31,11 @@ fn repeated_positions_weigh_by_index(rt: HostRuntime) {
         Position::at(2, 0),
     ];
     let wanted = [Weight::End, Weight::Area(0), Weight::Area(2), Weight::End];
-    assert!(rt; weighs(rt.alloc(), &line, &wanted));
+    weighs(alloc, &line, &wanted)
 }
 
 // The first corner goes at twice an area of 1 square unit of the coordinates. The second, that had 5, has 9 then.
-#[test]
-fn a_neighbour_weighs_what_it_grows_to(rt: HostRuntime) {
+fn a_neighbour_weighs_what_it_grows_to(alloc: Global) -> bool {
     let line = [
         Position::at(0, 0),
         Position::at(ONE, ONE),
@@ -51,12 +48,11 @@ fn a_neighbour_weighs_what_it_grows_to(rt: HostRuntime) {
         Weight::Area(9_000_000_000_000_000_000),
         Weight::End,
     ];
-    assert!(rt; weighs(rt.alloc(), &line, &wanted));
+    weighs(alloc, &line, &wanted)
 }
 
 // Once the first is out nothing more is removed: the second, that would have 9, has at least as much as the first.
-#[test]
-fn a_weight_stands_for_those_after(rt: HostRuntime) {
+fn a_weight_stands_for_those_after(alloc: Global) -> bool {
     let line = [
         Position::at(0, 0),
         Position::at(ONE, ONE),
@@ -64,16 +60,14 @@ fn a_weight_stands_for_those_after(rt: HostRuntime) {
         Position::at(3 * ONE, 0),
     ];
     let first = Weight::Area(1_000_000_000_000_000_000);
-    let reported = match weights_until(rt.alloc(), &line, 1) {
+    match weights_until(alloc, &line, 1) {
         Ok(all) => all.as_slice() == [Weight::End, first, first, Weight::End].as_slice(),
         Err(_) => false,
-    };
-    assert!(rt; reported);
+    }
 }
 
 // Both have twice an area of 2. Once the first is gone the second has none, and weighs as much as the first did.
-#[test]
-fn a_weight_never_falls(rt: HostRuntime) {
+fn a_weight_never_falls(alloc: Global) -> bool {
     let line = [
         Position::at(0, 0),
         Position::at(ONE, ONE),
@@ -82,13 +76,12 @@ fn a_weight_never_falls(rt: HostRuntime) {
     ];
     let both = Weight::Area(2_000_000_000_000_000_000);
     let wanted = [Weight::End, both, both, Weight::End];
-    assert!(rt; weighs(rt.alloc(), &line, &wanted));
+    weighs(alloc, &line, &wanted)
 }
 
 // A line that runs back and forth over the same positions, with its weights as a program of its own computed them by looking
 // through the whole line for each.
-#[test]
-fn a_line_that_runs_back_and_forth(rt: HostRuntime) {
+fn a_line_that_runs_back_and_forth(alloc: Global) -> bool {
     let line = [
         Position::at(0, 0),
         Position::at(3, 4),
@@ -115,5 +108,15 @@ fn a_line_that_runs_back_and_forth(rt: HostRuntime) {
         most,
         Weight::End,
     ];
-    assert!(rt; weighs(rt.alloc(), &line, &wanted));
+    weighs(alloc, &line, &wanted)
+}
+
+#[test]
+fn lines_are_weighed(rt: HostRuntime) {
+    assert!(rt; short_lines_are_ends(rt.alloc()));
+    assert!(rt; repeated_positions_weigh_by_index(rt.alloc()));
+    assert!(rt; a_neighbour_weighs_what_it_grows_to(rt.alloc()));
+    assert!(rt; a_weight_stands_for_those_after(rt.alloc()));
+    assert!(rt; a_weight_never_falls(rt.alloc()));
+    assert!(rt; a_line_that_runs_back_and_forth(rt.alloc()));
 }

@@ -19,6 +19,8 @@ import re
 import subprocess
 import sys
 import tempfile
+from concurrent.futures import ProcessPoolExecutor
+from functools import partial
 from pathlib import Path
 
 ROOT = Path(__file__).resolve().parent.parent
@@ -249,15 +251,19 @@ def program_path():
     return Path(run.stdout.rstrip("\n"))
 
 
+def try_page(program, page):
+    """Runs the commands of a page in a folder of its own: how many were run, and how many went otherwise."""
+    with tempfile.TemporaryDirectory() as folder:
+        return run_page(program, page, Path(folder))
+
+
 def main():
     program, writes = words_of("Runs the commands of the worked examples.")
-    ran = {}
-    otherwise = 0
-    for page in sorted(PAGES.glob("*.md")):
-        with tempfile.TemporaryDirectory() as folder:
-            counts = run_page(str(program), page, Path(folder))
-        ran[path_of(page)] = counts[0]
-        otherwise += counts[1]
+    pages = sorted(PAGES.glob("*.md"))
+    with ProcessPoolExecutor() as pool:
+        counts = list(pool.map(partial(try_page, str(program)), pages))
+    ran = {path_of(page): count[0] for page, count in zip(pages, counts)}
+    otherwise = sum(count[1] for count in counts)
     print(f"{len(ran)} pages, {sum(ran.values())} commands by the program itself, {otherwise} went otherwise")
     if writes:
         note(ran, is_page)

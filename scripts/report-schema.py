@@ -17,6 +17,8 @@ python3 has jsonschema.
 import json
 import sys
 import tempfile
+from concurrent.futures import ProcessPoolExecutor
+from functools import partial
 from pathlib import Path
 
 sys.dont_write_bytecode = True
@@ -95,14 +97,14 @@ def told(value):
 
 
 class Reports:
-    """The reports of the commands that were run."""
+    """The reports of the commands of a page that were run."""
 
-    def __init__(self):
+    def __init__(self, page):
         schema = json.loads(SCHEMA.read_text())
         jsonschema.Draft202012Validator.check_schema(schema)
         self.validator = jsonschema.Draft202012Validator(schema)
         self.seen = self.wrong = self.without = 0
-        self.page = None
+        self.page = page
 
     def run(self, program, step, folder):
         """Runs a command, with a report if it takes one, looks at the report, and takes it away."""
@@ -142,25 +144,29 @@ class Reports:
         return ""
 
 
+def try_page(program, page):
+    """Runs the commands of a page. The counts are of all that were run, those that went otherwise, with a report, without, and wrong reports."""
+    reports = Reports(page.name)
+    with tempfile.TemporaryDirectory() as folder:
+        ran, otherwise = run_page(program, page, Path(folder), reports.run)
+    return ran, otherwise, reports.seen, reports.without, reports.wrong
+
+
 def main():
     program = Path(sys.argv[1]).resolve() if len(sys.argv) > 1 else program_path()
-    reports = Reports()
-    ran = {}
-    otherwise = 0
-    for page in sorted(PAGES.glob("*.md")):
-        reports.page = page.name
-        with tempfile.TemporaryDirectory() as folder:
-            counts = run_page(str(program), page, Path(folder), reports.run)
-        ran[path_of(page)] = counts[0]
-        otherwise += counts[1]
+    pages = sorted(PAGES.glob("*.md"))
+    with ProcessPoolExecutor() as pool:
+        counts = list(pool.map(partial(try_page, str(program)), pages))
+    ran = {path_of(page): count[0] for page, count in zip(pages, counts)}
+    total, otherwise, seen, without, wrong = map(sum, zip(*counts)) if counts else [0] * 5
     print(
-        f"{len(ran)} pages, {reports.seen} commands with a report and {reports.without} without: "
-        f"{reports.wrong} reports not as they should be, {otherwise} commands went otherwise"
+        f"{len(ran)} pages, {seen} commands with a report and {without} without: "
+        f"{wrong} reports not as they should be, {otherwise} commands went otherwise"
     )
-    is_enough = reports.seen > LEAST_SHARE * sum(ran.values())
+    is_enough = seen > LEAST_SHARE * total
     if not is_enough:
         print(f"no more than {LEAST_SHARE:.0%} of the commands have a report")
-    sys.exit(1 if missed(ran, is_page) or reports.wrong or otherwise or not is_enough else 0)
+    sys.exit(1 if missed(ran, is_page) or wrong or otherwise or not is_enough else 0)
 
 
 if __name__ == "__main__":

@@ -1,12 +1,11 @@
 -- How many pairs of segments meet badly, in whatever order they stand.
 use Rattle.std.proofs.Common.{◌≡◌, ℕ, ◌+◌, ◌*◌, Bool, true, false, List, [], ◌∷◌, length, refl, ap, sym, ◌∙◌, sum_by, if◌then◌else◌, arith}
 use Rattle.std.specs.List.{filter}
-use Rattle.std.specs.List.Sorted.{IsPermutation}
 use Rattle.std.proofs.lemmas.Bool.{or_left}
 use Rattle.std.proofs.lemmas.List.Sums.{sum_by-cons}
-use Rattle.std.proofs.lemmas.List.Sorted.{length_permutation, sum_by-IsPermutation}
 use Rattle.guarded_meaning.specs.Segments.{Segment, same_ends, meets_badly, bad_pairs}
 use Rattle.guarded_meaning.proofs.Step.{bad_back, ends_self}
+use Rattle.guarded_reduction.specs.Gathering.{AreSame}
 use Rattle.guarded_reduction.specs.Lines.{bad_among}
 
 abbrev pub one : Bool → ℕ
@@ -63,12 +62,18 @@ same_sums : (f g : Segment → ℕ) → ((s : Segment) → f s ≡ g s) → (ss 
 same_sums f g h [] = refl
 same_sums f g h (s ∷ ss) = let e = same_sums f g h ss in let k = h s in omega (arith, e, k, sum_by-cons f s ss, sum_by-cons g s ss)
 
-pub among_permuted : (s : Segment) (ts us : List Segment) → IsPermutation ts us → bad_among s us ≡ bad_among s ts
-among_permuted s ts us h = as_sum s us ∙ sum_by-IsPermutation (λ t. one (meets_badly s t)) ts us h ∙ sym (as_sum s ts)
+pub among_same : (s : Segment) (ts us : List Segment) → AreSame ts us → bad_among s us ≡ bad_among s ts
+among_same s ts us h = as_sum s us ∙ h.sums (λ t. one (meets_badly s t)) ∙ sym (as_sum s ts)
 
-pub pairs_permuted : (ss ts : List Segment) → IsPermutation ss ts → bad_pairs ts ≡ bad_pairs ss
-pairs_permuted ss ts h =
+each_once : (ss : List Segment) → sum_by (λ s. 1) ss ≡ length ss
+each_once [] = refl
+each_once (s ∷ ss) = let e = each_once ss in omega (arith, e, sum_by-cons (λ (u : Segment). 1) s ss)
+
+pub pairs_same : (ss ts : List Segment) → AreSame ss ts → bad_pairs ts ≡ bad_pairs ss
+pairs_same ss ts h =
     let e = twice ss in
     let f = twice ts in
-    let g : bad_between ts ts ≡ bad_between ss ss = same_sums (λ s. bad_among s ts) (λ s. bad_among s ss) (λ s. among_permuted s ss ts h) ts ∙ sum_by-IsPermutation (λ s. bad_among s ss) ss ts h in
-    omega (arith, e, f, g, length_permutation ss ts h)
+    let g : bad_between ts ts ≡ bad_between ss ss = same_sums (λ s. bad_among s ts) (λ s. bad_among s ss) (λ s. among_same s ss ts h) ts ∙ h.sums (λ s. bad_among s ss) in
+    let n = each_once ss in
+    let m = each_once ts in
+    omega (arith, e, f, g, n, m, h.sums (λ s. 1))

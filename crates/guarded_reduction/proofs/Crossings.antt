@@ -1,16 +1,15 @@
 -- Pairs of segments that meet badly, put one after another.
-use Rattle.std.proofs.Common.{◌≡◌, ℕ, zero, suc, ◌+◌, ◌<◌, ◌≤◌, ◌⊎◌, inl, inr, true, false, List, [], ◌∷◌, ◌++◌, length, map, min, take, drop, refl, ap, sym, ◌∙◌, append_assoc, if◌then◌else◌, arith}
+use Rattle.std.proofs.Common.{◌≡◌, ℕ, zero, suc, ◌+◌, ◌<◌, ◌≤◌, true, false, List, [], ◌∷◌, ◌++◌, length, map, min, take, drop, refl, ap, sym, ◌∙◌, append_assoc, if◌then◌else◌, arith}
 use Rattle.std.specs.List.{filter}
-use Rattle.std.specs.List.Sorted.{IsPermutation}
-use Rattle.std.proofs.lemmas.Bool.{cases_lt}
 use Rattle.std.proofs.lemmas.List.{length-append, length-map, nil_from_length, take_min}
 use Rattle.guarded_meaning.specs.Segments.{Segment, meets_badly, bad_pairs}
 use Rattle.guarded_reduction.specs.Crossings.{crossing_of, crossing_pairs, pairs_with}
 use Rattle.guarded_reduction.specs.declared.crossing.Crossing.{Crossing}
 use Rattle.guarded_reduction.specs.declared.line.Line.{Line}
+use Rattle.guarded_reduction.specs.Gathering.{AreSame}
 use Rattle.guarded_reduction.specs.Lines.{as_segment, bad_from, line_at, pairs_from}
-use Rattle.guarded_reduction.proofs.Counts.{among_permuted, itself, one}
-use Rattle.guarded_reduction.proofs.Lines.{ahead, none_ahead, one_ahead}
+use Rattle.guarded_reduction.proofs.Counts.{among_same, itself, one}
+use Rattle.guarded_reduction.proofs.Lines.{ahead, later_fewer, one_ahead}
 
 -- ---- so many are enough
 
@@ -55,24 +54,15 @@ one_put n xs ys all y zs e was = ap (take n) (append_assoc xs (y ∷ []) ys ∙ 
 
 -- ---- all pairs
 
--- as many as so many ranks later, or more
-fewer_later : (ls : List Line) (l : Line) (r : ℕ) → bad_from ls l r ≤ bad_from ls l 0
-fewer_later ls l zero = omega arith
-fewer_later ls l (suc r) = on (fewer_later ls l r) (cases_lt r (length ls))
-  where
-    on : bad_from ls l r ≤ bad_from ls l 0 → (r < length ls) ⊎ (length ls ≤ r) → bad_from ls l (suc r) ≤ bad_from ls l 0
-    on f (inl h) = let e = one_ahead ls l r h in let m : r + 1 ≡ suc r = omega arith in let g = ap (bad_from ls l) m in omega (arith, e, f, g)
-    on f (inr h) = let e = none_ahead ls l (suc r) (omega (arith, h)) in omega (arith, e)
-
-module _ (ls near : List Line) (r : ℕ) (within : r < length ls) (h : IsPermutation (map as_segment ls) (map as_segment near)) where
+module _ (ls near : List Line) (r : ℕ) (within : r < length ls) (h : AreSame (map as_segment ls) (map as_segment near)) where
   abbrev own : Line
   own = line_at ls r
 
   -- it meets itself badly
   alone : bad_from near own 0 ≤ 1 → pairs_from ls own (r + 1) ≡ []
   alone few =
-      let e : bad_from near own 0 ≡ bad_from ls own 0 = among_permuted (as_segment own) (map as_segment ls) (map as_segment near) h in
-      let f = fewer_later ls own r in
+      let e : bad_from near own 0 ≡ bad_from ls own 0 = among_same (as_segment own) (map as_segment ls) (map as_segment near) h in
+      let f = later_fewer ls own 0 r (omega arith) in
       let g = one_ahead ls own r within in
       let k = ap one (itself (as_segment own)) in
       let none : bad_from ls own (r + 1) ≡ 0 = omega (arith, few, e, f, g, k) in

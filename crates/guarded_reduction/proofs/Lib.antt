@@ -1,3 +1,5 @@
+pub mod Across
+pub mod Alone
 pub mod Apart
 pub mod Beyond
 pub mod Blocks
@@ -29,6 +31,7 @@ pub mod Searches
 pub mod Showing
 pub mod Sided
 pub mod Starts
+pub mod Stretches
 pub mod Trees
 pub mod Unlinking
 pub mod Users

@@ -40,6 +40,29 @@ skipped ls l r e h n =
     let f : r + (e - r) ≡ e = omega (arith, h) in
     skip_many ls l (e - r) r (subst (NoneBadWithin ls l r) (sym f) n) ∙ ap (bad_from ls l) f
 
+one_fewer : (ls : List Line) (l : Line) (r : ℕ) → bad_from ls l (r + 1) ≤ bad_from ls l r
+one_fewer ls l r = on (cases_lt r (length ls))
+  where
+    on : (r < length ls) ⊎ (length ls ≤ r) → bad_from ls l (r + 1) ≤ bad_from ls l r
+    on (inl h) = let e = one_ahead ls l r h in omega (arith, e)
+    on (inr h) = let e = none_ahead ls l (r + 1) (omega (arith, h)) in omega (arith, e)
+
+some_fewer : (ls : List Line) (l : Line) (k r : ℕ) → bad_from ls l (r + k) ≤ bad_from ls l r
+some_fewer ls l zero r = let e : bad_from ls l (r + zero) ≡ bad_from ls l r = ap (bad_from ls l) (omega arith) in omega (arith, e)
+some_fewer ls l (suc k) r =
+    let e : bad_from ls l (r + suc k) ≡ bad_from ls l (r + 1 + k) = ap (bad_from ls l) (omega arith) in
+    let f = some_fewer ls l k (r + 1) in
+    let g = one_fewer ls l r in
+    omega (arith, e, f, g)
+
+-- no more from a later rank on
+pub later_fewer : (ls : List Line) (l : Line) (r e : ℕ) → r ≤ e → bad_from ls l e ≤ bad_from ls l r
+later_fewer ls l r e h =
+    let f : r + (e - r) ≡ e = omega (arith, h) in
+    let g = some_fewer ls l (e - r) r in
+    let i = ap (bad_from ls l) f in
+    omega (arith, g, i)
+
 -- the pairs from this rank on
 pub pairs_ahead : (ls : List Line) (r : ℕ) → r < length ls → bad_pairs (map as_segment (drop r ls)) ≡ bad_from ls (line_at ls r) (r + 1) + bad_pairs (map as_segment (drop (r + 1) ls))
 pairs_ahead ls r h = ap (λ ks. bad_pairs (map as_segment ks)) (ahead ls r h)

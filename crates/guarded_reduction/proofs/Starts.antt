@@ -35,6 +35,12 @@ has_within [] k i h = absurd (omega (arith, h))
 has_within (ps ∷ arcs) zero i h = h
 has_within (ps ∷ arcs) (suc k) i h = has_within arcs k i h
 
+-- later places of an arc have greater numbers
+rises : (arcs : List (List Point)) (k i j : ℕ) → i ≤ j → number arcs k i ≤ number arcs k j
+rises [] k i j h = h
+rises (ps ∷ arcs) zero i j h = h
+rises (ps ∷ arcs) (suc k) i j h = let e = rises arcs k i j h in omega (arith, e)
+
 -- ---- links
 
 links_many : (neighbour : Neighbour) (o : ℕ) (arcs : List (List Point)) → length (links_of neighbour o arcs) ≡ length (joined arcs)
@@ -163,6 +169,17 @@ module _ (no_crossings : Bool) (arcs : List (List Point)) where
       let w = number_within arcs r.arc (min (r.index + 1) (size_of arcs r.arc - 1)) (has_within arcs r.arc (min (r.index + 1) (size_of arcs r.arc - 1)) (omega (arith, l))) in
       omega (arith, e, w)
 
+  not_before_first : (z : ℕ) → IsNumber arcs z → slice_index first.befores z ≤ z
+  not_before_first z r =
+      let e : slice_index first.befores z ≡ number arcs r.arc (r.index - 1) = ap (λ y. slice_index first.befores y) (sym r.is) ∙ before_at r.arc r.index 0 r.there in
+      omega (arith, e, r.is, rises arcs r.arc (r.index - 1) r.index (omega arith))
+
+  not_after_first : (z : ℕ) → IsNumber arcs z → z ≤ slice_index first.afters z
+  not_after_first z r =
+      let l = within_size arcs r.arc r.index r.there in
+      let e : slice_index first.afters z ≡ number arcs r.arc (min (r.index + 1) (size_of arcs r.arc - 1)) = ap (λ y. slice_index first.afters y) (sym r.is) ∙ after_at r.arc r.index (min (r.index + 1) (size_of arcs r.arc - 1)) 0 r.there refl in
+      omega (arith, e, r.is, rises arcs r.arc r.index (min (r.index + 1) (size_of arcs r.arc - 1)) (omega (arith, l)))
+
   pub first_whole : length (joined arcs) < 2 ^ 60 → IsWhole first
   first_whole few = record {
     few = few;
@@ -171,6 +188,8 @@ module _ (no_crossings : Bool) (arcs : List (List Point)) where
     afters = links_many after_index 0 arcs;
     before = λ z l. before_within z (which_place arcs z l);
     after = λ z l. after_within z (which_place arcs z l);
+    earlier = λ z l. not_before_first z (which_place arcs z l);
+    later = λ z l. not_after_first z (which_place arcs z l);
     fixed = length-replicate (length (joined arcs)) false;
   }
 

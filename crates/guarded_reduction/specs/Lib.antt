@@ -1,9 +1,11 @@
+pub mod Alone
 pub mod Blocking
 pub mod Blocks
 pub mod Crossings
 pub mod Entries
 pub mod Extents
 pub mod First
+pub mod Gathering
 pub mod Indexes
 pub mod Keeping
 pub mod Laws
@@ -15,6 +17,7 @@ pub mod Numbers
 pub mod Orders
 pub mod Placed
 pub mod PlacedLists
+pub mod Probes
 pub mod Shown
 pub mod States
 pub mod Tests

@@ -1,12 +1,11 @@
 // What is known of several segments.
-ghost use Rattle.std.specs.Prelude.{◌≡◌, true, false};
+ghost use Rattle.std.specs.Prelude.{◌≡◌, true};
 ghost use Rattle.std.specs.Option.{IfSome};
-ghost use Rattle.guarded_meaning.specs.Segments.{Segment, meets_badly};
-ghost use Rattle.guarded_reduction.specs.Extents.{HoldsPoint};
+ghost use Rattle.guarded_meaning.specs.Segments.{Segment};
 ghost use Rattle.guarded_reduction.specs.Blocks.{Covers, IsOff, IsOffAt, RunsInto, StarCovers};
 ghost use Rattle.guarded_reduction.specs.Lines.{as_segment};
 
-use crate::extent::{Extent, around, joined, meets};
+use crate::extent::{Extent, around, joined};
 use crate::line::{Line, ends_are_positions, extent_of};
 use crate::sides::is_beyond;
 use geometry::{Position, is_same};
@@ -104,29 +103,18 @@ pub fn block_of_both(block: &Block, more: &Block) -> Block
 }
 
 /// A box lies strictly on one side of the segment's line, if the answer is yes.
-fn is_off(e: &Extent, line: &Line) -> bool
+pub fn is_off(e: &Extent, line: &Line) -> bool
     ensures { result ≡ true → IsOff e.now (as_segment line.now) }
 {
     is_beyond(e, line.from, line.to) || is_beyond(e, line.to, line.from)
 }
 
 /// All segments have this end, and the others lie strictly on one side of the segment's line, if the answer is yes.
-fn is_off_at(block: &Block, at: Position, line: &Line) -> bool
+pub fn is_off_at(block: &Block, at: Position, line: &Line) -> bool
     ensures { result ≡ true → IsOffAt block.now at (as_segment line.now) }
 {
     match others_in(block, at) {
         Some(others) => is_off(&others, line),
         None => false,
     }
-}
-
-/// No segment of the block meets this one badly, if the answer is yes.
-pub fn is_clear_of(block: &Block, line: &Line, around_line: &Extent) -> bool
-    requires from { HoldsPoint around_line.now line.now.from }
-    requires to { HoldsPoint around_line.now line.now.to }
-    ensures { result ≡ true → (t : Segment) → Covers block.now t → meets_badly (as_segment line.now) t ≡ false }
-{
-    !meets(block.extent, *around_line)
-        || (is_off(&block.extent, line)
-            || (is_off_at(block, line.from, line) || is_off_at(block, line.to, line)))
 }

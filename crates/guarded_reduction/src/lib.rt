@@ -1,17 +1,21 @@
 //! Guarded reduction of all arcs at once, in code: of all corners under a threshold the least goes again and again, where no crossing is made of it,
 //! or where rings keep four positions, or both. It stands on `guarded_meaning`, whose definition it answers, and on `effective_area`, whose cross
 //! product its predicates ask for the side on which a position lies. The layer above uses `reduce_guarded`, and `weights_guarded` for a share of the
-//! positions. Corners are queued on a heap, in rounds by their areas; one that is kept from going without a crossing waits on the place that
-//! keeps it, and is looked at again when that place goes; one with which a ring would become too short never goes, so its place stays for good.
-//! What keeps a corner is found by `PositionIndex`, over positions of which more and more go: it finds one that is left and meets a query, above
-//! all a `Blocked`, that is in a corner's triangle or begins a segment between the ends of its base. It sorts once, and goes up one path of a tree
-//! of boxes for each place that goes. `holding` asks it from the side of the corner where fewer places lie. `free_law` and `blocked_law` tie it to
-//! the guard. Rings are asked by how often their arcs move on from a position to another (`src/kept_rings.rt`). Each look is a search of the index
-//! and a step of the heap; how many there are, and how many boxes each goes through, is not promised.
-//! `crossings_with` counts pairs of segments that meet badly, and gives the first of them. The segments are sorted along the same curve. Blocks of
-//! eight neighbours have a box round them, and so do eight blocks, and so on; and where all segments of a block have one end, as those of a star, the
-//! others have a box of their own. For each segment the later ones are gone through, without the blocks of which such a box shows that none meets it
-//! badly. How many are left is not promised. The pairs are looked for in the order of the arcs, among the segments that others meet badly.
+//! positions. Corners are queued on a heap, in rounds by their areas. At the begin of a round, in the order of the arcs, it is noted of each corner
+//! of the round whether anything else lies in its triangle: where nothing does, nothing will until a neighbour goes. Others are looked at when they
+//! are the least. One that is kept from going without a crossing waits on the place that keeps it, and is looked at again when that place goes; one
+//! with which a ring would become too short never goes, so its place stays for good. What keeps a corner is found by `PositionIndex`, over positions
+//! of which more and more go: it finds one that is left and meets a query, above all a `Blocked`, that is in a corner's triangle or begins a segment
+//! between the ends of its base. The places are halved, and the halves again, once for all (`src/halving.rt`), and one path of a tree of boxes is
+//! gone up for each place that goes. `holding` asks it from the side of the corner where fewer places lie. `free_law` and `blocked_law` tie it to the
+//! guard. Rings are asked by how often their arcs move on from a position to another (`src/kept_rings.rt`). Each look is a search of the index and a
+//! step of the heap; how many there are, and how many boxes each goes through, is not promised.
+//! `crossings_with` counts pairs of segments that meet badly, and gives the first of them. Segments of an arc, one after another, stay together, and
+//! these stretches are halved in the same way. Blocks of eight neighbours have a box round them, and so do eight blocks, and so on; and where all
+//! segments of a block have one end, as those of a star, the others have a box of their own. For eight neighbours at once the later blocks are gone
+//! through, without those whose boxes are apart from theirs, and then for each of the eight without those of which such a box shows that no segment
+//! meets it badly; after many blocks each goes on by itself. How many are left is not promised. The pairs are looked for in the order of the arcs,
+//! among the segments that others meet badly.
 #![tactic(auto)]
 
 mod block;
@@ -24,6 +28,7 @@ mod entry;
 mod extent;
 mod flattening;
 mod gathering;
+mod halving;
 mod holding;
 mod index;
 mod kept_rings;
@@ -35,12 +40,14 @@ mod looking;
 mod meeting;
 mod ordering;
 mod pairing;
+mod probe;
 mod pushing;
 mod query;
 mod reducing;
 mod refitting;
 mod ring_moves;
 mod rounds;
+mod run;
 mod searching;
 mod shown_places;
 mod sides;

@@ -9,10 +9,9 @@ use crate::extent::{Extent, around, joined, meets};
 use crate::meeting::meets_badly;
 use geometry::Position;
 
-/// A segment of an arc, and where its middle lies along a curve that fills the plane.
-#[derive(Clone, Copy, Debug, PartialEq, Eq, PartialOrd, Ord, Drop)]
+/// A segment of an arc.
+#[derive(Clone, Copy, Debug, PartialEq, Eq)]
 pub struct Line {
-    pub along: u64,
     pub from: Position,
     pub to: Position,
 }
@@ -44,6 +43,7 @@ pub fn extent_of(line: &Line) -> Extent
 }
 
 /// Two segments meet badly. Most pairs that are asked of have boxes that lie apart.
+#[inline(always)]
 pub fn is_bad_pair(line: &Line, other: &Line) -> bool
     ensures { result ≡ spec.meets_badly (as_segment line.now) (as_segment other.now) }
 {

@@ -1,9 +1,9 @@
 // Pairs of segments that meet badly, the first of them in the order of arcs.
 ghost use Rattle.std.specs.Prelude.{◌≡◌, ◌+◌, ◌<◌, ◌≤◌, ◌++◌, ℕ, true, IfOk, OnOk, length, map, min, take};
 ghost use Rattle.std.specs.List.{All};
-ghost use Rattle.std.specs.List.Sorted.{IsPermutation};
 ghost use Rattle.guarded_meaning.specs.Arcs.{crossings, segments};
 ghost use Rattle.guarded_reduction.specs.Crossings.{crossing_pairs};
+ghost use Rattle.guarded_reduction.specs.Gathering.{AreSame};
 ghost use Rattle.guarded_reduction.specs.Levels.{IsOver};
 ghost use Rattle.guarded_reduction.specs.Lines.{as_segment, bad_from, line_at, pairs_from};
 
@@ -67,7 +67,7 @@ fn pairs_in_order(
     levels: &[Level],
     most: usize,
 ) -> Result<Vec<Crossing>, Memory>
-    requires near { IsPermutation (map as_segment lines.now) (map as_segment near.now) }
+    requires near { AreSame (map as_segment lines.now) (map as_segment near.now) }
     requires levels { All (IsOver near.now) levels.now }
     ensures { IfOk result (λ pairs. pairs.items ≡ take most (crossing_pairs (map as_segment lines.now))) }
 {
@@ -90,7 +90,7 @@ fn first_pairs(
     levels: &[Level],
     most: usize,
 ) -> Result<Vec<Crossing>, Memory>
-    requires near { IsPermutation (segments arcs.now) (map as_segment near.now) }
+    requires near { AreSame (segments arcs.now) (map as_segment near.now) }
     requires levels { All (IsOver near.now) levels.now }
     ensures { IfOk result (λ pairs. pairs.items ≡ take most (crossing_pairs (segments arcs.now))) }
 {

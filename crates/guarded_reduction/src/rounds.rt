@@ -52,23 +52,26 @@ pub fn next_threshold(places: &LinkedPlaces, round: u128, threshold: u128) -> u1
     areas[LEAST].max(least).max(round + 1).min(threshold)
 }
 
-/// Puts the corner at a place on the heap, if there is one that is under the second threshold, and not under the first.
+/// Puts the corner at a place on the heap, if there is one that is under the second threshold, and not under the first. It is noted whether anything
+/// lies in its triangle: in the order of the arcs this is found sooner than in that of the heap.
 fn push_from(
     heap: &mut BinaryHeap<Reverse<Entry>>,
-    places: &LinkedPlaces,
+    places: &mut LinkedPlaces,
     from: u128,
     until: u128,
     place: usize,
 ) -> Result<(), Memory>
     requires order { IsHeap turned_cmp (heap_items heap.old) }
     ensures order { OnOk result (IsHeap turned_cmp (heap_items heap.new)) }
-    ensures pushed { OnOk result (PushedFrom from until places.now (heap_items heap.old) (heap_items heap.new) place) }
+    ensures pushed { OnOk result (PushedFrom from until places.old (heap_items heap.old) (heap_items heap.new) place) }
+    ensures same { OnOk result (places.new ≡ places.old) }
 {
     let Some(entry) = places.entry(place, until) else {
         return Ok(());
     };
     if entry.area >= from {
         heap.push(Reverse(entry))?;
+        places.look_round(place);
     }
     Ok(())
 }
@@ -78,17 +81,18 @@ fn push_from(
 pub fn begin_round(
     heap: &mut BinaryHeap<Reverse<Entry>>,
     waiting: &WaitingLists,
-    places: &LinkedPlaces,
+    places: &mut LinkedPlaces,
     from: u128,
     until: u128,
 ) -> Result<(), Memory>
-    requires { NoneNext from places.now waiting.now }
+    requires { NoneNext from places.old waiting.now }
     ensures order { OnOk result (IsHeap turned_cmp (heap_items heap.new)) }
-    ensures queued { OnOk result (IsQueued until places.now (heap_items heap.new) waiting.now) }
-    ensures below { OnOk result (AreBelow places.now) }
+    ensures queued { OnOk result (IsQueued until places.new (heap_items heap.new) waiting.now) }
+    ensures below { OnOk result (AreBelow places.new) }
+    ensures same { OnOk result (places.new ≡ places.old) }
 {
     heap.clear();
-    for place in 0..places.len() {
+    'places: for place in 0..places.len() {
         push_from(heap, places, from, until, place)?;
     }
     Ok(())
@@ -98,14 +102,15 @@ pub fn begin_round(
 fn begin_next_round(
     heap: &mut BinaryHeap<Reverse<Entry>>,
     waiting: &WaitingLists,
-    places: &LinkedPlaces,
+    places: &mut LinkedPlaces,
     round: &mut u128,
     threshold: u128,
 ) -> Result<(), Memory>
-    requires none { NoneNext round.old places.now waiting.now }
+    requires none { NoneNext round.old places.old waiting.now }
     requires more { round.old < threshold }
     ensures order { OnOk result (IsHeap turned_cmp (heap_items heap.new)) }
-    ensures queued { OnOk result (IsQueued round.new places.now (heap_items heap.new) waiting.now) }
+    ensures queued { OnOk result (IsQueued round.new places.new (heap_items heap.new) waiting.now) }
+    ensures same { OnOk result (places.new ≡ places.old) }
     ensures above { OnOk result (round.old < round.new) }
     ensures within { OnOk result (round.new ≤ threshold) }
 {

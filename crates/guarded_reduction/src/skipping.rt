@@ -1,13 +1,12 @@
 // Which segments need not be looked at.
 ghost use Rattle.std.specs.Prelude.{◌≡◌, ◌+◌, ◌<◌, ◌≤◌, ◌/◌, ◌%◌, ◌^◌, ◌==◌, ℕ, length};
 ghost use Rattle.std.specs.List.{All};
-ghost use Rattle.guarded_reduction.specs.Extents.{HoldsPoint};
 ghost use Rattle.guarded_reduction.specs.Levels.{IsOver, NoneBadWithin};
+ghost use Rattle.guarded_reduction.specs.Lines.{as_segment};
 
-use crate::block::is_clear_of;
-use crate::extent::Extent;
 use crate::levels::{Level, read_block};
 use crate::line::Line;
+use crate::probe::Probe;
 
 /// The rank after the block of this rank, where blocks have two to so many segments.
 fn after_block(bits: u32, rank: usize) -> usize
@@ -27,31 +26,19 @@ fn begins_block(bits: u32, rank: usize) -> bool
     rank % (1 << bits) == 0
 }
 
-/// The first segment of this rank or after it that may meet a segment badly, as far as the blocks that begin there show.
-pub fn skip_from(
-    lines: &[Line],
-    levels: &[Level],
-    line: &Line,
-    around_line: &Extent,
-    rank: usize,
-) -> usize
+/// The first segment of this rank or after it that may meet a probe's badly, as far as the blocks that begin there show.
+pub fn skip_from<P: Probe>(lines: &[Line], levels: &[Level], probe: &P, rank: usize) -> usize
     requires levels { All (IsOver lines.now) levels.now }
     requires rank { rank < length lines.now }
-    requires from { HoldsPoint around_line.now line.now.from }
-    requires to { HoldsPoint around_line.now line.now.to }
     ensures from { rank ≤ result }
-    ensures none { NoneBadWithin lines.now line.now rank result }
+    ensures none { (l : Line) → P.among probe.now (as_segment l) → NoneBadWithin lines.now l rank result }
 {
     let mut next = rank;
     for level in levels {
         if !begins_block(level.bits, rank) {
             return next;
         }
-        if !is_clear_of(
-            read_block(&level.blocks, rank >> level.bits),
-            line,
-            around_line,
-        ) {
+        if !probe.is_clear_of(read_block(&level.blocks, rank >> level.bits)) {
             return next;
         }
         next = after_block(level.bits, rank);

@@ -10,7 +10,7 @@ use Rattle.guarded_reduction.proofs.counting.count_from.Goals.{then-is_bad_pair,
 pub loop-other-preserved-then-next-other : goal.loop-other-preserved-then-next-other
 loop-other-preserved-then-next-other c = record {
   count = c.loop-other.invariant.count;
-  all = ap (λ n. min c.args.limit (c.loop-other.count + n)) (sym (skipped c.args.lines.now c.args.line.now c.loop-other.other c.skip_from-next.result c.skip_from-next.ensures.from c.skip_from-next.ensures.none)) ∙ c.loop-other.invariant.all;
+  all = ap (λ n. min c.args.limit (c.loop-other.count + n)) (sym (skipped c.args.lines.now c.args.line.now c.loop-other.other c.skip_from-next.result c.skip_from-next.ensures.from (c.skip_from-next.ensures.none c.args.line.now c.with_box-probe.ensures.among))) ∙ c.loop-other.invariant.all;
 }
 
 pub loop-other-preserved : goal.loop-other-preserved

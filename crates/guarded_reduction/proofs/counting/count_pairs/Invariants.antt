@@ -1,4 +1,4 @@
-use Rattle.std.proofs.Common.{◌≡◌, ◌+◌, ◌≤◌, drop, map, min}
+use Rattle.std.proofs.Common.{◌≡◌, ◌+◌, ◌-◌, ◌≤◌, drop, length, map, min}
 use Rattle.guarded_meaning.specs.Segments.{bad_pairs}
 use Rattle.guarded_reduction.specs.Lines.{as_segment}
 use Rattle.guarded_reduction.proofs.counting.count_pairs.Given as goal
@@ -9,3 +9,6 @@ invariant-loop-rank l = record {
   count : l.count ≤ l.limit;
   all : min l.limit (l.count + bad_pairs (map as_segment (drop l.rank l.lines))) ≡ min l.limit (bad_pairs (map as_segment l.lines));
 }
+
+abbrev pub decreases-loop-rank : goal.decreases-loop-rank
+decreases-loop-rank l = length l.lines - l.rank

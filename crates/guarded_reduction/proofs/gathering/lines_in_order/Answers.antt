@@ -1,8 +1,25 @@
-use Rattle.std.proofs.Common.{map, subst}
-use Rattle.std.specs.List.Sorted.{IsPermutation}
-use Rattle.std.proofs.lemmas.List.Sorted.{IsPermutation-map}
+use Rattle.std.proofs.Common.{List, length, map, sym, subst}
+use Rattle.std.proofs.lemmas.List.Sorted.{All-permutation}
+use Rattle.guarded_meaning.specs.Segments.{Segment}
+use Rattle.guarded_reduction.specs.Gathering.{AreSame, EndsBy}
+use Rattle.guarded_reduction.specs.declared.line.Line.{Line}
 use Rattle.guarded_reduction.specs.Lines.{as_segment}
+use Rattle.guarded_reduction.proofs.Orders.{permuted}
+use Rattle.guarded_reduction.proofs.Stretches.{stretches_permuted}
 use Rattle.guarded_reduction.proofs.gathering.lines_in_order.Goals as goal
 
+pub lines_along-requires : goal.lines_along-requires
+lines_along-requires c =
+    let stretches = c.in_ok-stretches.stretches in
+    let arranged = permuted stretches.len stretches.items c.deref_mut.result.now c.arrange.new.items stretches.ok.0 c.deref_mut.ensures.value c.in_ok-arrange.ensures in
+    let within = rw c.deref.ensures.value at c.in_ok-stretches.ensures.within in
+    rw (c.deref-2.ensures.value, c.deref-3.ensures.value) (All-permutation (EndsBy (length c.in_ok-lines.lines.items)) stretches.items _ arranged within)
+
 pub returns : goal.returns
-returns c = subst (λ ss. IsPermutation ss (map as_segment c.sort_unstable.new.self.items)) c.in_ok-lines.ensures (IsPermutation-map as_segment _ _ c.sort_unstable.ensures.permutation)
+returns c =
+    let stretches = c.in_ok-stretches.stretches in
+    let arranged = permuted stretches.len stretches.items c.deref_mut.result.now c.arrange.new.items stretches.ok.0 c.deref_mut.ensures.value c.in_ok-arrange.ensures in
+    let whole = rw c.deref.ensures.value at c.in_ok-stretches.ensures.all in
+    let placed = rw (c.deref-2.ensures.value, c.deref-3.ensures.value) at c.in_ok-placed.ensures in
+    let same = stretches_permuted c.in_ok-lines.lines.items stretches.items _ arranged whole in
+    subst (λ (ss : List Segment). AreSame ss (map as_segment c.in_ok-placed.placed.items)) c.in_ok-lines.ensures (subst (λ (ls : List Line). AreSame (map as_segment c.in_ok-lines.lines.items) (map as_segment ls)) (sym placed) same)

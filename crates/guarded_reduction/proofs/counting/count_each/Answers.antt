@@ -1,0 +1,20 @@
+use Rattle.std.proofs.Common.{ap, arith}
+use Rattle.guarded_reduction.specs.declared.line.Line.{Line}
+use Rattle.guarded_reduction.specs.Lines.{bad_from}
+use Rattle.guarded_reduction.proofs.Across.{across_ahead, across_none}
+use Rattle.guarded_reduction.proofs.counting.count_each.Goals as goal
+
+pub loop-own-preserved : goal.loop-own-preserved
+loop-own-preserved c =
+    let next = across_ahead c.args.lines.now c.loop-own.own c.args.run.end c.args.rank c.loop-own-test.true in
+    let same = ap (λ (l : Line). bad_from c.args.lines.now l c.args.rank) c.read_line.ensures in
+    let e = c.count_from-count.ensures in
+    record {
+      count = omega (arith, e);
+      all = omega (arith, c.loop-own.invariant.all, e, same, next);
+    }
+
+pub returns : goal.returns
+returns c =
+    let none = across_none c.args.lines.now c.loop-own.own c.args.run.end c.args.rank (omega (arith, c.loop-own-test.false)) in
+    omega (arith, c.loop-own.invariant.all, c.loop-own.invariant.count, none)

@@ -105,4 +105,20 @@ impl<W: Drain> Out for Buffered<'_, W> {
         self.held.push(bytes);
         self.trace = self.trace.with(bytes);
     }
+
+    #[tactic(auto, using(crate::proofs::Standings::standings))]
+    fn put_units(&mut self, units: i64, places: u32) {
+        self.make_room();
+        let before = self.held.len();
+        self.held.push_units(units, places);
+        self.trace = self.trace.with(self.held.after(before));
+    }
+
+    #[tactic(auto, using(crate::proofs::Standings::standings))]
+    fn put_units_pair(&mut self, x: i64, y: i64, places: u32) {
+        self.make_room();
+        let before = self.held.len();
+        self.held.push_pair(x, y, places);
+        self.trace = self.trace.with(self.held.after(before));
+    }
 }

@@ -6,11 +6,11 @@
 //! `end` answers for the whole text. `add_units` puts a number of units into a `ShortText`.
 #![tactic(auto)]
 
-mod backward_text;
 mod buffered;
 mod list_writer;
 mod number_writer;
 mod out;
+mod room_writer;
 mod short_text;
 mod text_writer;
 mod trace;

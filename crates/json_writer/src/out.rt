@@ -1,5 +1,6 @@
 // What takes a text.
-ghost use Rattle.std.specs.Prelude.{◌≡◌, ◌++◌, List, ℕ};
+ghost use Rattle.std.specs.Prelude.{◌≡◌, ◌≤◌, ◌++◌, List, ℕ, codes};
+ghost use Rattle.decimal_text.specs.Scaling.{units_text};
 ghost use Rattle.owned_values.specs.Commas.{comma_unless};
 ghost use Rattle.json_writer.specs.Standing.{Start};
 
@@ -14,6 +15,18 @@ pub trait Out {
     /// Puts these bytes behind the others.
     fn put(&mut self, bytes: &[u8])
         ensures text { text self.new ≡ text self.old ++ bytes.now }
+        ensures kept { (start : Start) → good self.old start → good self.new start };
+
+    /// Puts a number of units of `10^-places` as the least decimal without exponent.
+    fn put_units(&mut self, units: i64, places: u32)
+        requires { places ≤ 18 }
+        ensures text { text self.new ≡ text self.old ++ units_text units places }
+        ensures kept { (start : Start) → good self.old start → good self.new start };
+
+    /// Puts two such numbers in brackets, with a comma between.
+    fn put_units_pair(&mut self, x: i64, y: i64, places: u32)
+        requires { places ≤ 18 }
+        ensures text { text self.new ≡ text self.old ++ (codes "[" ++ (units_text x places ++ (codes "," ++ (units_text y places ++ codes "]")))) }
         ensures kept { (start : Start) → good self.old start → good self.new start };
 }
 

@@ -1,0 +1,18 @@
+use Rattle.std.proofs.Common.{◌≡◌, arith, decimal}
+use Rattle.std.proofs.lemmas.Fmt.{length-decimal-le}
+use Rattle.json_writer.proofs.Rooms.{part_written}
+use Rattle.json_writer.proofs.room_writer.long_at.Goals as goal
+
+pub overflow_add-end : goal.overflow_add-end
+overflow_add-end c = omega (arith, length-decimal-le 20 c.args.number (omega arith) (omega arith) c.ranges.number.fits)
+
+pub write_digits-requires : goal.write_digits-requires
+write_digits-requires c = (omega arith, omega (arith, length-decimal-le 20 c.args.number (omega arith) (omega arith) c.ranges.number.fits))
+
+pub returns-clause-short : goal.returns-clause-short
+returns-clause-short c = omega (arith, length-decimal-le 20 c.args.number (omega arith) (omega arith) c.ranges.number.fits)
+
+pub returns-clause-written : goal.returns-clause-written
+returns-clause-written c =
+    let here : c.write_digits.result ≡ c.args.at = omega arith in
+    part_written c.args.at c.digit_count.result c.args.room.now c.write_digits.new.buf (decimal c.args.number) _ (rw here at c.write_digits.ensures.before) (rw here at c.write_digits.ensures.written) (omega arith)

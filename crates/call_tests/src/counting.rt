@@ -13,6 +13,10 @@ const LAYER: &[u8] =
 const TOPOLOGY: &[u8] =
     b"{\"type\":\"Topology\",\"objects\":{\"a\":{\"type\":\"GeometryCollection\",\"geometries\":[{\"type\":\"LineString\",\"arcs\":[0]},{\"type\":\"LineString\",\"arcs\":[-1]}]}},\"arcs\":[[[4,0],[2,0],[1,1],[0,0]]]}";
 
+// The same with a transform, under which cells are the coordinates.
+const ON_A_GRID: &[u8] =
+    b"{\"type\":\"Topology\",\"transform\":{\"scale\":[1,1],\"translate\":[0,0]},\"objects\":{\"a\":{\"type\":\"GeometryCollection\",\"geometries\":[{\"type\":\"LineString\",\"arcs\":[0]},{\"type\":\"LineString\",\"arcs\":[-1]}]}},\"arcs\":[[[4,0],[-2,0],[-1,1],[-1,-1]]]}";
+
 // Twice an area of 1.5 square units of the coordinates.
 const THRESHOLD: u128 = 3_000_000_000_000_000_000;
 
@@ -44,13 +48,13 @@ fn steps_of_building(alloc: Global) -> Option<Steps> {
 }
 
 /// What a new reducer did in simplifying the topology, if two positions went.
-fn steps_of_simplifying(alloc: Global) -> Option<Steps> {
+fn steps_of_simplifying(alloc: Global, topology: &[u8]) -> Option<Steps> {
     let mut heap = HeapLinks::new();
     let mut sink = Sink::new(MemoryDrain::new(alloc));
     let simplified = simplify(
         alloc,
         &mut heap,
-        &mut source(TOPOLOGY),
+        &mut source(topology),
         Guards {
             no_crossings: false,
             keep_shapes: false,
@@ -76,5 +80,6 @@ fn are_of_one_arc(steps: Option<Steps>) -> bool {
 #[test]
 fn each_arc_is_reduced_once(rt: HostRuntime) {
     assert!(rt; are_of_one_arc(steps_of_building(rt.alloc())));
-    assert!(rt; are_of_one_arc(steps_of_simplifying(rt.alloc())));
+    assert!(rt; are_of_one_arc(steps_of_simplifying(rt.alloc(), TOPOLOGY)));
+    assert!(rt; are_of_one_arc(steps_of_simplifying(rt.alloc(), ON_A_GRID)));
 }

@@ -153,9 +153,30 @@ fn pieces_are_compared_with_few_arcs(alloc: Global) -> bool {
     }
 }
 
+// Three lines, and the same three again: three arcs, and each line of the second three is compared with the one that it equals.
+const TWICE: &[u8] =
+    b"{\"type\":\"MultiLineString\",\"coordinates\":[[[0,0],[1,0]],[[0,1],[1,1]],[[0,2],[1,2]],[[0,0],[1,0]],[[0,1],[1,1]],[[0,2],[1,2]]]}";
+
+/// How many arcs this layer has, and how often pieces were compared for them.
+fn arcs_of(alloc: Global, text: &[u8]) -> Option<(usize, u64)> {
+    let value = parse(alloc, text, LAYER_DEPTH).ok()?;
+    let (layer, _counts) = read_layer(alloc, value, false).ok()?;
+    let lines = Lines::of(alloc, &[layer]).ok()?;
+    let table = table_of(alloc, lines).ok()?;
+    Some((table.len(), table.compared()))
+}
+
+fn equal_lines_are_compared_once(alloc: Global) -> bool {
+    match arcs_of(alloc, TWICE) {
+        Some((arcs, compared)) => arcs == 3 && compared == 3,
+        None => false,
+    }
+}
+
 #[test]
 fn tables_find_what_they_have(rt: HostRuntime) {
     assert!(rt; positions_are_numbered_in_reading_order(rt.alloc()));
     assert!(rt; numbers_stay_as_the_table_grows(rt.alloc()));
     assert!(rt; pieces_are_compared_with_few_arcs(rt.alloc()));
+    assert!(rt; equal_lines_are_compared_once(rt.alloc()));
 }

@@ -1,9 +1,9 @@
 -- An explanation in brief: of lines of one kind that stand beside each other ten, and how many more there are.
-use Rattle.std.specs.Prelude.{ℕ, Bool, true, false, List, [], ◌∷◌, ◌++◌, ◌-◌, Option, None, Some, codes, decimal, nat_eq, nat_le, nat_lt, if◌then◌else◌}
+use Rattle.std.specs.Prelude.{ℕ, Bool, true, false, List, [], ◌∷◌, ◌++◌, ◌-◌, Option, None, Some, codes, decimal, is_some, nat_eq, nat_le, nat_lt, if◌then◌else◌}
 use Rattle.std.specs.List.{ends_with}
 use Rattle.geojson_types.specs.Counting.{one_more}
+use Rattle.json_value.specs.Reading.{after_word}
 use Rattle.reports.specs.Lines.{lines_of}
-use Rattle.explanations.specs.Forms.{begins}
 use Rattle.explanations.specs.declared.brief.LineKind.{LineKind}
 use Rattle.explanations.specs.declared.brief.LineKind.TheVariants.{Loss, Unread, System, Swapped, Object}
 use Rattle.explanations.specs.declared.brief.Run.{Run}
@@ -31,7 +31,7 @@ abbrev pub object_beginning : List ℕ
 object_beginning = codes "  object "
 
 abbrev pub other_kind : List ℕ → Option LineKind
-other_kind line = if begins object_beginning line then Some Object else None
+other_kind line = if is_some (after_word object_beginning line) then Some Object else None
 
 -- what a line tells of, where there may be many such lines
 abbrev pub kind_of : List ℕ → Option LineKind

@@ -5,9 +5,9 @@ ghost use Rattle.json_writer.specs.Standing.{Start};
 ghost use Rattle.explanations.specs.Brief as spec;
 ghost use Rattle.reports.specs.Lines.{one_line};
 
-use crate::form::begins;
 use byte_ends::{Drain, Sink, WriteFault};
 use itoa::Buffer;
+use json_reading::after_word;
 use json_writer::{Buffered, Out};
 
 /// How a line ends that tells of a feature that is lost.
@@ -54,7 +54,7 @@ pub struct Run {
 fn other_kind(line: &[u8]) -> Option<LineKind>
     ensures { result ≡ spec.other_kind line.now }
 {
-    if begins(OBJECT_BEGINNING.as_bytes(), line) {
+    if after_word(OBJECT_BEGINNING.as_bytes(), line).is_some() {
         return Some(LineKind::Object);
     }
     None

@@ -1,13 +1,12 @@
 // Where lines meet badly, in words.
 use crate::building::decimal_of_units;
-use crate::escaping::quoted;
-use crate::labels::add_label;
 use crate::owners::{Owner, owners_of};
 use geojson_types::Position;
 use guarded_reduction::Crossing;
 use json_value::Items;
 use reports::features_in;
 use std::alloc::{AllocError, Global};
+use topojson_decoder::{add_label, quoted};
 use topojson_types::Topology;
 
 /// So many pairs of segments are named at most.

@@ -1,12 +1,12 @@
 // What is said of an input that was taken: members that aren't read, and coordinates that seem to be something else.
 use crate::bounds::corners_of;
 use crate::brief::{SWAPPED_ENDING, SYSTEM_ENDING, UNREAD_ENDING};
-use crate::escaping::quoted;
 use crate::unread::Unread;
 use geojson_meaning::Layer;
 use json_reading::{Fault, LAYER_DEPTH, value_at};
 use json_value::{Json, OwnText, find, need_text};
 use std::alloc::{AllocError, Global};
+use topojson_decoder::quoted;
 
 /// The line for members that aren't read, if there are any. `place` is what stands before it: the layer, or nothing.
 fn unread_line(alloc: Global, place: &str, unread: &Unread<'_>) -> Result<String, AllocError> {

@@ -1,10 +1,10 @@
 // The features of which nothing is left.
 use crate::brief::LOSS_ENDING;
-use crate::labels::add_label;
 use geojson_meaning::{Address, Dropped};
 use itoa::Buffer;
 use reports::{features_in, has_nothing};
 use std::alloc::{AllocError, Global};
+use topojson_decoder::add_label;
 use topojson_types::TopoObject;
 
 /// The lines and rings that are dropped and weren't looked at yet, in reading order.

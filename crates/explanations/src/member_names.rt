@@ -2,12 +2,12 @@
 ghost use Rattle.std.specs.Prelude.{◌≡◌, true};
 ghost use Rattle.json_reading.specs.Strings.{simple};
 
-use crate::members::member_at;
 use json_cursor::named_at;
 use std::alloc::Global;
+use topojson_decoder::member_at;
 
 /// The name of a member, if it is one that is read in some part of a layer (RFC 7946) or of a topology (TopoJSON 1.0), or counted by itself.
-#[derive(Clone, Copy)]
+#[derive(Clone, Copy, PartialEq, Eq)]
 pub(crate) enum MemberName {
     Type,
     Id,

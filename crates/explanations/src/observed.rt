@@ -1,20 +1,25 @@
 // What was seen of a run.
 use crate::contents::{step_line, topology_lines};
 use crate::crossed::{MOST_ASKED, crossing_lines};
-use crate::escaping::quoted;
 use crate::inputs_read::InputLines;
 use crate::losses::{DropsLeft, add_losses};
+use crate::samples::samples_in;
 use geojson_meaning::{Dropped, Layer, Position};
 use guarded_reduction::Crossing;
 use inputs::Watch;
 use json_value::Items;
 use std::alloc::{AllocError, Global};
 use std::mem;
+use topojson_decoder::quoted;
 use topojson_types::Topology;
 
 /// What is said of the inputs, and of what was made of them.
 #[derive(Drop)]
 struct Seen {
+    /// Whether the topology of a file is counted, and nothing is made of it.
+    is_count: bool,
+    /// What is said of the first properties in each object of a topology that is counted.
+    samples: Vec<String>,
     /// What is said of each input that was read.
     inputs: InputLines,
     /// How many layers were read.
@@ -76,9 +81,18 @@ impl Seen {
         self.inputs.add_to(&mut self.lines)
     }
 
+    /// Adds what is said of the file of a topology, or what is needed of it where that is counted.
+    fn add_file(&mut self, alloc: Global, bytes: &[u8]) -> Result<(), AllocError> {
+        if !self.is_count {
+            return self.inputs.add_file(alloc, bytes);
+        }
+        self.samples = samples_in(alloc, bytes)?;
+        Ok(())
+    }
+
     /// Adds what is in the topology that is counted.
     fn add_counted(&mut self, alloc: Global, topology: &Topology) -> Result<(), AllocError> {
-        let lines = topology_lines(alloc, topology)?;
+        let lines = topology_lines(alloc, topology, self.samples.as_slice())?;
         self.lines.push_str(lines.as_str())
     }
 
@@ -111,13 +125,15 @@ pub struct Observed {
 }
 
 impl Observed {
-    /// Nothing yet, of a run that is to be explained or not.
-    pub fn new(alloc: Global, is_asked: bool) -> Observed {
+    /// Nothing yet, of a run that is to be explained or not, and in which a topology is counted, or something is made.
+    pub fn new(alloc: Global, is_asked: bool, is_count: bool) -> Observed {
         if !is_asked {
             return Observed { seen: None };
         }
         Observed {
             seen: Some(Seen {
+                is_count,
+                samples: Vec::new(alloc),
                 inputs: InputLines::none(alloc),
                 layers: 0,
                 lines: String::new(alloc),
@@ -146,7 +162,7 @@ impl Watch for Observed {
 
     fn file_read(&mut self, alloc: Global, bytes: &[u8]) {
         if let Some(seen) = &mut self.seen {
-            let added = seen.inputs.add_file(alloc, bytes);
+            let added = seen.add_file(alloc, bytes);
             seen.note(added);
         }
     }

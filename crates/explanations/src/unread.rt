@@ -1,11 +1,10 @@
 // Members of layers and topologies that aren't read, counted in the bytes of an input that was taken.
 use crate::member_names::{MemberName, named_member};
-use crate::members::{next_member, rest_after};
-use crate::trees::after_mark;
 use geojson_meaning::{CoordinatesType, GeoJsonType, GeometryType, geojson_type};
 use json_cursor::{after_byte, string_at};
 use json_reading::{TOPOLOGY_DEPTH, skip};
 use std::alloc::{AllocError, Global};
+use topojson_decoder::{after_mark, next_member, rest_after};
 
 /// What has members of its own in a layer (RFC 7946, section 1.4) or in a topology (TopoJSON 1.0, section 2), and the lists of such.
 #[derive(Clone, Copy, PartialEq, Eq)]

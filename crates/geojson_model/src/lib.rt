@@ -22,9 +22,9 @@ pub use features::feature_at;
 pub use geojson_meaning::{
     Address, Cause, CoordinatesType, Counts, Dropped, Feature, FeatureSet, GeoFault, GeoFaultKind,
     GeoJsonType, Geometry, GeometryType, INPUT_LIMIT, Id, Layer, PLACES, POSITION_LIMIT, Position,
-    Properties, PropertiesForm, Ring, Shape, exact_is_stricter, features_text_spells_value,
-    geojson_type, geometry_type, inputs_alone, is_closed, nothing_deeper, numbers_stay,
-    put_features, rings_close, shapes_are_proper, texts_stay, write_features,
+    Properties, PropertiesForm, Ring, Shape, exact_is_stricter, geojson_type, geometry_type,
+    inputs_alone, is_closed, nothing_deeper, numbers_stay, rings_close, shapes_are_proper,
+    texts_stay,
 };
 pub use geometries::geometry_at;
 pub use layers::layer_at;

@@ -1,3 +1,4 @@
+pub mod Decoded
 pub mod FeatureTexts
 pub mod FeatureValues
 pub mod Numbered

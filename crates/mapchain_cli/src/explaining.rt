@@ -7,9 +7,10 @@ use crate::ending::Ending;
 use crate::files::Files;
 use byte_ends::{MAX_INPUT, ReadFault, read_all};
 use command_words::{Order, Request};
-use explanations::{
-    FileKind, Observed, bad_area, bad_share, built, layer_fault, other_parts, topology_fault,
-    unopened, unwritten_output, unwritten_stream,
+use explanations::{Observed, built};
+use fault_explanations::{
+    FileKind, bad_area, bad_share, layer_fault, other_parts, topology_fault, unopened,
+    unwritten_output, unwritten_stream,
 };
 use inputs::{BuildFault, FileFault};
 use reports::Report;

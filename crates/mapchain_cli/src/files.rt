@@ -3,7 +3,7 @@ ghost use Rattle.std.specs.Prelude.{◌≡◌, ℕ, List, None, IfNone, IfSome, 
 ghost use Rattle.mapchain_cli.specs.Files.{FileState, IsFresh, IsOpened, Keeps, begun, discarded, done_with, done_with_all, not_kept, one_more};
 
 use byte_ends::{Drain, Feed, Sink, Source};
-use explanations::{FileKind, WriteFailure};
+use fault_explanations::{FileKind, WriteFailure};
 use json_value::OwnText;
 
 /// Files that are read and replaced by their names, as a file system.

@@ -203,7 +203,8 @@ fn carry_out<F: Files, V: Drain, W: Drain>(
         (record { out = out.old; err = err.old }) (record { out = out.new; err = err.new }) result }
 {
     let mut reducer = HeapLinks::new();
-    let mut observed = Observed::new(alloc, is_followed(order));
+    let is_count = matches!(&order.request, Request::Stat { .. });
+    let mut observed = Observed::new(alloc, is_followed(order), is_count);
     let request = &order.request;
     let outcome = perform(
         alloc,

@@ -8,10 +8,11 @@ use Rattle.geojson_types.specs.declared.counts.Counts.{Counts}
 use Rattle.inputs.specs.declared.file_fault.FileFault.{FileFault}
 use Rattle.inputs.specs.declared.file_fault.FileFault.TheVariants.{Read, Json, Topo, NoObject, Write, Memory}
 use Rattle.inputs.specs.Texts.{IsNoText, IsRead}
+use Rattle.topojson_decoder.specs.declared.keeping.Keeping.{Keeping}
 use Rattle.topojson_decoder.specs.declared.topologies.Parts.{Parts}
 use Rattle.topojson_types.specs.Topologies.{Contents}
 use Rattle.json_value.specs.Limits.{topology_depth}
-use Rattle.mapchain_engine.specs.Files.{FailsToGive, IsBlankOf, IsNoTopology, IsTopologyOf, ReadsBlank, ReadsTopology}
+use Rattle.mapchain_engine.specs.Files.{FailsToGive, IsKeptOf, IsNoTopology, IsTopologyOf, ReadsKept, ReadsTopology}
 
 -- why bytes are no text
 pub no_text : (bytes : List ℕ) (fault : JsonFault) → fault ≢ text.Memory → SaysUtf8 bytes (Err fault) → SpellsNothing topology_depth bytes (Err fault) → IsNoText topology_depth bytes fault
@@ -32,6 +33,6 @@ module _ (old new : Fed) (bytes : List ℕ) (is : IsRead old new bytes) where
   topology_read (Ok r) h = record { bytes = bytes; read = is; spells = h }
   topology_read (Err e) h = fails e h
 
-  pub blank_read : (r : Result Parts FileFault) → IsBlankOf bytes r → ReadsBlank old new r
-  blank_read (Ok parts) h = record { contents = h.0; counts = h.1; read = record { bytes = bytes; read = is; spells = h.2 }; kept = h.3 }
-  blank_read (Err e) h = fails e h
+  pub kept_read : (keeping : Keeping) (r : Result Parts FileFault) → IsKeptOf keeping bytes r → ReadsKept keeping old new r
+  kept_read keeping (Ok parts) h = record { contents = h.0; counts = h.1; read = record { bytes = bytes; read = is; spells = h.2 }; kept = h.3 }
+  kept_read keeping (Err e) h = fails e h

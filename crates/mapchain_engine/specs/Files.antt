@@ -10,7 +10,7 @@ use Rattle.topojson_meaning.specs.declared.fault.TopoFault.TheVariants as topo
 use Rattle.topojson_meaning.specs.Topologies.{topology}
 use Rattle.topojson_decoder.specs.Kept.{of_contents}
 use Rattle.topojson_decoder.specs.Texts.{parts_contents}
-use Rattle.topojson_decoder.specs.declared.keeping.Keeping.TheVariants.{Blank}
+use Rattle.topojson_decoder.specs.declared.keeping.Keeping.{Keeping}
 use Rattle.topojson_decoder.specs.declared.topologies.Parts.{Parts}
 use Rattle.inputs.specs.declared.file_fault.FileFault.{FileFault}
 use Rattle.inputs.specs.declared.file_fault.FileFault.TheVariants.{Read, Json, Topo, NoObject, Write, Memory}
@@ -58,23 +58,23 @@ abbrev pub ReadsTopology : Fed → Fed → Result (Contents × Counts) FileFault
 ReadsTopology old new (Ok r) = IsTopologyRead old new r.0 r.1
 ReadsTopology old new (Err e) = FailsToGive old new e
 
--- ---- what is kept of it, where of each feature nothing is kept but that it is there
+-- ---- what is kept of it, where not all is
 
 -- the answer for the bytes
-abbrev pub IsBlankOf : List ℕ → Result Parts FileFault → Type 0
-IsBlankOf bytes (Ok parts) = (t : Contents) × (counts : Counts) × SpellsTopology bytes t counts × (parts_contents parts ≡ of_contents Blank t)
-IsBlankOf bytes (Err e) = IsNoTopology bytes e
+abbrev pub IsKeptOf : Keeping → List ℕ → Result Parts FileFault → Type 0
+IsKeptOf keeping bytes (Ok parts) = (t : Contents) × (counts : Counts) × SpellsTopology bytes t counts × (parts_contents parts ≡ of_contents keeping t)
+IsKeptOf keeping bytes (Err e) = IsNoTopology bytes e
 
 -- and for the source
-pub record IsBlankRead (old new : Fed) (parts : Parts) : Type 0 where
+pub record IsKeptRead (keeping : Keeping) (old new : Fed) (parts : Parts) : Type 0 where
   pub contents : Contents
   pub counts : Counts
   pub read : IsTopologyRead old new contents counts
-  pub kept : parts_contents parts ≡ of_contents Blank contents
+  pub kept : parts_contents parts ≡ of_contents keeping contents
 
-abbrev pub ReadsBlank : Fed → Fed → Result Parts FileFault → Type 0
-ReadsBlank old new (Ok parts) = IsBlankRead old new parts
-ReadsBlank old new (Err e) = FailsToGive old new e
+abbrev pub ReadsKept : Keeping → Fed → Fed → Result Parts FileFault → Type 0
+ReadsKept keeping old new (Ok parts) = IsKeptRead keeping old new parts
+ReadsKept keeping old new (Err e) = FailsToGive old new e
 
 -- the source was read to its end, and this is the summary of the topology that its bytes spell
 pub record IsSummarised (old new : Fed) (summary : Summary) : Type 0 where

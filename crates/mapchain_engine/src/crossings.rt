@@ -7,7 +7,7 @@ ghost use Rattle.simplified_topology.specs.Guarded.{crossings_of};
 ghost use Rattle.mapchain_engine.specs.FileOutcomes.{FileHasOutcome, FollowsSummary, summarised_with_crossings};
 ghost use Rattle.mapchain_engine.specs.Files.{FailsToGive, IsCounted};
 
-use crate::file_reading::read_file;
+use crate::file_reading::read_watched;
 use crate::guarding::arc_positions;
 use crate::summarising::summary_in;
 use byte_ends::{Feed, Memory, Source};
@@ -74,7 +74,7 @@ pub fn stat_with_crossings_watched<R: Feed, K: Watch>(
     ensures decided { (bytes : List ℕ) (outcome : Result Counted Fault) → source.old.left ≡ Some bytes → FileHasOutcome summarised_with_crossings bytes outcome
         → FollowsSummary outcome result }
 {
-    let (topology, _counts) = read_file(alloc, source)?;
+    let (topology, _counts) = read_watched(alloc, source, watch)?;
     watch.counted(alloc, &topology);
     let summary = summary_with_crossings(alloc, &topology, watch);
     // (as in building)

@@ -2,7 +2,7 @@
 ghost use Rattle.std.specs.Prelude.{ℕ, Err, List, MatchResult};
 ghost use Rattle.inputs.specs.Texts.{IsRead};
 ghost use Rattle.topojson_decoder.specs.Texts.{TextAnswers};
-ghost use Rattle.mapchain_engine.specs.Files.{FailsToGive, IsBlankOf, IsNoTopology, IsTopologyOf, ReadsBlank, ReadsTopology};
+ghost use Rattle.mapchain_engine.specs.Files.{FailsToGive, IsKeptOf, IsNoTopology, IsTopologyOf, ReadsKept, ReadsTopology};
 
 use byte_ends::{Feed, MAX_INPUT, ReadFault, Source, read_all};
 use geojson_types::Counts;
@@ -59,12 +59,20 @@ fn topology_of_watched<K: Watch>(
     read
 }
 
-/// What the bytes spell, of whose features nothing is kept but that they are there; or why they spell no topology.
-fn blank_of(alloc: Global, bytes: &[u8]) -> Result<Parts, FileFault>
-    ensures { IsBlankOf bytes.now result }
+/// What is kept of the topology that the bytes spell; or why they spell none. A `Watch` looks on.
+fn kept_of<K: Watch>(
+    alloc: Global,
+    keeping: Keeping,
+    bytes: &[u8],
+    watch: &mut K,
+) -> Result<Parts, FileFault>
+    ensures { IsKeptOf keeping bytes.now result }
 {
-    match read_parts(alloc, Keeping::Blank, bytes) {
-        Ok((parts, _counts)) => Ok(parts),
+    match read_parts(alloc, keeping, bytes) {
+        Ok((parts, _counts)) => {
+            watch.file_read(alloc, bytes);
+            Ok(parts)
+        }
         Err(refusal) => Err(fault_of(refusal)),
     }
 }
@@ -104,12 +112,17 @@ pub(crate) fn read_watched<R: Feed, K: Watch>(
     }
 }
 
-/// Reads a source to its end, and gives what its bytes spell, of whose features nothing is kept but that they are there.
-pub(crate) fn read_blank<R: Feed>(alloc: Global, source: &mut Source<R>) -> Result<Parts, FileFault>
-    ensures { ReadsBlank source.old source.new result }
+/// Reads a source to its end, and gives what is kept of the topology that its bytes spell. A `Watch` looks on.
+pub(crate) fn read_kept<R: Feed, K: Watch>(
+    alloc: Global,
+    keeping: Keeping,
+    source: &mut Source<R>,
+    watch: &mut K,
+) -> Result<Parts, FileFault>
+    ensures { ReadsKept keeping source.old source.new result }
 {
     match bytes_of(alloc, source) {
-        Ok(bytes) => blank_of(alloc, &bytes),
+        Ok(bytes) => kept_of(alloc, keeping, &bytes, watch),
         Err(fault) => Err(fault),
     }
 }

@@ -21,8 +21,7 @@ use layer_topology::{Level, kept_at_once};
 use simplified_topology::{guarded_indexes_reach, protecting_indexes_reach};
 use std::alloc::Global;
 use topo_model::{Reduces, rings_to_stay};
-use topojson_features::positions;
-use topojson_types::{Cell, Topology, Transform};
+use topojson_types::{Cell, Topology, Transform, positions};
 
 /// The positions that each of these arcs stands for.
 pub(crate) fn arc_positions(

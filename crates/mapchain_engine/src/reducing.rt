@@ -27,8 +27,7 @@ use reports::{Report, report_of};
 use simplified_topology::indexes_reach;
 use std::alloc::Global;
 use topo_model::{position_counts, reassemble, retained_cells};
-use topojson_features::positions;
-use topojson_types::{Cell, Topology, Transform};
+use topojson_types::{Cell, Topology, Transform, positions};
 
 /// The positions of an arc without a transform, which are its cells. The arc is freed.
 fn own_positions(alloc: Global, arc: Items<Cell>) -> Result<Items<Position>, Memory>

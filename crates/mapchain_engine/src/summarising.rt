@@ -3,15 +3,19 @@ ghost use Rattle.std.specs.Prelude.{◌≡◌, ℕ, List, Some, Result, IfOk, If
 ghost use Rattle.inputs.specs.declared.file_fault.FileFault.{FileFault as Fault};
 ghost use Rattle.reports.specs.declared.summary.Summary.{Summary as Counted};
 ghost use Rattle.reports.specs.Summaries.{summary_of};
+ghost use Rattle.topojson_types.specs.Validity.{IsTopology};
+ghost use Rattle.topojson_decoder.specs.Texts.{parts_contents};
 ghost use Rattle.mapchain_engine.specs.FileOutcomes.{FileHasOutcome, FollowsSummary, summarised};
 ghost use Rattle.mapchain_engine.specs.Files.{FailsToGive, IsSummarised};
 
-use crate::file_reading::{read_blank, read_file};
+use crate::file_reading::read_kept;
 use byte_ends::{Feed, Memory, Source};
-use inputs::{FileFault, Watch};
+use inputs::{FileFault, Unwatched, Watch};
 use reports::{Summary, summary_with};
 use std::alloc::Global;
 use std::mem;
+use topojson_decoder::{Keeping, Parts, shapes_stay_valid, topology_of_valid};
+use topojson_meaning::topology_is_valid;
 use topojson_types::Topology;
 
 /// Counts what is in a topology (TopoJSON 1.0) that is read from its source to the end.
@@ -28,7 +32,7 @@ pub fn stat<R: Feed>(alloc: Global, source: &mut Source<R>) -> Result<Summary, F
     ensures decided { (bytes : List ℕ) (outcome : Result Counted Fault) → source.old.left ≡ Some bytes → FileHasOutcome summarised bytes outcome
         → FollowsSummary outcome result }
 {
-    let parts = read_blank(alloc, source)?;
+    let parts = read_kept(alloc, Keeping::Blank, source, &mut Unwatched)?;
     let summary = summary_with(
         alloc,
         parts.objects.as_slice(),
@@ -52,8 +56,18 @@ pub(crate) fn summary_in(alloc: Global, topology: &Topology) -> Result<Summary, 
     )
 }
 
-/// The same as `stat`, of a topology that is read with all of its features, which a `Watch` looks at.
-fn stat_whole<R: Feed, K: Watch>(
+/// Shows what was counted to a `Watch`.
+fn show<K: Watch>(alloc: Global, parts: Parts, watch: &mut K)
+    requires { IsTopology (parts_contents parts) }
+{
+    let topology = topology_of_valid(parts);
+    watch.counted(alloc, &topology);
+    // (as in building)
+    mem::forget(topology);
+}
+
+/// The same as `stat`, of a topology that is read with the geometries of its features, which a `Watch` looks at.
+fn stat_shapes<R: Feed, K: Watch>(
     alloc: Global,
     source: &mut Source<R>,
     watch: &mut K,
@@ -63,14 +77,20 @@ fn stat_whole<R: Feed, K: Watch>(
     ensures decided { (bytes : List ℕ) (outcome : Result Counted Fault) → source.old.left ≡ Some bytes → FileHasOutcome summarised bytes outcome
         → FollowsSummary outcome result }
 {
-    let (topology, _counts) = read_file(alloc, source)?;
-    watch.counted(alloc, &topology);
-    let summary = summary_in(alloc, &topology);
-    mem::forget(topology);
+    let parts = read_kept(alloc, Keeping::Shapes, source, watch)?;
+    let summary = summary_with(
+        alloc,
+        parts.objects.as_slice(),
+        parts.arcs.as_slice(),
+        parts.transform.is_some(),
+    );
+    topology_is_valid();
+    shapes_stay_valid();
+    show(alloc, parts, watch);
     Ok(summary?)
 }
 
-/// The same as `stat`, with the same contract, and a `Watch` looks on. Features are kept in memory only where it asks for them.
+/// The same as `stat`, with the same contract, and a `Watch` looks on. The geometries of features are kept in memory only where it asks for features.
 pub fn stat_watched<R: Feed, K: Watch>(
     alloc: Global,
     source: &mut Source<R>,
@@ -82,7 +102,7 @@ pub fn stat_watched<R: Feed, K: Watch>(
         → FollowsSummary outcome result }
 {
     if watch.asks_for_features() {
-        stat_whole(alloc, source, watch)
+        stat_shapes(alloc, source, watch)
     } else {
         stat(alloc, source)
     }

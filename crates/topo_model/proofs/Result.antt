@@ -28,7 +28,7 @@ use Rattle.simplified_topology.proofs.Objects.{objects_then}
 use Rattle.simplified_topology.proofs.Spared.{Leaves, objects_left as spared_left}
 use Rattle.simplified_topology.proofs.ValidRetained.{retained_length}
 use Rattle.owned_values.proofs.Elements.{all_append, all_two, all_of_map, all_weaker}
-use Rattle.topojson_features.proofs.Standing.{lines_and_rings_full}
+use Rattle.topojson_types.proofs.Standing.{lines_and_rings_full}
 use Rattle.topojson_types.specs.declared.feature.TopoFeature.{TopoFeature}
 use Rattle.topojson_types.specs.declared.object.TopoObject.{TopoObject}
 use Rattle.topojson_types.specs.declared.object.TopoObject.TheVariants.{One, Many}

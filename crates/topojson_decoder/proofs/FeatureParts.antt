@@ -33,7 +33,7 @@ use Rattle.topojson_decoder.specs.declared.feature_parts.FeatureParts.{FeaturePa
 use Rattle.topojson_decoder.specs.declared.geometry_parts.GeometryParts.{GeometryParts}
 use Rattle.topojson_decoder.specs.declared.geometry_parts.Start.{Start}
 use Rattle.topojson_decoder.specs.declared.keeping.Keeping.{Keeping}
-use Rattle.topojson_decoder.specs.declared.keeping.Keeping.TheVariants.{Whole, Blank}
+use Rattle.topojson_decoder.specs.declared.keeping.Keeping.TheVariants.{Whole, Shapes, Blank}
 use Rattle.topojson_decoder.specs.declared.occurrence.Occurrence.{Occurrence}
 use Rattle.topojson_decoder.specs.declared.occurrence.Occurrence.TheVariants.{Never}
 use Rattle.topojson_decoder.specs.Features.{IsFeature, IsFound, IsMemberAt, blank_identifier, blank_members, found, found_in, kept_identifier, kept_members, member_name, typed_feature}
@@ -148,6 +148,17 @@ pub meets_whole : {A : Type 0} (read : Option Json → Result (Option A) TopoFau
     → FindsValue (IsFound read) d bytes answer → FindsValue (IsFound (λ v. of_read Whole (read v))) d bytes answer
 meets_whole read d bytes (Ok x) h = (h.0, h.1, h.2 ∙ whole_read (read (Some h.0)))
 meets_whole read d bytes (Err fault) h = h
+
+-- and where geometries alone are kept there is as much of them as where nothing is
+shapes_read : {A : Type 0} (r : Result (Option A) TopoFault) → of_read Blank r ≡ of_read Shapes r
+shapes_read (Ok None) = refl
+shapes_read (Ok (Some x)) = refl
+shapes_read (Err e) = refl
+
+pub meets_shapes : {A : Type 0} (read : Option Json → Result (Option A) TopoFault) (d : ℕ) (bytes : List ℕ) (answer : Result (Result (Option A) TopoFault × Bor (List ℕ)) Fault)
+    → FindsValue (IsFound (λ v. of_read Blank (read v))) d bytes answer → FindsValue (IsFound (λ v. of_read Shapes (read v))) d bytes answer
+meets_shapes read d bytes (Ok x) h = (h.0, h.1, h.2 ∙ shapes_read (read (Some h.0)))
+meets_shapes read d bytes (Err fault) h = h
 
 -- and of the kind of a value it is known whether it is faulty
 blank_identifier_in : (x : Json-F Json) → blank_identifier (kind_in x) ≡ of_read Blank (identifier_in x)

@@ -14,7 +14,7 @@ use Rattle.json_cursor.specs.Answers.{Answers}
 use Rattle.json_cursor.specs.declared.stop.Stop.{Stop}
 use Rattle.json_cursor.specs.declared.stop.Stop.TheVariants as stop
 use Rattle.topojson_decoder.specs.declared.keeping.Keeping.{Keeping}
-use Rattle.topojson_decoder.specs.declared.keeping.Keeping.TheVariants.{Whole, Blank}
+use Rattle.topojson_decoder.specs.declared.keeping.Keeping.TheVariants.{Whole, Shapes}
 use Rattle.topojson_decoder.specs.Kept.{making, of_contents, of_feature, of_named, of_object, of_option}
 use Rattle.topojson_decoder.specs.Members.{Judges}
 
@@ -104,12 +104,8 @@ pub whole_option : {A : Type 0} (x : Option A) → of_option Whole x ≡ x
 whole_option None = refl
 whole_option (Some x) = refl
 
-pub blank_option : {A : Type 0} (x : Option A) → of_option Blank x ≡ None
-blank_option None = refl
-blank_option (Some x) = refl
-
 pub whole_feature : (f : TopoFeature) → of_feature Whole f ≡ f
-whole_feature f = rw (whole_option f.id, whole_option f.properties, whole_option f.shape) refl
+whole_feature f = rw (whole_option f.id, whole_option f.properties) refl
 
 pub whole_features : (fs : List TopoFeature) → map (of_feature Whole) fs ≡ fs
 whole_features [] = refl

@@ -6,6 +6,7 @@ pub mod FeatureParts
 pub mod GeometryParts
 pub mod IndexParts
 pub mod KeptParts
+pub mod KeptValid
 pub mod LeapBlocks
 pub mod LeapMasks
 pub mod LeapParts

@@ -1,9 +1,10 @@
--- What is kept of what is read: all of it, or of each feature only that it is there.
+-- What is kept of what is read: all of it, or of each feature its geometry alone, or only that it is there.
 use Rattle.std.specs.Prelude.{ℕ, List, Option, Some, None, Result, Ok, Err, map}
 use Rattle.json_value.specs.declared.json.Json.{Json}
 use Rattle.json_value.specs.Members.{Members}
 use Rattle.geometry.specs.Points.{Point}
-use Rattle.topojson_types.specs.Topologies.{Contents}
+use Rattle.topojson_types.specs.Topologies.{Contents, TopoShape}
+use Rattle.topojson_types.specs.Validity.{IsTopology}
 use Rattle.topojson_types.specs.declared.feature.TopoFeature.{TopoFeature}
 use Rattle.topojson_types.specs.declared.object.TopoObject.{TopoObject}
 use Rattle.topojson_types.specs.declared.object.TopoObject.TheVariants.{One, Many}
@@ -14,27 +15,34 @@ use Rattle.topojson_meaning.specs.Objects as objects
 use Rattle.topojson_meaning.specs.Reader.{Reader, ◌>>=◌, give}
 use Rattle.topojson_meaning.specs.Topologies as topologies
 use Rattle.topojson_decoder.specs.declared.keeping.Keeping.{Keeping}
-use Rattle.topojson_decoder.specs.declared.keeping.Keeping.TheVariants.{Whole, Blank}
+use Rattle.topojson_decoder.specs.declared.keeping.Keeping.TheVariants.{Whole, Shapes, Blank}
 
 -- ---- what is kept
 
 abbrev pub of_some : {A : Type 0} → Keeping → A → Option A
 of_some Whole x = Some x
+of_some Shapes x = None
 of_some Blank x = None
 
--- of a part of a feature
+-- of the identifier or the properties of a feature
 abbrev pub of_option : {A : Type 0} → Keeping → Option A → Option A
 of_option keeping None = None
 of_option keeping (Some x) = of_some keeping x
 
--- of what it is read as, where it has no fault
+-- of its geometry
+abbrev pub of_shape : Keeping → Option TopoShape → Option TopoShape
+of_shape Whole s = s
+of_shape Shapes s = s
+of_shape Blank s = None
+
+-- of what a part is read as, where it has no fault
 abbrev pub of_read : {A : Type 0} → Keeping → Result (Option A) TopoFault → Result (Option A) TopoFault
 of_read keeping (Ok x) = Ok (of_option keeping x)
 of_read keeping (Err e) = Err e
 
 -- of a feature
 abbrev pub of_feature : Keeping → TopoFeature → TopoFeature
-of_feature keeping f = record { id = of_option keeping f.id; properties = of_option keeping f.properties; shape = of_option keeping f.shape }
+of_feature keeping f = record { id = of_option keeping f.id; properties = of_option keeping f.properties; shape = of_shape keeping f.shape }
 
 -- of an object, and of one with its name
 abbrev pub of_object : Keeping → TopoObject → TopoObject
@@ -47,6 +55,10 @@ of_named keeping o = (o.0, of_object keeping o.1)
 -- of a topology
 abbrev pub of_contents : Keeping → Contents → Contents
 of_contents keeping t = record { objects = map (of_named keeping) t.objects; arcs = t.arcs; transform = t.transform }
+
+-- a valid topology stays valid where of each feature its geometry alone is kept
+abbrev pub ShapesStayValid : Type 0
+ShapesStayValid = (t : Contents) → IsTopology t → IsTopology (of_contents Shapes t)
 
 -- ---- readers
 

@@ -105,6 +105,19 @@ fn whole_id_at<'a>(
     }
 }
 
+/// Whether the identifier has a fault that the value at the front is, and what follows it: none is kept.
+#[inline(always)]
+fn blank_id_at<'a>(
+    alloc: Global,
+    depth_left: u32,
+    bytes: &'a [u8],
+) -> Result<(Result<Option<Id>, TopoFault>, &'a [u8]), Fault>
+    ensures { FindsValue (IsFound (kept_identifier Keeping.Blank)) depth_left bytes.now result }
+{
+    let rest = after_value(alloc, depth_left, bytes)?;
+    Ok((blank_id(kind_at(bytes)), rest))
+}
+
 /// The identifier that is kept of the value at the front, or its fault, and what follows it.
 #[inline(always)]
 fn id_at<'a>(
@@ -117,10 +130,8 @@ fn id_at<'a>(
 {
     match keeping {
         Keeping::Whole => whole_id_at(alloc, depth_left, bytes),
-        Keeping::Blank => {
-            let rest = after_value(alloc, depth_left, bytes)?;
-            Ok((blank_id(kind_at(bytes)), rest))
-        }
+        Keeping::Shapes => blank_id_at(alloc, depth_left, bytes),
+        Keeping::Blank => blank_id_at(alloc, depth_left, bytes),
     }
 }
 
@@ -140,6 +151,19 @@ fn whole_properties_at<'a>(
     }
 }
 
+/// Whether the properties have a fault that the value at the front is, and what follows it: none are kept.
+#[inline(always)]
+fn blank_properties_at<'a>(
+    alloc: Global,
+    depth_left: u32,
+    bytes: &'a [u8],
+) -> Result<(Result<Option<Properties>, TopoFault>, &'a [u8]), Fault>
+    ensures { FindsValue (IsFound (kept_members Keeping.Blank)) depth_left bytes.now result }
+{
+    let rest = after_value(alloc, depth_left, bytes)?;
+    Ok((blank_properties(kind_at(bytes)), rest))
+}
+
 /// The properties that are kept of the value at the front, or their fault, and what follows it.
 #[inline(always)]
 fn properties_at<'a>(
@@ -152,10 +176,8 @@ fn properties_at<'a>(
 {
     match keeping {
         Keeping::Whole => whole_properties_at(alloc, depth_left, bytes),
-        Keeping::Blank => {
-            let rest = after_value(alloc, depth_left, bytes)?;
-            Ok((blank_properties(kind_at(bytes)), rest))
-        }
+        Keeping::Shapes => blank_properties_at(alloc, depth_left, bytes),
+        Keeping::Blank => blank_properties_at(alloc, depth_left, bytes),
     }
 }
 
@@ -372,7 +394,7 @@ pub(crate) fn feature_of(
             Ok(TopoFeature {
                 id,
                 properties,
-                shape: start.keeping.of(shape),
+                shape: start.keeping.shape(shape),
             })
         }
     }

@@ -1,14 +1,16 @@
 //! Decoding topologies (TopoJSON 1.0): the reader of topologies straight from bytes, whatever their form and whatever their faults, and
 //! where a user of topologies begins. It stands on `json_cursor`, whose `Answers` says what a reader answers of the bytes, and on
 //! `topojson_meaning`, which says what a value stands for. A layer above calls `read_text`. `read_topology` reads a value through its
-//! text, by that reader. Beside it stand the GeoJSON features of an object and the walk along arcs, from `topojson_features`, and the types
-//! of `topojson_types`.
+//! text, by that reader. Beside it stand the GeoJSON features of an object, the walk along arcs and the types, of `topojson_types`. For who
+//! tells a person of a file that was read, it says what a feature is called, shows texts as a terminal can, and passes over members once
+//! more; that has no contracts.
 #![tactic(auto)]
 
 mod arcs;
 mod areas;
 mod cells;
 mod collected_features;
+mod escaping;
 mod feature_parts;
 mod geometries;
 mod geometry_parts;
@@ -16,8 +18,11 @@ mod held;
 mod index;
 mod joins;
 mod keeping;
+mod kept_laws;
+mod labels;
 mod leaping;
 mod lines_and_rings;
+mod members;
 mod named_objects;
 mod numbers;
 mod object_parts;
@@ -34,19 +39,23 @@ pub use arcs::{arc_at, arcs_at};
 pub use areas::polygon_at;
 pub use cells::{cell_at, place_at};
 pub use collected_features::feature_at;
+pub use escaping::{quoted, shown};
 pub use geometries::geometry_at;
 pub use keeping::Keeping;
+pub use kept_laws::shapes_stay_valid;
+pub use labels::{add_label, label_of};
 pub use leaping::leap;
 pub use lines_and_rings::line_or_ring_at;
+pub use members::{after_mark, member_at, next_member, rest_after};
 pub use named_objects::members_before_repeat;
 pub use object_parts::object_at;
 pub use reading::read_topology;
 pub use shapes::{arcs_shape_at, places_shape_at};
-pub use texts::{Refusal, read_parts, read_text, topology_of};
-pub use topojson_features::{DecodeFault, Walk, features};
+pub use texts::{Refusal, read_parts, read_text, topology_of, topology_of_valid};
 pub use topojson_meaning::TopoFault;
 pub use topojson_types::{
-    ArcRef, Cell, TopoFeature, TopoObject, TopoShape, Topology, Transform, TransformNumber,
+    ArcRef, Cell, DecodeFault, TopoFeature, TopoObject, TopoShape, Topology, Transform,
+    TransformNumber, Walk, features,
 };
 pub use topologies::{Parts, topology_at};
 pub use transforms::transform_at;

@@ -7,7 +7,8 @@ ghost use Rattle.json_reading.specs.Outcome.{SaysUtf8, SpellsNothing};
 ghost use Rattle.geojson_types.specs.declared.counts.Counts.{Counts as Counted};
 ghost use Rattle.topojson_meaning.specs.Topologies.{topology};
 ghost use Rattle.json_value.specs.Limits.{topology_depth};
-ghost use Rattle.topojson_decoder.specs.Texts.{PartsAnswer, TextAnswers};
+ghost use Rattle.topojson_types.specs.Validity.{IsTopology};
+ghost use Rattle.topojson_decoder.specs.Texts.{PartsAnswer, TextAnswers, parts_contents};
 
 use crate::keeping::Keeping;
 use crate::topologies::{Parts, kept_topology_at};
@@ -40,18 +41,26 @@ fn malformed(alloc: Global, bytes: &[u8]) -> JsonFault
     }
 }
 
-/// The topology of these parts, which a value stands for.
-pub fn topology_of(parts: Parts) -> Topology
-    requires { (v : Value) × (counts : Counted) × (topology v ≡ Ok (record { objects = parts.objects; arcs = parts.arcs; transform = parts.transform }, counts)) }
-    ensures { result ≡ record { objects = parts.objects; arcs = parts.arcs; transform = parts.transform } }
+/// The topology of these parts, which is valid.
+pub fn topology_of_valid(parts: Parts) -> Topology
+    requires { IsTopology (parts_contents parts) }
+    ensures { result ≡ parts_contents parts }
 {
     let Parts {
         objects,
         arcs,
         transform,
     } = parts;
-    topology_is_valid();
     Topology::of(objects, arcs, transform)
+}
+
+/// The topology of these parts, which a value stands for.
+pub fn topology_of(parts: Parts) -> Topology
+    requires { (v : Value) × (counts : Counted) × (topology v ≡ Ok (record { objects = parts.objects; arcs = parts.arcs; transform = parts.transform }, counts)) }
+    ensures { result ≡ record { objects = parts.objects; arcs = parts.arcs; transform = parts.transform } }
+{
+    topology_is_valid();
+    topology_of_valid(parts)
 }
 
 /// What is kept of the parts of the topology that a whole text spells (TopoJSON 1.0, section 2.1), with what was counted in reading it. Of a

@@ -7,3 +7,10 @@ pub mod ExactTexts
 pub mod FarUnits
 pub mod Grids
 pub mod WholeNumbers
+pub mod Decoded
+pub mod Ends
+pub mod Filled
+pub mod NamedObjects
+pub mod Opening
+pub mod Standing
+pub mod WalkPlaces

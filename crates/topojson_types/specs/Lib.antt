@@ -2,6 +2,8 @@ pub mod Bounds
 pub mod Codes
 pub mod Decoding
 pub mod Differences
+pub mod Filling
+pub mod LinesAndRings
 pub mod Topologies
 pub mod TransformNumbers
 pub mod Transforms

@@ -9,7 +9,7 @@ use Rattle.mapchain_engine.proofs.summarising.stat.Goals as goal
 pub returns-in_err-parts-clause-decided : goal.returns-in_err-parts-clause-decided
 returns-in_err-parts-clause-decided g c bytes outcome left comes =
     let p = err_from_is_err_and c.from_residual.result c.from_residual.ensures.1 in
-    rw (p.1, p.2) (summary_fails summary_of c.args.source.now c.read_blank.new.source bytes left outcome comes _ c.in_err-parts.ensures)
+    rw (p.1, p.2) (summary_fails summary_of c.args.source.now c.read_kept.new.source bytes left outcome comes _ c.in_err-parts.ensures)
 
 pub returns-clause-reported : goal.returns-clause-reported
 returns-clause-reported g c =
@@ -21,4 +21,4 @@ pub returns-clause-decided : goal.returns-clause-decided
 returns-clause-decided g c bytes outcome left comes =
     let read = c.in_ok-parts.ensures in
     let summary = rw (c.as_slice.ensures, c.as_slice-2.ensures, c.is_some.ensures) at c.in_ok-summary.ensures in
-    summary_decides summary_of c.args.source.now c.read_blank.new.source bytes left outcome comes read.contents read.counts _ read.read (summary ∙ reported_of Blank c.in_ok-parts.parts read.contents read.kept)
+    summary_decides summary_of c.args.source.now c.read_kept.new.source bytes left outcome comes read.contents read.counts _ read.read (summary ∙ reported_of Blank c.in_ok-parts.parts read.contents read.kept)

@@ -40,6 +40,6 @@ returns-in-Ok-typed_of c = λ ms is.
     let transform = option_copied start.transform in
     let id = by.kept_found start.keeping identifier (named (codes "id") ms) c.in-Ok.id (c.in-Ok.ensures (kept_identifier start.keeping) _ refl is.id) in
     let properties = by.kept_found start.keeping members_if (named (codes "properties") ms) c.in-Ok-found_in.properties (c.in-Ok-found_in.ensures (kept_members start.keeping) _ refl is.properties) in
-    rw (id.is, properties.is, c.of.ensures)
+    rw (id.is, properties.is, c.shape.ensures)
     (made (of_feature start.keeping) (feature transform start.arcs.now c.args.kind ms) start.counts (record { id = id.whole; properties = properties.whole; shape = c.in-Ok-typed_of.shape }) c.typed_of.new.counts
     (by.shaped transform start.arcs.now c.args.kind ms start.counts id.whole id.reads properties.whole properties.reads c.in-Ok-typed_of.shape c.typed_of.new.counts (c.in-Ok-typed_of.ensures ms is.parts)))

@@ -1,0 +1,143 @@
+// Why bytes are no JSON text.
+ghost use Rattle.std.specs.Prelude.{◌≤◌};
+
+use crate::form::{FileForm, form_of, is_plain};
+use crate::place::{place_in, prefix};
+use crate::slips::slip_at;
+use crate::trees::{is_sequence, stop};
+use json_reading::{JsonFault, Why, skip};
+use std::alloc::{AllocError, Global};
+use topojson_decoder::after_mark;
+
+/// Where the byte of this number stands, and these words.
+fn placed(alloc: Global, bytes: &[u8], at: usize, words: &str) -> Result<String, AllocError> {
+    let place = place_in(bytes, at);
+    let line = place.line;
+    let column = place.column;
+    format!(in alloc; "  line {line}, column {column} (byte {at}): {words}\n")
+}
+
+/// Why reading stops.
+fn words(why: Why) -> &'static str {
+    match why {
+        Why::Syntax => "a byte that does not belong there",
+        Why::End => "the text ends too early",
+        Why::Deep => "arrays and objects nest too deep",
+        Why::Surrogate => "half of a surrogate pair stands alone",
+    }
+}
+
+/// What to do with a file that begins like this, if that is known.
+fn advice(form: FileForm) -> &'static str {
+    match form {
+        FileForm::Gzip => "  the file is packed by gzip: unpack it first, as with gunzip\n",
+        FileForm::Zip => "  the file is a zip archive: unpack it first, as with unzip\n",
+        FileForm::Shapefile => {
+            "  the file is a shapefile: make GeoJSON of it, as by ogr2ogr -f GeoJSON out.json in.shp\n"
+        }
+        FileForm::ShapefileTable => {
+            "  the file is the table of a shapefile: make GeoJSON of the .shp beside it, as by ogr2ogr -f GeoJSON out.json in.shp\n"
+        }
+        FileForm::Sqlite => {
+            "  the file is an SQLite database, as a GeoPackage is: make GeoJSON of a layer of it, as by ogr2ogr -f GeoJSON out.json in.gpkg LAYER\n"
+        }
+        FileForm::FlatGeobuf => {
+            "  the file is FlatGeobuf: make GeoJSON of it, as by ogr2ogr -f GeoJSON out.json in.fgb\n"
+        }
+        FileForm::Utf16 => "  the file is text of UTF-16: save it as UTF-8\n",
+        FileForm::Kml => {
+            "  the file is KML: make GeoJSON of it, as by ogr2ogr -f GeoJSON out.json in.kml\n"
+        }
+        FileForm::Markup => "  the file is HTML or XML, and no JSON\n",
+        FileForm::Blank => "  the file is empty\n",
+        FileForm::Other => "",
+    }
+}
+
+/// Whether the bytes, which are no UTF-8 from this one on, seem to be a JSON text of Latin-1: all before it is ASCII, and it isn't the last.
+fn is_latin(bytes: &[u8], at: usize) -> bool {
+    matches!(skip(bytes), [b'{' | b'[', ..])
+        && prefix(bytes, at).iter().all(|byte| is_plain(*byte))
+        && at.saturating_add(1) < bytes.len()
+}
+
+/// What to do with a file that is no UTF-8 from the byte of this number on, if that is known.
+fn encoding_advice(bytes: &[u8], at: usize) -> &'static str {
+    match form_of(bytes) {
+        FileForm::Other if is_latin(bytes, at) => {
+            "  the file may be text of Latin-1: make UTF-8 of it, as by iconv -f WINDOWS-1252 -t UTF-8 in.json > out.json\n"
+        }
+        form => advice(form),
+    }
+}
+
+/// The line for the byte of this number, where reading stops for this reason, and what to do if it is something that is often taken for
+/// JSON.
+fn stopped(alloc: Global, bytes: &[u8], at: usize, why: Why) -> Result<String, AllocError> {
+    match slip_at(bytes, at) {
+        Some(slip) if why == Why::Syntax => {
+            let mut lines = placed(alloc, bytes, at, slip.words())?;
+            lines.push_str(slip.advice())?;
+            Ok(lines)
+        }
+        _ => placed(alloc, bytes, at, words(why)),
+    }
+}
+
+/// What is wrong with bytes that are UTF-8 and no JSON text. `sequence` is said where they are JSON texts one after another.
+fn malformed(
+    alloc: Global,
+    bytes: &[u8],
+    deepest: u32,
+    sequence: &str,
+) -> Result<String, AllocError>
+    requires { deepest ≤ 255 }
+{
+    let advice = advice(form_of(after_mark(bytes)));
+    let Some((at, why)) = stop(alloc, bytes, deepest)? else {
+        return String::from_str(alloc, advice);
+    };
+    let mut lines = stopped(alloc, bytes, at, why)?;
+    lines.push_str(advice)?;
+    if is_sequence(alloc, bytes, deepest)? {
+        lines.push_str(sequence)?;
+    }
+    Ok(lines)
+}
+
+/// What this fault says of bytes that can't be read once more.
+fn unread_fault(alloc: Global, fault: JsonFault) -> Result<String, AllocError> {
+    match fault {
+        JsonFault::Memory => Ok(String::new(alloc)),
+        JsonFault::NotUtf8 { at } => format!(in alloc; "  byte {at}: the bytes are no UTF-8\n"),
+        JsonFault::Malformed { at, why } => {
+            let words = words(why);
+            format!(in alloc; "  byte {at}: {words}\n")
+        }
+    }
+}
+
+/// What is wrong with bytes for which this fault was answered, and which are none where they can't be read once more. `sequence` is said of
+/// JSON texts one after another.
+pub(crate) fn json_fault(
+    alloc: Global,
+    bytes: Option<&[u8]>,
+    deepest: u32,
+    sequence: &str,
+    fault: JsonFault,
+) -> Result<String, AllocError>
+    requires { deepest ≤ 255 }
+{
+    let Some(bytes) = bytes else {
+        return unread_fault(alloc, fault);
+    };
+    match fault {
+        JsonFault::Memory => Ok(String::new(alloc)),
+        JsonFault::NotUtf8 { at } => {
+            let mut lines = placed(alloc, bytes, at, "the bytes are no UTF-8")?;
+            lines.push_str(encoding_advice(bytes, at))?;
+            Ok(lines)
+        }
+        JsonFault::Malformed { .. } => malformed(alloc, bytes, deepest, sequence),
+    }
+}

@@ -1,0 +1,29 @@
+//! What is said beside a fault, in lines for a person: why an input, an area, a share or an output is refused, where in a file a fault is
+//! and what is wrong there, and what a file is that is no JSON. It reads the bytes of an input once more, as a tree of `json_reading`, and goes
+//! the way of `geojson_meaning` and `topojson_decoder` through it; it says nothing where it finds another fault than the one that was answered.
+//! The program calls a function for each outcome. Each line begins with two blanks and ends with a line feed. Contracts say where a byte stands
+//! (`place_in`) and what a file begins as (`form_of`); the sentences have none.
+#![tactic(auto)]
+
+mod file_kinds;
+mod form;
+mod json_faults;
+mod layer_faults;
+mod options;
+mod place;
+mod positions;
+mod read_faults;
+mod slips;
+mod topology_faults;
+mod topology_walk;
+mod trees;
+mod unwritten;
+mod walk;
+
+pub use file_kinds::{FileKind, unopened};
+pub use form::{FileForm, form_of};
+pub use layer_faults::layer_fault;
+pub use options::{bad_area, bad_share};
+pub use place::{Place, place_in};
+pub use topology_faults::topology_fault;
+pub use unwritten::{WriteFailure, other_parts, unwritten_output, unwritten_stream};

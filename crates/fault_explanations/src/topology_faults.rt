@@ -1,0 +1,191 @@
+// Why the file of a topology is refused.
+use crate::json_faults::json_fault;
+use crate::read_faults::read_words;
+use crate::topology_walk::{Found, Site, walk_topology};
+use crate::trees::{objects_of, parts_of, tree, type_of};
+use geojson_meaning::geojson_type;
+use inputs::FileFault;
+use json_reading::TOPOLOGY_DEPTH;
+use json_value::Json;
+use std::alloc::{AllocError, Global};
+use topojson_decoder::{label_of, quoted, shown};
+use topojson_meaning::TopoFault;
+
+/// What a file is that is JSON texts one after another.
+const SEQUENCE: &str = "  the file is JSON texts one after another, and no topology\n";
+
+/// The names of these objects, or that there are none.
+fn objects_line(alloc: Global, topology: &Json) -> Result<String, AllocError> {
+    let mut names = String::new(alloc);
+    for object in objects_of(topology) {
+        let name = quoted(alloc, object.0.as_str())?;
+        if !names.is_empty() {
+            names.push_str(", ")?;
+        }
+        names.push_str(name.as_str())?;
+    }
+    if names.is_empty() {
+        return String::from_str(alloc, "  it has no objects\n");
+    }
+    format!(in alloc; "  its objects are {names}\n")
+}
+
+/// The name of the object of this number.
+fn object_name(alloc: Global, topology: &Json, number: usize) -> Result<String, AllocError> {
+    match objects_of(topology).get(number) {
+        None => Ok(String::new(alloc)),
+        Some(object) => quoted(alloc, object.0.as_str()),
+    }
+}
+
+/// What the feature of this number of that object is called.
+fn feature_label(
+    alloc: Global,
+    topology: &Json,
+    number: usize,
+    feature: usize,
+) -> Result<String, AllocError> {
+    let Some(object) = objects_of(topology).get(number) else {
+        return Ok(String::new(alloc));
+    };
+    let Some(members) = object.1.as_object() else {
+        return Ok(String::new(alloc));
+    };
+    match parts_of(members).get(feature) {
+        None => Ok(String::new(alloc)),
+        Some(value) => label_of(alloc, value),
+    }
+}
+
+/// The words for a place in a topology.
+fn site_text(alloc: Global, topology: &Json, site: Site) -> Result<String, AllocError> {
+    match site {
+        Site::Topology => String::from_str(alloc, "the topology"),
+        Site::Member(name) => String::from_str(alloc, name),
+        Site::Transform => String::from_str(alloc, "transform"),
+        Site::Arc(index) => format!(in alloc; "arc {index}"),
+        Site::Repeated(number) => {
+            let name = object_name(alloc, topology, number)?;
+            format!(in alloc; "object {name}")
+        }
+        Site::Object(number) => {
+            let name = object_name(alloc, topology, number)?;
+            format!(in alloc; "object {name}")
+        }
+        Site::Feature { object, feature } => {
+            let name = object_name(alloc, topology, object)?;
+            let label = feature_label(alloc, topology, object, feature)?;
+            format!(in alloc; "object {name}, feature {feature}{label}")
+        }
+    }
+}
+
+/// What is wrong with a member of a topology itself.
+fn member_words(fault: TopoFault) -> &'static str {
+    match fault {
+        TopoFault::Missing => "it is missing",
+        TopoFault::Duplicate => "it stands there twice",
+        _ => "it isn't of the kind of JSON value that it must be",
+    }
+}
+
+/// What is wrong with what is inside one.
+fn inner_words(fault: TopoFault) -> &'static str {
+    match fault {
+        TopoFault::Missing => "a member that must be there is missing",
+        TopoFault::Duplicate => "a member stands there twice",
+        TopoFault::WrongKind => {
+            "a value isn't of the kind of JSON value that it must be, or an arc index isn't whole"
+        }
+        TopoFault::UnknownType => "a type is none of the seven of TopoJSON",
+        TopoFault::ShortArc => "it has fewer than two positions",
+        TopoFault::IndexRange => "an arc index names no arc",
+        TopoFault::Unjoined => "an arc of a line doesn't begin where the one before ends",
+        TopoFault::OpenRing => "the arcs of a ring don't end where they begin",
+        TopoFault::GridNumber => {
+            "a number isn't whole or is too far from zero, and there is a transform"
+        }
+        TopoFault::Range => "a number is beyond 3*10^8",
+        TopoFault::NotTopology => "",
+        TopoFault::Memory => "",
+    }
+}
+
+/// What is wrong there.
+fn words(found: &Found) -> &'static str {
+    match found.site {
+        Site::Member(_) => member_words(found.fault),
+        Site::Repeated(_) => "an object before it has the same name",
+        _ => inner_words(found.fault),
+    }
+}
+
+/// The line for a value that is no topology, where it is known what it is instead.
+fn other_line(alloc: Global, value: &Json) -> Result<String, AllocError> {
+    let Some(name) = type_of(value) else {
+        return Ok(String::new(alloc));
+    };
+    match geojson_type(name) {
+        None => Ok(String::new(alloc)),
+        Some(_) => String::from_str(alloc, "  this is GeoJSON, which mapchain build takes\n"),
+    }
+}
+
+/// What is wrong with this value, which is no topology.
+fn topo_fault(alloc: Global, value: &Json, fault: TopoFault) -> Result<String, AllocError> {
+    if fault == TopoFault::NotTopology {
+        return other_line(alloc, value);
+    }
+    let found = match walk_topology(alloc, value) {
+        Ok(()) => return Ok(String::new(alloc)),
+        Err(found) => found,
+    };
+    if found.fault == TopoFault::Memory {
+        return Err(AllocError);
+    }
+    if found.fault != fault {
+        return Ok(String::new(alloc));
+    }
+    let site = site_text(alloc, value, found.site)?;
+    let words = words(&found);
+    format!(in alloc; "  {site}: {words}\n")
+}
+
+/// What is wrong with the value that the bytes spell, for which this fault was answered.
+fn value_fault(
+    alloc: Global,
+    bytes: Option<&[u8]>,
+    fault: &FileFault,
+) -> Result<String, AllocError> {
+    let Some(bytes) = bytes else {
+        return Ok(String::new(alloc));
+    };
+    let Some(value) = tree(alloc, bytes, TOPOLOGY_DEPTH)? else {
+        return Ok(String::new(alloc));
+    };
+    match fault {
+        FileFault::Topo(fault) => topo_fault(alloc, &value, *fault),
+        FileFault::NoObject => objects_line(alloc, &value),
+        _ => Ok(String::new(alloc)),
+    }
+}
+
+/// Why the file of this path is refused, with this fault: the place of the fault and what is wrong there, as far as that is found out.
+/// `bytes` are those of the file, or none where they can't be read once more.
+pub fn topology_fault(
+    alloc: Global,
+    path: &str,
+    bytes: Option<&[u8]>,
+    fault: &FileFault,
+) -> Result<String, AllocError> {
+    let lines = match fault {
+        FileFault::Write { .. } => return Ok(String::new(alloc)),
+        FileFault::Memory => return Ok(String::new(alloc)),
+        FileFault::Read(fault) => String::from_str(alloc, read_words(*fault))?,
+        FileFault::Json(fault) => json_fault(alloc, bytes, TOPOLOGY_DEPTH, SEQUENCE, *fault)?,
+        FileFault::Topo(_) => value_fault(alloc, bytes, fault)?,
+        FileFault::NoObject => value_fault(alloc, bytes, fault)?,
+    };
+    let path = shown(alloc, path)?;
+    format!(in alloc; "  the file {path}\n{lines}")
+}

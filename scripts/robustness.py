@@ -18,6 +18,7 @@ minutes, 2 GB of memory and 300 MB of disk, and has up to 10^5 files open at onc
 takes large files at a hundredth of their size, and chosen positions up to 10^5, and some fifteen seconds.
 """
 import argparse
+import math
 import os
 import resource
 import shlex
@@ -333,7 +334,12 @@ FILES = (
     ("spikes over one base", MILLION // 10, lambda n: topology("", ",".join(f"[[0,0],[{n},{i + 1}],[{2 * n},0]]" for i in range(n))), UNCROSSED, 0),
     ("equal positions in a row", MILLION // 10, lambda n: topology("", "[[0,0],%s,[9,0]]" % ",".join(["[5,5]"] * n)), UNCROSSED, 0),
     ("equal roofs", MILLION // 10, lambda n: topology("", ",".join(["[[0,0],[5,5],[10,0]]"] * n)), UNCROSSED, 0),
+    ("slanting slivers", MILLION // 10, lambda n: topology("", slivers(n)), UNCROSSED, 0),
+    ("a comb", MILLION // 10, lambda n: topology("", listed(f"[{i // 2},{(i + 1) // 2 % 2 * 1000}]" for i in range(n))), UNCROSSED, 0),
+    ("positions on one line", MILLION // 10, lambda n: topology("", listed(f"[{i},{3 * i}]" for i in range(n))), UNCROSSED, 0),
     ("lines from one position, counted", MILLION // 10, lambda n: topology("", star(n)), "stat --crossings file", 0),
+    ("lines with a short end, counted", MILLION // 10, lambda n: topology("", spokes(n, lambda i: MILLION)), "stat --crossings file", 0),
+    ("the same, long and short", MILLION // 10, lambda n: topology("", spokes(n, lambda i: 1000 + i * 7919 % MILLION)), "stat --crossings file", 0),
     ("equal roofs, counted", MILLION // 10, lambda n: topology("", ",".join(["[[0,0],[5,5],[10,0]]"] * n)), "stat --crossings file", 0),
     ("white space", 50 * MILLION, lambda n: " " * n + '{"type":"FeatureCollection","features":[]}', BUILD, 0),
     ("layers", OPEN_FILES, lambda n: '{"type":"FeatureCollection","features":[]}', "build LAYERS", 0),
@@ -345,6 +351,20 @@ FILES = (
 
 def star(n):
     return ",".join(f"[[0,0],[{i + 1},{n - i}],[{2 * i + 3},{2 * (n - i)}]]" for i in range(n))
+
+
+def slivers(n):
+    return ",".join(f"[[0,{3 * i}],[{n},{n + 3 * i + 1}],[{2 * n},{2 * n + 3 * i}]]" for i in range(n))
+
+
+def spokes(n, length):
+    """Lines from one position, each of which ends in a segment of a thousandth of its length."""
+
+    def at(reach, turn):
+        return f"[{reach * math.cos(turn):.6f},{reach * math.sin(turn):.6f}]"
+
+    ways = ((length(i), 2 * math.pi * i / n) for i in range(n))
+    return ",".join(f"[[0,0],{at(reach, turn)},{at(reach * 1.001, turn)}]" for reach, turn in ways)
 
 
 def named_objects(n):
@@ -621,7 +641,7 @@ PARTS = (
     (try_depths, 80, 80),
     (try_outputs, 31, 31),
     (try_inputs, 14, 14),
-    (try_sizes, 312, 104),
+    (try_sizes, 342, 114),
     (try_nested, 90, 90),
     (try_chosen, 41, 34),
 )

@@ -41,14 +41,14 @@ in_split : (k : ℕ) (xs : List Vertex) (b : Vertex) (ys : List Vertex) → neig
 in_split k [] b ys = refl
 in_split k (x ∷ xs) b ys = from_split k x xs b ys
 
-abbrev BothHave : (Vertex → Type 0) → Neighbours → Type 0
+abbrev pub BothHave : (Vertex → Type 0) → Neighbours → Type 0
 BothHave P j = P j.from × P j.to
 
 from_have : (P : Vertex → Type 0) (k : ℕ) (a : Vertex) (vs : List Vertex) → P a → AllByRecursion P vs → AllByRecursion (BothHave P) (neighbours_from k a vs)
 from_have P k a [] h m = tt
 from_have P k a (b ∷ vs) h m = ((h, m.0), from_have P k b vs m.0 m.1)
 
-in_have : (P : Vertex → Type 0) (k : ℕ) (vs : List Vertex) → AllByRecursion P vs → AllByRecursion (BothHave P) (neighbours k vs)
+pub in_have : (P : Vertex → Type 0) (k : ℕ) (vs : List Vertex) → AllByRecursion P vs → AllByRecursion (BothHave P) (neighbours k vs)
 in_have P k [] h = tt
 in_have P k (a ∷ vs) h = from_have P k a vs h.0 h.1
 
@@ -80,7 +80,7 @@ not_own : (c : ArcCorner) (j : Neighbours) → (j.from.index ≢ c.corner.index)
 not_own c j h = and_right (j.arc == c.arc) ((j.from.index == c.corner.index) || (j.to.index == c.corner.index))
     (or_from (j.from.index == c.corner.index) (j.to.index == c.corner.index) (ne_eqb j.from.index c.corner.index h.0) (ne_eqb j.to.index c.corner.index h.1))
 
-abbrev next_neighbours : Neighbours → Neighbours
+abbrev pub next_neighbours : Neighbours → Neighbours
 next_neighbours j = neighbours_at (suc j.arc) j.from j.to
 
 from_next : (k : ℕ) (a : Vertex) (vs : List Vertex) → neighbours_from (suc k) a vs ≡ map next_neighbours (neighbours_from k a vs)
@@ -91,7 +91,7 @@ in_next : (k : ℕ) (vs : List Vertex) → neighbours (suc k) vs ≡ map next_ne
 in_next k [] = refl
 in_next k (a ∷ vs) = from_next k a vs
 
-later_neighbours : (k : ℕ) (arcs : List (List Vertex)) → all_neighbours (suc k) arcs ≡ map next_neighbours (all_neighbours k arcs)
+pub later_neighbours : (k : ℕ) (arcs : List (List Vertex)) → all_neighbours (suc k) arcs ≡ map next_neighbours (all_neighbours k arcs)
 later_neighbours k [] = refl
 later_neighbours k (vs ∷ arcs) = ap (λ js. js ++ all_neighbours (suc (suc k)) arcs) (in_next k vs) ∙ ap (λ js. map next_neighbours (neighbours k vs) ++ js) (later_neighbours (suc k) arcs)
     ∙ sym (map-append next_neighbours (neighbours k vs) (all_neighbours (suc k) arcs))
@@ -146,7 +146,7 @@ parted_at vs arcs front a p d back own was is =
 parted_first : (vs : List Vertex) (arcs : List (List Vertex)) (c : ArcCorner) → HasOwnIndexes vs → IsTaken 0 vs c → AreParted (vs ∷ arcs) c
 parted_first vs arcs c own t = subst (AreParted (vs ∷ arcs)) (sym t.at) (parted_at vs arcs t.front t.a t.p t.d t.back own t.was t.is)
 
-own_later : (c : ArcCorner) (j : Neighbours) → is_pair_of (in_next_arc c) (next_neighbours j) ≡ is_pair_of c j
+pub own_later : (c : ArcCorner) (j : Neighbours) → is_pair_of (in_next_arc c) (next_neighbours j) ≡ is_pair_of c j
 own_later c j = let h : (suc j.arc == suc c.arc) ≡ (j.arc == c.arc) = grind (arith, nat_tests) in ap (λ b. b && ((j.from.index == c.corner.index) || (j.to.index == c.corner.index))) h
 
 none_own : (c : ArcCorner) (js : List Neighbours) → AllByRecursion (λ j. is_pair_of c j ≡ false) js → AllByRecursion (λ j. is_pair_of (in_next_arc c) j ≡ false) (map next_neighbours js)

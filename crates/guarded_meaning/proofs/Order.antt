@@ -56,7 +56,7 @@ least_first k (c ∷ cs) h = ap (lesser (Some c.corner)) (least_first k cs h.1) 
 next_cmp : (m n : ℕ) → nat_cmp (suc m) (suc n) ≡ nat_cmp m n
 next_cmp m n = grind (arith, nat_tests)
 
-next_order : (c d : ArcCorner) → goes_before (in_next_arc d) (in_next_arc c) ≡ goes_before d c
+pub next_order : (c d : ArcCorner) → goes_before (in_next_arc d) (in_next_arc c) ≡ goes_before d c
 unfolding goes_before
 next_order c d = ap (λ o. is_lt (ordering_then (nat_cmp d.corner.area c.corner.area) (ordering_then (point_cmp d.corner.point c.corner.point) (ordering_then o (nat_cmp d.corner.index c.corner.index))))) (next_cmp d.arc c.arc)
 

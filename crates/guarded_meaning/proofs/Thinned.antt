@@ -62,7 +62,7 @@ each_map f (xs ∷ xss) (ys ∷ yss) h = (thinned_map f xs ys h.0, each_map f xs
 
 -- ---- a corner that goes
 
-abbrev Thins : List (List Vertex) → ArcCorner → Type 0
+abbrev pub Thins : List (List Vertex) → ArcCorner → Type 0
 Thins arcs c = EachTo IsThinned (left_by arcs c) arcs × (length (joined (left_by arcs c)) < length (joined arcs))
 
 longer : (front back : List Vertex) (a p d : Vertex) → length (front ++ (a ∷ (d ∷ back))) < length (front ++ (a ∷ (p ∷ (d ∷ back))))
@@ -78,7 +78,7 @@ thins_first vs arcs c t =
 thins_later : (vs : List Vertex) (arcs : List (List Vertex)) (c : ArcCorner) → Thins arcs c → Thins (vs ∷ arcs) (in_next_arc c)
 thins_later vs arcs c h = (((sub_same vs, ends_same vs), h.0), omega (arith, length-append vs (joined (left_by arcs c)), length-append vs (joined arcs), h.1))
 
-all_thin : (arcs : List (List Vertex)) → AllByRecursion HasOwnIndexes arcs → AllByRecursion (Thins arcs) (all_corners 0 arcs)
+pub all_thin : (arcs : List (List Vertex)) → AllByRecursion HasOwnIndexes arcs → AllByRecursion (Thins arcs) (all_corners 0 arcs)
 all_thin [] h = tt
 all_thin (vs ∷ arcs) h =
     all_append (Thins (vs ∷ arcs)) (arc_corners 0 vs) (all_corners 1 arcs)
@@ -134,13 +134,13 @@ arcs_rise guard t arcs = each_rises (map (map (λ v. v.index)) (remaining_arcs g
 
 -- ---- steps enough
 
-abbrev IsLess : List (List Vertex) → List (List Vertex) → Type 0
+abbrev pub IsLess : List (List Vertex) → List (List Vertex) → Type 0
 IsLess arcs left = AllByRecursion HasOwnIndexes left × (length (joined left) < length (joined arcs))
 
-next_less : (guard : Guard) (t : ℕ) (arcs : List (List Vertex)) → AllByRecursion HasOwnIndexes arcs → Holds (IsLess arcs) (next_arcs guard t arcs)
+pub next_less : (guard : Guard) (t : ℕ) (arcs : List (List Vertex)) → AllByRecursion HasOwnIndexes arcs → Holds (IsLess arcs) (next_arcs guard t arcs)
 next_less guard t arcs h = next_holds guard t (IsLess arcs) arcs (all_weaker (Thins arcs) (λ c. IsLess arcs (left_by arcs c)) (λ c r. (own_indexes_left c.arc c.corner.index arcs h, r.1)) (all_corners 0 arcs) (all_thin arcs h))
 
-no_corners : (k : ℕ) (arcs : List (List Vertex)) → length (joined arcs) ≤ 0 → all_corners k arcs ≡ []
+pub no_corners : (k : ℕ) (arcs : List (List Vertex)) → length (joined arcs) ≤ 0 → all_corners k arcs ≡ []
 no_corners k [] h = refl
 no_corners k ([] ∷ arcs) h = no_corners (suc k) arcs h
 no_corners k ((v ∷ vs) ∷ arcs) h = absurd (omega (arith, h))

@@ -23,7 +23,7 @@ arcs_from_are : (k : ℕ) (a b : Vertex) (vs : List Vertex) → AllByRecursion (
 arcs_from_are k a b [] = tt
 arcs_from_are k a b (c ∷ vs) = (refl, arcs_from_are k b c vs)
 
-arcs_are : (k : ℕ) (vs : List Vertex) → AllByRecursion (λ c. c.arc ≡ k) (arc_corners k vs)
+pub arcs_are : (k : ℕ) (vs : List Vertex) → AllByRecursion (λ c. c.arc ≡ k) (arc_corners k vs)
 arcs_are k [] = tt
 arcs_are k (a ∷ []) = tt
 arcs_are k (a ∷ (b ∷ vs)) = arcs_from_are k a b vs

@@ -1,5 +1,6 @@
 // Laws of the definitions. A function here does nothing: its contract is the law.
 ghost use Rattle.guarded_meaning.specs.Laws.{ArcsRise, BoxLaw, CountedByWeight, CrossingsNeverRise, EitherWay, FewerArcsLaw, HigherKeepsFewer, KeptByWeight, NoCrossingsLaw, NoneGoes, NoneStaysNone, RingsStay, ShareIsGreatest, ShareStays, SideLaw, StepLaw, ThinnedLaw, UnguardedIndexLaw, UnguardedLaw};
+ghost use Rattle.guarded_meaning.specs.Parts.{AloneLaw, ApartEnough, LoneApart, LoneLaw, PartsLaw};
 
 /// What the segment in a corner's place meets badly, one of the two before it met badly.
 #[tactic(auto, using(crate::proofs::Step::step_law))]
@@ -113,4 +114,34 @@ pub fn share_is_greatest()
 #[tactic(auto, using(crate::proofs::Shares::share_stays))]
 pub fn share_stays()
     ensures { ShareStays }
+{}
+
+/// Where each part of the arcs stays apart from the others, it is reduced as if there were no others.
+#[tactic(auto, using(crate::proofs::PartByPart::parts_law))]
+pub fn parts_law()
+    ensures { PartsLaw }
+{}
+
+/// Where there are no more corners to go, any number of them keeps clear.
+#[tactic(auto, using(crate::proofs::Apart::apart_enough))]
+pub fn apart_enough()
+    ensures { ApartEnough }
+{}
+
+/// Arcs that have nothing, before an arc and after it, don't change what is left of it.
+#[tactic(auto, using(crate::proofs::Lone::lone_law))]
+pub fn lone_law()
+    ensures { LoneLaw }
+{}
+
+/// Nor do they change whether it stays apart.
+#[tactic(auto, using(crate::proofs::Lone::lone_apart))]
+pub fn lone_apart()
+    ensures { LoneApart }
+{}
+
+/// What stays of all arcs is what stays of those that stand alone, each by itself, and of the others together.
+#[tactic(auto, using(crate::proofs::Alone::alone_law))]
+pub fn alone_law()
+    ensures { AloneLaw }
 {}

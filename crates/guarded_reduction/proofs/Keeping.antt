@@ -38,7 +38,7 @@ owners_many k (ps ∷ arcs) =
     let h = owners_many (suc k) arcs in
     omega (arith, h, length-append (replicate (length ps) k) (owners_of (suc k) arcs), length-replicate (length ps) k, length-append ps (joined arcs))
 
-owner_is : (j : ℕ) (arcs : List (List Point)) (k i : ℕ) → HasPlace arcs k i → slice_index (owners_of j arcs) (number arcs k i) ≡ j + k
+pub owner_is : (j : ℕ) (arcs : List (List Point)) (k i : ℕ) → HasPlace arcs k i → slice_index (owners_of j arcs) (number arcs k i) ≡ j + k
 owner_is j [] k i h = absurd h
 owner_is j (ps ∷ arcs) zero i h =
     let e : j ≡ j + 0 = omega arith in

@@ -1,5 +1,4 @@
 pub mod Across
-pub mod Alone
 pub mod Apart
 pub mod Beyond
 pub mod Blocks
@@ -15,6 +14,7 @@ pub mod Heap
 pub mod Indexes
 pub mod Joining
 pub mod Keeping
+pub mod KeepsClear
 pub mod KeptIndexes
 pub mod Lines
 pub mod Moves
@@ -23,6 +23,8 @@ pub mod NotFree
 pub mod Numbers
 pub mod Orders
 pub mod OtherSide
+pub mod Parting
+pub mod PartLists
 pub mod Placed
 pub mod Queries
 pub mod Queued

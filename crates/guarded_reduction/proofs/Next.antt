@@ -119,6 +119,15 @@ passed b rings t arcs c h =
     let q = and_parts (not b || is_free arcs c) (keeps_rings rings arcs c) r.1 in
     record { under = ltb-true c.corner.area t r.0; free = asked_so b (is_free arcs c) q.0; stay = q.1 }
 
+-- the corner at the entry's place goes first under this threshold
+pub record GoesNow (b : Bool) (rings : List (List ℤ)) (arcs : List (List Point)) (s : Linked) (e : Entry) (top : ℕ) : Type 0 where
+  pub corner : ArcCorner
+  pub there : In corner (all_corners 0 (left_arcs arcs s.left))
+  pub number_is : number arcs corner.arc corner.corner.index ≡ e.place
+  pub passes : goes (guarded_by b rings) top (left_arcs arcs s.left) corner ≡ true
+  pub none_before : (d : ArcCorner) → In d (all_corners 0 (left_arcs arcs s.left)) → goes (guarded_by b rings) top (left_arcs arcs s.left) d ≡ true → goes_before d corner ≡ false
+  pub leaves : left_by (left_arcs arcs s.left) corner ≡ left_arcs arcs (unlinked e.place s).left
+
 module _ (b : Bool) (rings : List (List ℤ)) (arcs : List (List Point)) (t : ℕ) (s : Linked) (show : IsShowing arcs s) (flag : s.no_crossings ≡ b) (fixed : FixedCannotGo arcs rings s) where
   abbrev now : List (List Vertex)
   now = left_arcs arcs s.left
@@ -222,11 +231,18 @@ module _ (b : Bool) (rings : List (List ℤ)) (arcs : List (List Point)) (t : �
         on (inr l) = let u : one.corner.area < t = under in not_before_less d one (omega (arith, u, l))
 
     -- so it goes next under any threshold that isn't lower
+    pub goes_now : (top : ℕ) → t ≤ top → IsWhole s → GoesNow b rings arcs s e top
+    goes_now top higher whole = record {
+      corner = one;
+      there = the_one.there;
+      number_is = the_one.number_is;
+      passes = passes b rings top now one (let u : one.corner.area < t = under in record { under = omega (arith, u, higher); free = free; stay = may_go.stay });
+      none_before = λ d m g. none_before_any d m (and_parts (nat_lt d.corner.area top) (guarded_by b rings now d) g).1;
+      leaves = sym (left_is arcs s whole show one the_one.there) ∙ ap (λ z. left_arcs arcs (slice_set s.left z false)) the_one.number_is;
+    }
+
     pub goes_next : (top : ℕ) → t ≤ top → IsWhole s → next_arcs (guarded_by b rings) top now ≡ Some (left_arcs arcs (unlinked e.place s).left)
-    goes_next top higher whole = next_law (guarded_by b rings) top now one the_one.there
-        (passes b rings top now one (let u : one.corner.area < t = under in record { under = omega (arith, u, higher); free = free; stay = may_go.stay }))
-        (λ d m g. none_before_any d m (and_parts (nat_lt d.corner.area top) (guarded_by b rings now d) g).1)
-        ∙ ap Some (sym (left_is arcs s whole show one the_one.there) ∙ ap (λ z. left_arcs arcs (slice_set s.left z false)) the_one.number_is)
+    goes_next top higher whole = let g = goes_now top higher whole in next_law (guarded_by b rings) top now g.corner g.there g.passes g.none_before ∙ ap Some g.leaves
 
     pub showing_next : IsWhole s → IsShowing arcs (unlinked e.place s)
     showing_next whole = subst (λ z. IsShowing arcs (unlinked z s)) the_one.number_is (still_showing arcs s whole show one the_one.there)

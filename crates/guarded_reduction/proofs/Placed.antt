@@ -19,11 +19,11 @@ vertex_of arcs k i = record { index = i; point = point_at (joined arcs) (number 
 
 -- ---- positions
 
-point_here : (ps : List Point) (arcs : List (List Point)) (i : ℕ) → i < length ps → point_at (ps ++ joined arcs) i ≡ slice_index_or ps i origin
+pub point_here : (ps : List Point) (arcs : List (List Point)) (i : ℕ) → i < length ps → point_at (ps ++ joined arcs) i ≡ slice_index_or ps i origin
 unfolding point_at
 point_here ps arcs i h = get_or_append_left ps (joined arcs) origin i h
 
-point_later : (ps : List Point) (arcs : List (List Point)) (n : ℕ) → point_at (ps ++ joined arcs) (length ps + n) ≡ point_at (joined arcs) n
+pub point_later : (ps : List Point) (arcs : List (List Point)) (n : ℕ) → point_at (ps ++ joined arcs) (length ps + n) ≡ point_at (joined arcs) n
 unfolding point_at
 point_later ps arcs n = get_or-append-add ps (joined arcs) n origin
 

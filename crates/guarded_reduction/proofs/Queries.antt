@@ -1,12 +1,11 @@
 -- What holds a corner is in its box.
-use Rattle.std.proofs.Common.{◌≡◌, ℕ, ◌==◌, true, not, ◌&&◌, arith}
+use Rattle.std.proofs.Common.{◌≡◌, ℕ, true, not, arith}
 use Rattle.std.proofs.lemmas.Bool.{and_parts}
 use Rattle.geometry.specs.Points.{Point}
 use Rattle.guarded_meaning.specs.Laws.{IsInBox, BoxLaw}
 use Rattle.guarded_meaning.specs.Triangles.{is_clear, in_triangle}
 use Rattle.guarded_reduction.specs.declared.extent.Extent.{Extent}
 use Rattle.guarded_reduction.specs.declared.query.Corner.{Corner}
-use Rattle.guarded_reduction.specs.Alone.{is_within}
 use Rattle.guarded_reduction.specs.Extents.{HoldsPoint}
 use Rattle.guarded_reduction.specs.Tests.{Reaches, IsOutside, is_held_by}
 
@@ -31,18 +30,6 @@ holds_triangle law e c a p b q h = in_box (law c.before c.at c.after q h)
 pub reaches : (e : Extent) (c : Corner) → ((q : Point) → in_triangle c.before c.at c.after q ≡ true → HoldsPoint e q) → Reaches e (is_held_by c)
 reaches e c n = record { holds = λ z q h. n q (held_in c z q h) }
 
-within_in : (c : Corner) (before after z : ℕ) (p : Point) → is_within c before after z p ≡ true → in_triangle c.before c.at c.after p ≡ true
-unfolding is_within
-within_in c before after z p h =
-    let t = in_triangle c.before c.at c.after p in
-    (and_parts (not (z == after)) t (and_parts (not (z == before)) (not (z == after) && t) (and_parts (not (z == c.place)) (not (z == before) && (not (z == after) && t)) h).1).1).1
-
-pub reaches_within : (e : Extent) (c : Corner) (before after : ℕ) → ((q : Point) → in_triangle c.before c.at c.after q ≡ true → HoldsPoint e q) → Reaches e (is_within c before after)
-reaches_within e c before after n = record { holds = λ z q h. n q (within_in c before after z q h) }
-
 -- a box that holds nothing of the corner's triangle holds none that holds the corner
 pub outside : (e : Extent) (c : Corner) → ((q : Point) → HoldsPoint e q → in_triangle c.before c.at c.after q ≡ true → ⊥) → IsOutside e (is_held_by c)
 outside e c n = record { fails = λ z q h t. n q h (held_in c z q t) }
-
-pub outside_within : (e : Extent) (c : Corner) (before after : ℕ) → ((q : Point) → HoldsPoint e q → in_triangle c.before c.at c.after q ≡ true → ⊥) → IsOutside e (is_within c before after)
-outside_within e c before after n = record { fails = λ z q h t. n q h (within_in c before after z q t) }

@@ -20,12 +20,12 @@ use Rattle.guarded_reduction.proofs.Placed.{in_neighbours, in_places, passing_wh
 
 -- ---- how many places an arc has
 
-abbrev size_of : List (List Point) → ℕ → ℕ
+abbrev pub size_of : List (List Point) → ℕ → ℕ
 size_of [] k = 0
 size_of (ps ∷ arcs) zero = length ps
 size_of (ps ∷ arcs) (suc k) = size_of arcs k
 
-within_size : (arcs : List (List Point)) (k i : ℕ) → HasPlace arcs k i → i < size_of arcs k
+pub within_size : (arcs : List (List Point)) (k i : ℕ) → HasPlace arcs k i → i < size_of arcs k
 within_size [] k i h = elim h [ ]
 within_size (ps ∷ arcs) zero i h = h
 within_size (ps ∷ arcs) (suc k) i h = within_size arcs k i h
@@ -35,12 +35,6 @@ has_within [] k i h = absurd (omega (arith, h))
 has_within (ps ∷ arcs) zero i h = h
 has_within (ps ∷ arcs) (suc k) i h = has_within arcs k i h
 
--- later places of an arc have greater numbers
-rises : (arcs : List (List Point)) (k i j : ℕ) → i ≤ j → number arcs k i ≤ number arcs k j
-rises [] k i j h = h
-rises (ps ∷ arcs) zero i j h = h
-rises (ps ∷ arcs) (suc k) i j h = let e = rises arcs k i j h in omega (arith, e)
-
 -- ---- links
 
 links_many : (neighbour : Neighbour) (o : ℕ) (arcs : List (List Point)) → length (links_of neighbour o arcs) ≡ length (joined arcs)
@@ -49,7 +43,7 @@ links_many neighbour o (ps ∷ arcs) =
     length-append (arc_links neighbour o (length ps)) (links_of neighbour (o + length ps) arcs) ∙ ap (λ n. n + length (links_of neighbour (o + length ps) arcs)) (length-map-range_with_len (λ i. o + neighbour (length ps) i) 0 (length ps))
     ∙ ap (λ n. length ps + n) (links_many neighbour (o + length ps) arcs) ∙ sym (length-append ps (joined arcs))
 
-links_at : (neighbour : Neighbour) (o : ℕ) (arcs : List (List Point)) (k i d : ℕ) → HasPlace arcs k i → slice_index_or (links_of neighbour o arcs) (number arcs k i) d ≡ o + number arcs k (neighbour (size_of arcs k) i)
+pub links_at : (neighbour : Neighbour) (o : ℕ) (arcs : List (List Point)) (k i d : ℕ) → HasPlace arcs k i → slice_index_or (links_of neighbour o arcs) (number arcs k i) d ≡ o + number arcs k (neighbour (size_of arcs k) i)
 links_at neighbour o [] k i d h = elim h [ ]
 links_at neighbour o (ps ∷ arcs) zero i d h =
     get_or_append_left (arc_links neighbour o (length ps)) (links_of neighbour (o + length ps) arcs) d i (omega (arith, h, length-map-range_with_len (λ j. o + neighbour (length ps) j) 0 (length ps)))
@@ -169,17 +163,6 @@ module _ (no_crossings : Bool) (arcs : List (List Point)) where
       let w = number_within arcs r.arc (min (r.index + 1) (size_of arcs r.arc - 1)) (has_within arcs r.arc (min (r.index + 1) (size_of arcs r.arc - 1)) (omega (arith, l))) in
       omega (arith, e, w)
 
-  not_before_first : (z : ℕ) → IsNumber arcs z → slice_index first.befores z ≤ z
-  not_before_first z r =
-      let e : slice_index first.befores z ≡ number arcs r.arc (r.index - 1) = ap (λ y. slice_index first.befores y) (sym r.is) ∙ before_at r.arc r.index 0 r.there in
-      omega (arith, e, r.is, rises arcs r.arc (r.index - 1) r.index (omega arith))
-
-  not_after_first : (z : ℕ) → IsNumber arcs z → z ≤ slice_index first.afters z
-  not_after_first z r =
-      let l = within_size arcs r.arc r.index r.there in
-      let e : slice_index first.afters z ≡ number arcs r.arc (min (r.index + 1) (size_of arcs r.arc - 1)) = ap (λ y. slice_index first.afters y) (sym r.is) ∙ after_at r.arc r.index (min (r.index + 1) (size_of arcs r.arc - 1)) 0 r.there refl in
-      omega (arith, e, r.is, rises arcs r.arc r.index (min (r.index + 1) (size_of arcs r.arc - 1)) (omega (arith, l)))
-
   pub first_whole : length (joined arcs) < 2 ^ 60 → IsWhole first
   first_whole few = record {
     few = few;
@@ -188,8 +171,6 @@ module _ (no_crossings : Bool) (arcs : List (List Point)) where
     afters = links_many after_index 0 arcs;
     before = λ z l. before_within z (which_place arcs z l);
     after = λ z l. after_within z (which_place arcs z l);
-    earlier = λ z l. not_before_first z (which_place arcs z l);
-    later = λ z l. not_after_first z (which_place arcs z l);
     fixed = length-replicate (length (joined arcs)) false;
   }
 

@@ -1,4 +1,4 @@
-pub mod Alone
+pub mod Beside
 pub mod Blocking
 pub mod Blocks
 pub mod Crossings
@@ -15,6 +15,7 @@ pub mod Linking
 pub mod Moves
 pub mod Numbers
 pub mod Orders
+pub mod Parts
 pub mod Placed
 pub mod PlacedLists
 pub mod Probes

@@ -1,5 +1,5 @@
 -- Places that are left, linked to their neighbours.
-use Rattle.std.specs.Prelude.{◌≡◌, ◌≢◌, ℕ, ◌<◌, ◌≤◌, ◌^◌, Bool, true, false, List, length, slice_index, slice_index_or, slice_set}
+use Rattle.std.specs.Prelude.{◌≡◌, ◌≢◌, ℕ, ◌<◌, ◌^◌, Bool, true, false, List, length, slice_index, slice_index_or, slice_set}
 use Rattle.geometry.specs.Lists.{joined}
 use Rattle.geometry.specs.Points.{Point}
 use Rattle.guarded_reduction.specs.declared.query.Corner.{Corner}
@@ -21,8 +21,7 @@ pub record Linked : Type 0 where
 unfoldable pub is_fixed : Linked → ℕ → Bool
 is_fixed s z = slice_index_or s.fixed z false
 
--- each list has an element for each place, neighbours are places, the one before a place is no later and the one after it no earlier, and an index has
--- room for them
+-- each list has an element for each place, neighbours are places, and an index has room for them
 pub record IsWhole (s : Linked) : Type 0 where
   pub few : length s.positions < 2 ^ 60
   pub left : length s.left ≡ length s.positions
@@ -31,8 +30,6 @@ pub record IsWhole (s : Linked) : Type 0 where
   pub fixed : length s.fixed ≡ length s.positions
   pub before : (z : ℕ) → z < length s.positions → slice_index s.befores z < length s.positions
   pub after : (z : ℕ) → z < length s.positions → slice_index s.afters z < length s.positions
-  pub earlier : (z : ℕ) → z < length s.positions → slice_index s.befores z ≤ z
-  pub later : (z : ℕ) → z < length s.positions → z ≤ slice_index s.afters z
 
 -- the corner at a place, as the index is asked for it
 abbrev pub corner_in : Linked → ℕ → Corner

@@ -26,7 +26,7 @@ pub struct Joined<'a> {
 }
 
 /// The number at a place, or another where there is none.
-fn number_or(numbers: &[usize], place: usize, otherwise: usize) -> usize
+pub fn number_or(numbers: &[usize], place: usize, otherwise: usize) -> usize
     ensures { result ≡ slice_index_or numbers.now place otherwise }
 {
     if place < numbers.len() {

@@ -79,6 +79,16 @@ impl PositionIndex {
         self.tree.is_more_crowded(place, other)
     }
 
+    /// One position seems to have more than so many places, with those that are gone. Nothing rests on it but speed.
+    pub(crate) fn has_crowd(&self, many: usize) -> bool {
+        for place in 0..self.tree.positions.len() {
+            if self.tree.is_crowded(place, many) {
+                return true;
+            }
+        }
+        false
+    }
+
     /// A place that is left and meets the test of the query.
     pub fn find<Q: Query>(&self, query: &Q) -> Option<usize>
         ensures some { IfSome result (λ z. Meets self.now.positions self.now.left (Q.test query.now) z) }

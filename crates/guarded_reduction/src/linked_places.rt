@@ -2,7 +2,6 @@
 ghost use Rattle.std.specs.Prelude.{◌≡◌, ◌<◌, IfOk, true, false, length, slice_index};
 ghost use Rattle.std.specs.Option.{IfNone, IfSome};
 ghost use Rattle.geometry.specs.Units.{area_limit};
-ghost use Rattle.guarded_reduction.specs.Alone.{IsAlone};
 ghost use Rattle.guarded_reduction.specs.Indexes.{Meets, NoneMeets, is_left_at, point_at};
 ghost use Rattle.guarded_reduction.specs.Blocking.{is_blocked_by};
 ghost use Rattle.guarded_reduction.specs.Entries.{IsCurrent, IsDue, entry_at, entry_in};
@@ -13,9 +12,9 @@ ghost use Rattle.guarded_reduction.specs.Moves.{lost_at};
 use crate::blocking::{Blocked, Links};
 use crate::entry::Entry;
 use crate::flattening::{afters_of, all_positions, befores_of};
-use crate::query::{Corner, Query, Within};
+use crate::query::{Corner, Query};
 use crate::ring_moves::step;
-use crate::searching::{is_left, position_of};
+use crate::searching::position_of;
 use crate::shown_places::ShownPlaces;
 use effective_area::cross;
 use geometry::Position;
@@ -24,25 +23,23 @@ use std::alloc::Global;
 use std::marker::Model;
 
 /// The places of arcs, numbered one arc after another, of which some are left, and the neighbours of these: the place before each, and the one after
-/// it; where there is none, the place itself. Some of them may stay for good. Of some corners it is noted that nothing else lies in their triangles.
+/// it; where there is none, the place itself. Some of them may stay for good.
 #[derive(Drop)]
 pub struct LinkedPlaces {
     places: ShownPlaces,
     befores: Vec<usize>,
     afters: Vec<usize>,
     fixed: Vec<bool>,
-    alone: Vec<bool>,
 }
 
 impl Model for LinkedPlaces {
-    ghost use Rattle.guarded_reduction.specs.Alone.{IsNoted};
-    ghost use Rattle.guarded_reduction.specs.Linking.{Linked};
+    ghost use Rattle.guarded_reduction.specs.Linking.{IsWhole, Linked};
 
     ghost Value = { Linked };
 
     ghost view = { λ p. record { positions = p.places.positions; left = p.places.left; befores = p.befores.items; afters = p.afters.items; no_crossings = p.places.indexed; fixed = p.fixed.items } };
 
-    ghost invariant = { λ p. IsNoted (record { positions = p.places.positions; left = p.places.left; befores = p.befores.items; afters = p.afters.items; no_crossings = p.places.indexed; fixed = p.fixed.items }) p.alone.items };
+    ghost invariant = { λ p. IsWhole (record { positions = p.places.positions; left = p.places.left; befores = p.befores.items; afters = p.afters.items; no_crossings = p.places.indexed; fixed = p.fixed.items }) };
 }
 
 impl LinkedPlaces {
@@ -56,7 +53,6 @@ impl LinkedPlaces {
     {
         let positions = all_positions(alloc, arcs)?;
         let fixed = vec![in alloc; false; positions.len()]?;
-        let alone = vec![in alloc; false; positions.len()]?;
         let places = ShownPlaces::of(alloc, positions, no_crossings)?;
         let befores = befores_of(alloc, arcs)?;
         let afters = afters_of(alloc, arcs)?;
@@ -65,7 +61,6 @@ impl LinkedPlaces {
             befores,
             afters,
             fixed,
-            alone,
         })
     }
 
@@ -242,38 +237,6 @@ impl LinkedPlaces {
         self.places.is_more_crowded(place, other)
     }
 
-    /// Nothing that is left lies in the triangle of the corner at a place, if the answer is yes. Where nothing is looked for, it is no.
-    fn is_empty(&self, place: usize) -> bool
-        requires { place < length self.now.positions }
-        ensures { result ≡ true → IsAlone self.now place }
-    {
-        let within = Within {
-            corner: self.corner(place),
-            before: self.before(place),
-            after: self.after(place),
-        };
-        self.places.is_indexed() && self.places.find_near(place, &within).is_none()
-    }
-
-    /// Notes of the corner at a place whether nothing else lies in its triangle. It is noted until a neighbour goes.
-    pub fn look_round(&mut self, place: usize)
-        requires { place < length self.old.positions }
-        ensures { self.new ≡ self.old }
-    {
-        if !self.is_alone(place) {
-            let is_empty = self.is_empty(place);
-            self.alone[place] = is_empty;
-        }
-    }
-
-    /// Nothing else lies in the triangle of the corner at a place, if the answer is yes.
-    pub fn is_alone(&self, place: usize) -> bool
-        requires { place < length self.now.positions }
-        ensures { result ≡ true → IsAlone self.now place }
-    {
-        is_left(self.alone.as_slice(), place)
-    }
-
     /// The place is left and blocks a corner.
     pub fn is_holder(&self, corner: &Corner, place: usize) -> bool
         ensures yes { result ≡ true → Meets self.now.positions self.now.left (is_blocked_by self.now.positions self.now.befores self.now.afters corner.now) place }
@@ -323,7 +286,5 @@ impl LinkedPlaces {
         self.places.remove(place);
         self.befores[after] = before;
         self.afters[before] = after;
-        self.alone[before] = false;
-        self.alone[after] = false;
     }
 }

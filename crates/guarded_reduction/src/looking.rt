@@ -68,10 +68,6 @@ pub fn next_corner(
         if !places.is_current(&entry) {
             continue;
         }
-        if places.is_alone(entry.place) {
-            places.law();
-            return Ok(Some(entry));
-        }
         let Some(holder) = holder_of(places, entry.place, last) else {
             return Ok(Some(entry));
         };

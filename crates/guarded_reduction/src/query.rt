@@ -2,14 +2,13 @@
 ghost use Rattle.std.specs.Prelude.{◌≡◌, ℕ, Bool, true, false};
 ghost use Rattle.geometry.specs.Points.{Point};
 ghost use Rattle.guarded_meaning.specs.Triangles.{in_triangle};
-ghost use Rattle.guarded_reduction.specs.Alone.{is_within};
 ghost use Rattle.guarded_reduction.specs.Extents.{HoldsPoint};
 ghost use Rattle.guarded_reduction.specs.Tests.{IsOutside, Reaches, is_held_by};
 ghost use Rattle.guarded_reduction.specs.Tests as spec;
 
 use crate::extent::{Extent, around, joined};
 use crate::sides::is_aside;
-use crate::triangle::{in_triangle, is_clear};
+use crate::triangle::is_clear;
 use geometry::Position;
 
 /// What is asked of places and their positions.
@@ -69,33 +68,5 @@ impl Query for Corner {
 
     fn may_meet(&self, e: &Extent) -> bool {
         !is_aside(e, self.before, self.at, self.after)
-    }
-}
-
-/// A corner, and the places of its ends. Any other place that lies in its triangle is within it, also at its ends.
-#[derive(Clone, Copy, Debug, PartialEq, Eq)]
-pub struct Within {
-    pub corner: Corner,
-    pub before: usize,
-    pub after: usize,
-}
-
-impl Query for Within {
-    ghost test = { λ w. is_within w.corner w.before w.after };
-
-    #[tactic(auto, unfolding(crate::specs::Alone::is_within))]
-    fn is_met_by(&self, place: usize, at: Position) -> bool {
-        let c = &self.corner;
-        place != c.place
-            && (place != self.before
-                && (place != self.after && in_triangle(c.before, c.at, c.after, at)))
-    }
-
-    fn reach(&self) -> Extent {
-        reach_of(&self.corner)
-    }
-
-    fn may_meet(&self, e: &Extent) -> bool {
-        !is_aside(e, self.corner.before, self.corner.at, self.corner.after)
     }
 }

@@ -1,37 +1,46 @@
 // The reduction.
-ghost use Rattle.std.specs.Prelude.{◌≡◌, ◌+◌, ◌≤◌, IfOk, OnOk, true, length, map};
+ghost use Rattle.std.specs.Prelude.{◌≡◌, ◌+◌, ◌≤◌, [], IfOk, OnOk, is_some, true, length, map};
 ghost use Rattle.std.specs.List.{AllByRecursion};
+ghost use Rattle.std.specs.Option.{IfSome};
+ghost use Rattle.elimination_meaning.specs.Elimination.{numbered};
 ghost use Rattle.geometry.specs.Joins.{AreInRange, Meet, arc_at};
 ghost use Rattle.geometry.specs.Lists.{joined};
 ghost use Rattle.guarded_meaning.specs.Elimination.{reduce_arcs, remaining_arcs};
 ghost use Rattle.guarded_meaning.specs.Guards.{guarded_by, is_long};
+ghost use Rattle.guarded_meaning.specs.Parts.{StaysApart};
 ghost use Rattle.guarded_reduction.specs.First.{first_linked};
 ghost use Rattle.guarded_reduction.specs.Numbers.{all_kept_indexes, kept_indexes, left_arcs};
 
 use crate::kept_rings::KeptRings;
 use crate::linked_places::LinkedPlaces;
+use crate::parts::reduce_by_parts;
 use crate::pushing::take_out;
 use crate::rounds::{begin_round, next_in_rounds, next_threshold};
+use crate::surroundings::{Nothing, Surroundings};
 use crate::waiting_lists::WaitingLists;
 use geometry::{ArcRef, Position};
 use owned_values::{Items, Memory};
 use std::alloc::Global;
 use std::collections::BinaryHeap;
 
-/// The places go that are reduced at a threshold.
-fn reduce_places(
+/// The places go that are reduced at a threshold, as long as no corner that goes meets what lies beside the arcs. Whether none did.
+fn reduce_places<S: Surroundings>(
     alloc: Global,
     arcs: &[Items<Position>],
     rings: &[Items<ArcRef>],
     threshold: u128,
     places: &mut LinkedPlaces,
-) -> Result<(), Memory>
+    beside: &S,
+) -> Result<bool, Memory>
     requires in_range { AllByRecursion (AreInRange (length arcs.now)) rings.now }
     requires meet { AllByRecursion (λ refs. Meet (map (arc_at arcs.now) refs)) rings.now }
     requires long { AllByRecursion (λ refs. is_long arcs.now refs ≡ true) rings.now }
     requires first { places.old ≡ first_linked places.old.no_crossings arcs.now }
     ensures positions { OnOk result (length places.new.positions ≡ length (joined arcs.now)) }
-    ensures left { OnOk result (left_arcs arcs.now places.new.left ≡ remaining_arcs (guarded_by places.old.no_crossings rings.now) threshold arcs.now) }
+    ensures left { IfOk result (λ apart. apart ≡ true → left_arcs arcs.now places.new.left ≡ remaining_arcs (guarded_by places.old.no_crossings rings.now) threshold arcs.now) }
+    ensures apart { IfOk result (λ apart. apart ≡ true → places.old.no_crossings ≡ true → rings.now ≡ []
+        → StaysApart (S.others beside.now) threshold (length (joined arcs.now)) (map (numbered 0) arcs.now)) }
+    ensures empty { S.are_empty beside.now ≡ true → IfOk result (λ apart. apart ≡ true) }
 {
     let mut kept = KeptRings::of(alloc, arcs, rings)?;
     let n = places.len();
@@ -50,30 +59,41 @@ fn reduce_places(
         )?;
         places.law();
         let Some(entry) = next else {
-            return Ok(());
+            return Ok(true);
         };
+        let stretch = entry.after.wrapping_sub(entry.before);
+        if !beside.are_clear_of(&places.corner(entry.place), stretch) {
+            return Ok(false);
+        }
         take_out(&mut heap, places, &waiting, round, entry)?;
     }
-    Ok(())
+    Ok(true)
 }
 
-/// The places that stay.
-fn reduced_places(
+/// The places that stay, where no corner that goes meets what lies beside the arcs.
+fn reduced_places<S: Surroundings>(
     alloc: Global,
     arcs: &[Items<Position>],
     no_crossings: bool,
     rings: &[Items<ArcRef>],
     threshold: u128,
-) -> Result<LinkedPlaces, Memory>
+    beside: &S,
+) -> Result<Option<LinkedPlaces>, Memory>
     requires in_range { AllByRecursion (AreInRange (length arcs.now)) rings.now }
     requires meet { AllByRecursion (λ refs. Meet (map (arc_at arcs.now) refs)) rings.now }
     requires long { AllByRecursion (λ refs. is_long arcs.now refs ≡ true) rings.now }
-    ensures positions { IfOk result (λ s. length s.positions ≡ length (joined arcs.now)) }
-    ensures left { IfOk result (λ s. left_arcs arcs.now s.left ≡ remaining_arcs (guarded_by no_crossings rings.now) threshold arcs.now) }
+    ensures positions { IfOk result (λ found. IfSome found (λ s. length s.positions ≡ length (joined arcs.now))) }
+    ensures left { IfOk result (λ found. IfSome found (λ s. left_arcs arcs.now s.left ≡ remaining_arcs (guarded_by no_crossings rings.now) threshold arcs.now)) }
+    ensures apart { IfOk result (λ found. IfSome found (λ _. no_crossings ≡ true → rings.now ≡ []
+        → StaysApart (S.others beside.now) threshold (length (joined arcs.now)) (map (numbered 0) arcs.now))) }
+    ensures empty { S.are_empty beside.now ≡ true → IfOk result (λ found. is_some found ≡ true) }
 {
     let mut places = LinkedPlaces::of(alloc, arcs, no_crossings)?;
-    reduce_places(alloc, arcs, rings, threshold, &mut places)?;
-    Ok(places)
+    if reduce_places(alloc, arcs, rings, threshold, &mut places, beside)? {
+        Ok(Some(places))
+    } else {
+        Ok(None)
+    }
 }
 
 /// Of n places from a first one on the indexes of those that are left.
@@ -116,6 +136,30 @@ fn all_kept(
     Ok(all)
 }
 
+/// Of each arc the numbers of the positions that stay, where no corner that goes meets what lies beside the arcs.
+pub fn reduce_beside<S: Surroundings>(
+    alloc: Global,
+    arcs: &[Items<Position>],
+    no_crossings: bool,
+    rings: &[Items<ArcRef>],
+    threshold: u128,
+    beside: &S,
+) -> Result<Option<Vec<Vec<usize>>>, Memory>
+    requires in_range { AllByRecursion (AreInRange (length arcs.now)) rings.now }
+    requires meet { AllByRecursion (λ refs. Meet (map (arc_at arcs.now) refs)) rings.now }
+    requires long { AllByRecursion (λ refs. is_long arcs.now refs ≡ true) rings.now }
+    ensures kept { IfOk result (λ found. IfSome found (λ kept. map (λ k. k.items) kept.items ≡ reduce_arcs (guarded_by no_crossings rings.now) threshold arcs.now)) }
+    ensures apart { IfOk result (λ found. IfSome found (λ _. no_crossings ≡ true → rings.now ≡ []
+        → StaysApart (S.others beside.now) threshold (length (joined arcs.now)) (map (numbered 0) arcs.now))) }
+    ensures empty { S.are_empty beside.now ≡ true → IfOk result (λ found. is_some found ≡ true) }
+{
+    let Some(places) = reduced_places(alloc, arcs, no_crossings, rings, threshold, beside)? else {
+        return Ok(None);
+    };
+    let kept = all_kept(alloc, &places, arcs)?;
+    Ok(Some(kept))
+}
+
 /// Of each arc the numbers of the positions that stay, where all arcs are reduced at once, no corner goes that would make a crossing, where crossings
 /// are to be avoided, and none that would leave one of these rings fewer than four positions, with equal neighbours as one. The rings are given
 /// by their arc indexes; they have four positions or more before. Corners go while they are under the threshold: twice the area of the triangle.
@@ -131,7 +175,13 @@ pub fn reduce_guarded(
     requires long { AllByRecursion (λ refs. is_long arcs.now refs ≡ true) rings.now }
     ensures { IfOk result (λ kept. map (λ k. k.items) kept.items ≡ reduce_arcs (guarded_by no_crossings rings.now) threshold arcs.now) }
 {
-    let places = reduced_places(alloc, arcs, no_crossings, rings, threshold)?;
-    let kept = all_kept(alloc, &places, arcs)?;
-    Ok(kept)
+    if no_crossings && rings.is_empty() {
+        if let Some(kept) = reduce_by_parts(alloc, arcs, threshold)? {
+            return Ok(kept);
+        }
+    }
+    match reduce_beside(alloc, arcs, no_crossings, rings, threshold, &Nothing)? {
+        Some(kept) => Ok(kept),
+        None => unreachable!(),
+    }
 }

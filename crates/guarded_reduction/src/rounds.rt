@@ -39,11 +39,11 @@ pub fn next_threshold(places: &LinkedPlaces, round: u128, threshold: u128) -> u1
     ensures above { round < threshold → round < result }
     ensures within { result ≤ threshold }
 {
-    let mut areas = [threshold; SAMPLES];
     let stride = places.len() / SAMPLES;
     if stride == 0 || round == threshold {
         return threshold;
     }
+    let mut areas = [threshold; SAMPLES];
     for i in 0..SAMPLES {
         areas[i] = later_area(places, i.wrapping_mul(stride), round, threshold);
     }
@@ -52,26 +52,23 @@ pub fn next_threshold(places: &LinkedPlaces, round: u128, threshold: u128) -> u1
     areas[LEAST].max(least).max(round + 1).min(threshold)
 }
 
-/// Puts the corner at a place on the heap, if there is one that is under the second threshold, and not under the first. It is noted whether anything
-/// lies in its triangle: in the order of the arcs this is found sooner than in that of the heap.
+/// Puts the corner at a place on the heap, if there is one that is under the second threshold, and not under the first.
 fn push_from(
     heap: &mut BinaryHeap<Reverse<Entry>>,
-    places: &mut LinkedPlaces,
+    places: &LinkedPlaces,
     from: u128,
     until: u128,
     place: usize,
 ) -> Result<(), Memory>
     requires order { IsHeap turned_cmp (heap_items heap.old) }
     ensures order { OnOk result (IsHeap turned_cmp (heap_items heap.new)) }
-    ensures pushed { OnOk result (PushedFrom from until places.old (heap_items heap.old) (heap_items heap.new) place) }
-    ensures same { OnOk result (places.new ≡ places.old) }
+    ensures pushed { OnOk result (PushedFrom from until places.now (heap_items heap.old) (heap_items heap.new) place) }
 {
     let Some(entry) = places.entry(place, until) else {
         return Ok(());
     };
     if entry.area >= from {
         heap.push(Reverse(entry))?;
-        places.look_round(place);
     }
     Ok(())
 }
@@ -81,18 +78,17 @@ fn push_from(
 pub fn begin_round(
     heap: &mut BinaryHeap<Reverse<Entry>>,
     waiting: &WaitingLists,
-    places: &mut LinkedPlaces,
+    places: &LinkedPlaces,
     from: u128,
     until: u128,
 ) -> Result<(), Memory>
-    requires { NoneNext from places.old waiting.now }
+    requires { NoneNext from places.now waiting.now }
     ensures order { OnOk result (IsHeap turned_cmp (heap_items heap.new)) }
-    ensures queued { OnOk result (IsQueued until places.new (heap_items heap.new) waiting.now) }
-    ensures below { OnOk result (AreBelow places.new) }
-    ensures same { OnOk result (places.new ≡ places.old) }
+    ensures queued { OnOk result (IsQueued until places.now (heap_items heap.new) waiting.now) }
+    ensures below { OnOk result (AreBelow places.now) }
 {
     heap.clear();
-    'places: for place in 0..places.len() {
+    for place in 0..places.len() {
         push_from(heap, places, from, until, place)?;
     }
     Ok(())
@@ -102,15 +98,14 @@ pub fn begin_round(
 fn begin_next_round(
     heap: &mut BinaryHeap<Reverse<Entry>>,
     waiting: &WaitingLists,
-    places: &mut LinkedPlaces,
+    places: &LinkedPlaces,
     round: &mut u128,
     threshold: u128,
 ) -> Result<(), Memory>
-    requires none { NoneNext round.old places.old waiting.now }
+    requires none { NoneNext round.old places.now waiting.now }
     requires more { round.old < threshold }
     ensures order { OnOk result (IsHeap turned_cmp (heap_items heap.new)) }
-    ensures queued { OnOk result (IsQueued round.new places.new (heap_items heap.new) waiting.now) }
-    ensures same { OnOk result (places.new ≡ places.old) }
+    ensures queued { OnOk result (IsQueued round.new places.now (heap_items heap.new) waiting.now) }
     ensures above { OnOk result (round.old < round.new) }
     ensures within { OnOk result (round.new ≤ threshold) }
 {

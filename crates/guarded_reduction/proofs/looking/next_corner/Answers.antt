@@ -1,6 +1,5 @@
 use Rattle.std.proofs.Common.{arith, inr}
 use Rattle.std.specs.BinaryHeap.{heap_items}
-use Rattle.guarded_reduction.proofs.Alone.{none_blocks}
 use Rattle.guarded_reduction.proofs.Queued.{come_to_wait, comes_next, drop_held, drop_stale}
 use Rattle.guarded_reduction.proofs.looking.next_corner.Goals as goal
 
@@ -36,10 +35,3 @@ entries-preserved-then-entry-held c = record {
   held = c.entries.invariant.held;
   fewer = omega (arith, c.in-Some.ensures.len, c.entries.invariant.fewer);
 }
-
-pub returns-then-is_alone-clause-next : goal.returns-then-is_alone-clause-next
-returns-then-is_alone-clause-next c =
-    let s = c.args.places.now in
-    let current = c.is_current.ensures.current c.if-not-is_current.false in
-    comes_next c.args.threshold s (heap_items c.entries.heap) (heap_items c.pop.new.self) c.entries.waiting c.in-Some.field-0.0 c.entries.invariant.queued c.in-Some.ensures.permutation (c.in-Some.ensures.heap_order c.entries.invariant.order).1
-    current (λ _. none_blocks s c.in-Some.field-0.0.place (c.is_alone.ensures c.if-is_alone.true) c.law.ensures c.requires.chained current.within current.left)

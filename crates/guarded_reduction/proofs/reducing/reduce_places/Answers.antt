@@ -1,4 +1,4 @@
-use Rattle.std.proofs.Common.{◌≡◌, ◌+◌, ◌-◌, length, suc, ap, sym, subst, ◌∙◌, arith}
+use Rattle.std.proofs.Common.{◌≡◌, ◌+◌, ◌-◌, suc, ap, sym, subst, ◌∙◌, arith}
 use Rattle.std.specs.BinaryHeap.{heap_items}
 use Rattle.guarded_meaning.specs.Elimination.{eliminate_arcs, remaining_arcs}
 use Rattle.guarded_meaning.specs.Guards.{guarded_by}
@@ -8,47 +8,45 @@ use Rattle.guarded_reduction.specs.Numbers.{left_arcs}
 use Rattle.guarded_reduction.proofs.Heap.{none_at_zero}
 use Rattle.guarded_reduction.proofs.Keeping.{IsGoing, first_keeping, fixed_still, going, owners_at}
 use Rattle.guarded_reduction.proofs.Next.{all_steps, goes_next, no_step, none_next, one_step, showing_next}
+use Rattle.guarded_reduction.proofs.Parting.{GoesOnApart, KeepsClear, all_apart, begins_apart, more_apart, none_apart, one_apart, same_guard}
 use Rattle.guarded_reduction.proofs.Showing.{chained}
 use Rattle.guarded_reduction.proofs.Starts.{begins, first_showing}
 use Rattle.guarded_reduction.proofs.reducing.reduce_places.Goals as goal
 
 pub corners-init : goal.corners-init
-corners-init c =
-    let s = c.begin_round.new.places in
-    let same = c.in_ok-begin_round.ensures.same in
-    let first = same ∙ c.requires.first in
-    record {
-      order = c.in_ok-begin_round.ensures.order;
-      queued = c.in_ok-begin_round.ensures.queued;
-      round = c.next_threshold-round.ensures.within;
-      showing = subst (IsShowing c.args.arcs.now) (sym first) (first_showing c.args.places.now.no_crossings c.args.arcs.now);
-      flag = ap (λ (x : Linked). x.no_crossings) same;
-      keeping = first_keeping c.args.places.now.no_crossings c.args.arcs.now c.args.rings.now s c.in_ok-kept.kept first c.in_ok-kept.ensures.rings c.in_ok-kept.ensures.counted c.requires.meet;
-      rest = begins (guarded_by c.args.places.now.no_crossings c.args.rings.now) c.args.threshold c.args.places.now.no_crossings c.args.arcs.now s c.len-n.result first (c.len-n.ensures ∙ sym (ap (λ (x : Linked). length x.positions) same));
-    }
+corners-init g c = record {
+  order = c.in_ok-begin_round.ensures.order;
+  queued = c.in_ok-begin_round.ensures.queued;
+  round = c.next_threshold-round.ensures.within;
+  showing = subst (IsShowing c.args.arcs.now) (sym c.requires.first) (first_showing c.args.places.now.no_crossings c.args.arcs.now);
+  flag = ap (λ (s : Linked). s.no_crossings) c.requires.first;
+  keeping = first_keeping c.args.places.now.no_crossings c.args.arcs.now c.args.rings.now c.args.places.now c.in_ok-kept.kept c.requires.first c.in_ok-kept.ensures.rings c.in_ok-kept.ensures.counted c.requires.meet;
+  rest = begins (guarded_by c.args.places.now.no_crossings c.args.rings.now) c.args.threshold c.args.places.now.no_crossings c.args.arcs.now c.args.places.now c.len-n.result c.requires.first c.len-n.ensures;
+  apart = λ asked none. begins_apart (g.S.Surroundings.others c.args.beside.now) c.args.threshold c.args.places.now.no_crossings c.args.arcs.now c.args.places.now c.len-n.result c.requires.first c.len-n.ensures;
+}
 
 pub begin_round-requires : goal.begin_round-requires
-begin_round-requires c = none_at_zero c.args.places.now c.in_ok-waiting.waiting (c.in_ok-waiting.ensures ∙ c.len-n.ensures)
+begin_round-requires g c = none_at_zero c.args.places.now c.in_ok-waiting.waiting (c.in_ok-waiting.ensures ∙ c.len-n.ensures)
 
 pub next_in_rounds-requires-clause-chained : goal.next_in_rounds-requires-clause-chained
-next_in_rounds-requires-clause-chained c = chained c.args.arcs.now c.corners.places c.corners.invariant.showing
+next_in_rounds-requires-clause-chained g c = chained c.args.arcs.now c.corners.places c.corners.invariant.showing
 
 pub next_in_rounds-requires-clause-owners : goal.next_in_rounds-requires-clause-owners
-next_in_rounds-requires-clause-owners c = owners_at c.args.arcs.now c.args.rings.now c.corners.places c.corners.kept c.corners.invariant.showing c.corners.invariant.keeping
+next_in_rounds-requires-clause-owners g c = owners_at c.args.arcs.now c.args.rings.now c.corners.places c.corners.kept c.corners.invariant.showing c.corners.invariant.keeping
 
 pub take_out-requires-clause-chained : goal.take_out-requires-clause-chained
-take_out-requires-clause-chained c = chained c.args.arcs.now c.next_in_rounds.new.places
+take_out-requires-clause-chained g c = chained c.args.arcs.now c.next_in_rounds.new.places
     (fixed_still c.args.arcs.now c.args.rings.now c.corners.places c.corners.invariant.showing c.corners.kept c.corners.invariant.keeping c.next_in_rounds.new.places c.in_ok-next.ensures.fixing).showing
 
 pub corners-preserved : goal.corners-preserved
-corners-preserved c =
+corners-preserved g c =
     let arcs = c.args.arcs.now in
     let rings = c.args.rings.now in
     let b = c.args.places.now.no_crossings in
     let s = c.next_in_rounds.new.places in
     let n = rw c.in-Some.is at c.in_ok-next.ensures.next in
     let f = fixed_still arcs rings c.corners.places c.corners.invariant.showing c.corners.kept c.corners.invariant.keeping s c.in_ok-next.ensures.fixing in
-    let g : IsGoing arcs rings s c.corners.kept c.next_in_rounds.new.rings c.in-Some.entry.place = going arcs rings s f.showing c.corners.kept c.next_in_rounds.new.rings f.keeping c.law.ensures c.in-Some.entry.place n.due.corner
+    let on : IsGoing arcs rings s c.corners.kept c.next_in_rounds.new.rings c.in-Some.entry.place = going arcs rings s f.showing c.corners.kept c.next_in_rounds.new.rings f.keeping c.law.ensures c.in-Some.entry.place n.due.corner
     (rw c.in-Some.is at c.in_ok-next.ensures.stay) (rw c.in-Some.is at c.in_ok-next.ensures.counted) in
     let steps : c.len-n.result - c.corners._step ≡ suc (c.len-n.result - (c.corners._step + 1)) = omega (arith, c.corners-test.true) in
     record {
@@ -56,18 +54,25 @@ corners-preserved c =
       queued = c.in_ok-take_out.ensures.queued;
       round = c.in_ok-next.ensures.round;
       showing = subst (IsShowing arcs) (sym c.in_ok-take_out.ensures.places)
-          (showing_next b rings arcs c.next_in_rounds.new.round s f.showing (f.flag ∙ c.corners.invariant.flag) f.keeping.fixed (heap_items c.next_in_rounds.new.heap) c.next_in_rounds.new.waiting c.in-Some.entry n g.stay c.law.ensures);
+          (showing_next b rings arcs c.next_in_rounds.new.round s f.showing (f.flag ∙ c.corners.invariant.flag) f.keeping.fixed (heap_items c.next_in_rounds.new.heap) c.next_in_rounds.new.waiting c.in-Some.entry n on.stay c.law.ensures);
       flag = ap (λ (x : Linked). x.no_crossings) c.in_ok-take_out.ensures.places ∙ f.flag ∙ c.corners.invariant.flag;
-      keeping = subst (λ (x : Linked). IsKeeping arcs rings x c.next_in_rounds.new.rings) (sym c.in_ok-take_out.ensures.places) g.keeping;
+      keeping = subst (λ (x : Linked). IsKeeping arcs rings x c.next_in_rounds.new.rings) (sym c.in_ok-take_out.ensures.places) on.keeping;
       rest = ap (λ (x : Linked). eliminate_arcs (guarded_by b rings) (c.len-n.result - (c.corners._step + 1)) c.args.threshold (left_arcs arcs x.left)) c.in_ok-take_out.ensures.places
           ∙ one_step (guarded_by b rings) (c.len-n.result - c.corners._step) (c.len-n.result - (c.corners._step + 1)) c.args.threshold (left_arcs arcs s.left)
           (left_arcs arcs (unlinked c.in-Some.entry.place s).left) (remaining_arcs (guarded_by b rings) c.args.threshold arcs) steps
-          (goes_next b rings arcs c.next_in_rounds.new.round s f.showing (f.flag ∙ c.corners.invariant.flag) f.keeping.fixed (heap_items c.next_in_rounds.new.heap) c.next_in_rounds.new.waiting c.in-Some.entry n g.stay c.args.threshold c.in_ok-next.ensures.round c.law.ensures)
+          (goes_next b rings arcs c.next_in_rounds.new.round s f.showing (f.flag ∙ c.corners.invariant.flag) f.keeping.fixed (heap_items c.next_in_rounds.new.heap) c.next_in_rounds.new.waiting c.in-Some.entry n on.stay c.args.threshold c.in_ok-next.ensures.round c.law.ensures)
           (ap (λ bs. eliminate_arcs (guarded_by b rings) (c.len-n.result - c.corners._step) c.args.threshold (left_arcs arcs bs)) f.left ∙ c.corners.invariant.rest);
+      apart = λ asked none.
+          let others = g.S.Surroundings.others c.args.beside.now in
+          subst (λ (x : Linked). GoesOnApart others c.args.threshold (c.len-n.result - (c.corners._step + 1)) arcs (left_arcs arcs x.left)) (sym c.in_ok-take_out.ensures.places)
+          (more_apart others c.args.threshold (c.len-n.result - c.corners._step) (c.len-n.result - (c.corners._step + 1)) arcs (left_arcs arcs s.left) (left_arcs arcs (unlinked c.in-Some.entry.place s).left) steps
+          (one_apart b rings arcs c.next_in_rounds.new.round s f.showing (f.flag ∙ c.corners.invariant.flag) f.keeping.fixed (heap_items c.next_in_rounds.new.heap) c.next_in_rounds.new.waiting c.in-Some.entry n on.stay c.law.ensures c.args.threshold c.in_ok-next.ensures.round
+          asked none others (c.len-n.result - (c.corners._step + 1)) (subst (KeepsClear others) c.corner.ensures (c.are_clear_of.ensures.clear c.if-not-are_clear_of.false)))
+          (subst (λ bs. GoesOnApart others c.args.threshold (c.len-n.result - c.corners._step) arcs (left_arcs arcs bs)) (sym f.left) (c.corners.invariant.apart asked none)));
     }
 
 pub returns-in_default-clause-left : goal.returns-in_default-clause-left
-returns-in_default-clause-left c =
+returns-in_default-clause-left g c = λ yes.
     let arcs = c.args.arcs.now in
     let rings = c.args.rings.now in
     let b = c.args.places.now.no_crossings in
@@ -79,7 +84,24 @@ returns-in_default-clause-left c =
     (ap (λ bs. eliminate_arcs (guarded_by b rings) (c.len-n.result - c.corners._step) c.args.threshold (left_arcs arcs bs)) f.left ∙ c.corners.invariant.rest)
 
 pub returns-clause-left : goal.returns-clause-left
-returns-clause-left c =
+returns-clause-left g c = λ yes.
     let none : c.len-n.result - c.corners._step ≡ 0 = omega (arith, c.corners-test.false) in
     all_steps (guarded_by c.args.places.now.no_crossings c.args.rings.now) (c.len-n.result - c.corners._step) c.args.threshold (left_arcs c.args.arcs.now c.corners.places.left)
     (remaining_arcs (guarded_by c.args.places.now.no_crossings c.args.rings.now) c.args.threshold c.args.arcs.now) none c.corners.invariant.rest
+
+pub returns-in_default-clause-apart : goal.returns-in_default-clause-apart
+returns-in_default-clause-apart g c = λ yes asked none.
+    let arcs = c.args.arcs.now in
+    let rings = c.args.rings.now in
+    let b = c.args.places.now.no_crossings in
+    let s = c.next_in_rounds.new.places in
+    let others = g.S.Surroundings.others c.args.beside.now in
+    let n = rw c.in_default.is at c.in_ok-next.ensures.none in
+    let f = fixed_still arcs rings c.corners.places c.corners.invariant.showing c.corners.kept c.corners.invariant.keeping s c.in_ok-next.ensures.fixing in
+    subst (λ bs. GoesOnApart others c.args.threshold (c.len-n.result - c.corners._step) arcs (left_arcs arcs bs)) (sym f.left) (c.corners.invariant.apart asked none)
+    (none_apart others c.args.threshold (c.len-n.result - c.corners._step) (left_arcs arcs s.left)
+    (same_guard b rings c.args.threshold (left_arcs arcs s.left) asked none (none_next b rings arcs c.args.threshold s f.showing (f.flag ∙ c.corners.invariant.flag) f.keeping.fixed c.next_in_rounds.new.waiting n)))
+
+pub returns-clause-apart : goal.returns-clause-apart
+returns-clause-apart g c = λ yes asked none.
+    all_apart (g.S.Surroundings.others c.args.beside.now) c.args.threshold (c.len-n.result - c.corners._step) c.args.arcs.now (left_arcs c.args.arcs.now c.corners.places.left) (omega (arith, c.corners-test.false)) (c.corners.invariant.apart asked none)

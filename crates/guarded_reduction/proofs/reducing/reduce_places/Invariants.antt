@@ -1,4 +1,4 @@
-use Rattle.std.proofs.Common.{◌≡◌, ◌-◌, ◌≤◌}
+use Rattle.std.proofs.Common.{◌≡◌, ◌-◌, ◌≤◌, [], true}
 use Rattle.std.specs.BinaryHeap.{heap_items, IsHeap}
 use Rattle.guarded_meaning.specs.Elimination.{eliminate_arcs, remaining_arcs}
 use Rattle.guarded_meaning.specs.Guards.{guarded_by}
@@ -7,11 +7,12 @@ use Rattle.guarded_reduction.specs.Keeping.{IsKeeping}
 use Rattle.guarded_reduction.specs.Linking.{IsShowing}
 use Rattle.guarded_reduction.specs.Numbers.{left_arcs}
 use Rattle.guarded_reduction.specs.States.{IsQueued}
+use Rattle.guarded_reduction.proofs.Parting.{GoesOnApart}
 use Rattle.guarded_reduction.proofs.reducing.reduce_places.Given as goal
 
 -- what is left is reduced to the same
 abbrev pub invariant-corners : goal.invariant-corners
-invariant-corners l = record {
+invariant-corners g l = record {
   order : IsHeap turned_cmp (heap_items l.heap);
   queued : IsQueued l.round l.places (heap_items l.heap) l.waiting;
   round : l.round ≤ l.threshold;
@@ -19,4 +20,5 @@ invariant-corners l = record {
   flag : l.places.no_crossings ≡ l.fn.places.no_crossings;
   keeping : IsKeeping l.arcs l.rings l.places l.kept;
   rest : eliminate_arcs (guarded_by l.fn.places.no_crossings l.rings) (l.n - l._step) l.threshold (left_arcs l.arcs l.places.left) ≡ remaining_arcs (guarded_by l.fn.places.no_crossings l.rings) l.threshold l.arcs;
+  apart : l.fn.places.no_crossings ≡ true → l.rings ≡ [] → GoesOnApart (g.S.Surroundings.others l.beside) l.threshold (l.n - l._step) l.arcs (left_arcs l.arcs l.places.left);
 }

@@ -1,4 +1,4 @@
-use Rattle.std.proofs.Common.{◌≡◌, ℕ, ◌<◌, ◌⊎◌}
+use Rattle.std.proofs.Common.{ℕ, ◌<◌, ◌⊎◌}
 use Rattle.std.specs.BinaryHeap.{heap_items, IsHeap}
 use Rattle.std.specs.List.{Contains}
 use Rattle.geometry.specs.Units.{area_limit}
@@ -8,11 +8,10 @@ use Rattle.guarded_reduction.specs.Linking.{IsCorner}
 use Rattle.guarded_reduction.proofs.rounds.begin_round.Given as goal
 
 -- those so far
-abbrev pub invariant-places : goal.invariant-places
-invariant-places l = record {
+abbrev pub invariant-loop-place : goal.invariant-loop-place
+invariant-loop-place l = record {
   order : IsHeap turned_cmp (heap_items l.heap);
-  has : (v : ℕ) → v < l.place → IsDue l.until l.fn.places v → ((entry_in l.fn.places v).area < l.from) ⊎ Contains (heap_items l.heap) (turned (entry_in l.fn.places v));
-  below : (v : ℕ) → v < l.place → IsCorner l.fn.places v → (entry_in l.fn.places v).area < area_limit;
-  sound : (e : Entry) → Contains (heap_items l.heap) (turned e) → IsSound l.until l.fn.places.positions e;
-  same : l.places ≡ l.fn.places;
+  has : (v : ℕ) → v < l.place → IsDue l.until l.places v → ((entry_in l.places v).area < l.from) ⊎ Contains (heap_items l.heap) (turned (entry_in l.places v));
+  below : (v : ℕ) → v < l.place → IsCorner l.places v → (entry_in l.places v).area < area_limit;
+  sound : (e : Entry) → Contains (heap_items l.heap) (turned e) → IsSound l.until l.places.positions e;
 }

@@ -32,9 +32,8 @@ pub rounds-preserved : goal.rounds-preserved
 rounds-preserved c = record {
   order = c.in_ok-begin_next_round.ensures.order;
   queued = c.in_ok-begin_next_round.ensures.queued;
-  fixing = subst (IsFixing c.args.places.now c.args.rings.now) (sym c.in_ok-begin_next_round.ensures.same)
-      (fixed_more c.args.places.now c.rounds.places c.next_going.new.places c.args.rings.now c.rounds.invariant.fixing
-      (subst (λ (g : Counted). IsFixing c.rounds.places g c.next_going.new.places) c.rounds.invariant.rings c.in_ok-entry.ensures.fixing));
+  fixing = fixed_more c.args.places.now c.rounds.places c.next_going.new.places c.args.rings.now c.rounds.invariant.fixing
+      (subst (λ (g : Counted). IsFixing c.rounds.places g c.next_going.new.places) c.rounds.invariant.rings c.in_ok-entry.ensures.fixing);
   rings = (rw c.in_default.is at c.in_ok-entry.ensures.same) ∙ c.rounds.invariant.rings;
   round = c.in_ok-begin_next_round.ensures.within;
 }

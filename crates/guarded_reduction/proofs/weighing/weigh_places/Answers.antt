@@ -14,21 +14,17 @@ use Rattle.guarded_reduction.proofs.Weighed.{no_steps, weigh_none, weighing_begi
 use Rattle.guarded_reduction.proofs.weighing.weigh_places.Goals as goal
 
 pub corners-init : goal.corners-init
-corners-init c =
-    let s = c.begin_round.new.places in
-    let same = c.in_ok-begin_round.ensures.same in
-    let first = same ∙ c.requires.first in
-    record {
-      order = c.in_ok-begin_round.ensures.order;
-      queued = c.in_ok-begin_round.ensures.queued;
-      round = c.next_threshold-round.ensures.within;
-      showing = subst (IsShowing c.args.arcs.now) (sym first) (first_showing c.args.places.now.no_crossings c.args.arcs.now);
-      flag = ap (λ (x : Linked). x.no_crossings) same;
-      keeping = first_keeping c.args.places.now.no_crossings c.args.arcs.now c.args.rings.now s c.in_ok-kept.kept first c.in_ok-kept.ensures.rings c.in_ok-kept.ensures.counted c.requires.meet;
-      below = c.in_ok-begin_round.ensures.below;
-      many = c.requires.many ∙ sym (ap (λ (x : Linked). length x.positions) same);
-      weighing = weighing_begins (guarded_by c.args.places.now.no_crossings c.args.rings.now) c.args.arcs.now c.args.places.now.no_crossings s c.len-n.result c.args.levels.now first (c.len-n.ensures ∙ sym (ap (λ (x : Linked). length x.positions) same));
-    }
+corners-init c = record {
+  order = c.in_ok-begin_round.ensures.order;
+  queued = c.in_ok-begin_round.ensures.queued;
+  round = c.next_threshold-round.ensures.within;
+  showing = subst (IsShowing c.args.arcs.now) (sym c.requires.first) (first_showing c.args.places.now.no_crossings c.args.arcs.now);
+  flag = ap (λ (s : Linked). s.no_crossings) c.requires.first;
+  keeping = first_keeping c.args.places.now.no_crossings c.args.arcs.now c.args.rings.now c.args.places.now c.in_ok-kept.kept c.requires.first c.in_ok-kept.ensures.rings c.in_ok-kept.ensures.counted c.requires.meet;
+  below = c.in_ok-begin_round.ensures.below;
+  many = c.requires.many;
+  weighing = weighing_begins (guarded_by c.args.places.now.no_crossings c.args.rings.now) c.args.arcs.now c.args.places.now.no_crossings c.args.places.now c.len-n.result c.args.levels.now c.requires.first c.len-n.ensures;
+}
 
 pub begin_round-requires : goal.begin_round-requires
 begin_round-requires c = none_at_zero c.args.places.now c.in_ok-waiting.waiting (c.in_ok-waiting.ensures ∙ c.len-n.ensures)

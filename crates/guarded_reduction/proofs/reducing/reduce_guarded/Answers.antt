@@ -1,8 +1,0 @@
-use Rattle.std.proofs.Common.{ap, map, ◌∙◌}
-use Rattle.guarded_meaning.specs.Elimination.{reduce_arcs}
-use Rattle.guarded_reduction.proofs.KeptIndexes.{left_indexes}
-use Rattle.guarded_reduction.proofs.reducing.reduce_guarded.Goals as goal
-
-pub returns : goal.returns
-unfolding reduce_arcs
-returns c = c.in_ok-kept.ensures ∙ left_indexes c.in_ok-places.places.left c.args.arcs.now ∙ ap (map (map (λ v. v.index))) c.in_ok-places.ensures.left

@@ -1,0 +1,88 @@
+// What lies beside arcs that are reduced.
+ghost use Rattle.std.specs.Prelude.{◌≡◌, Bool, List, [], false, length, true};
+ghost use Rattle.geometry.specs.Points.{Point};
+ghost use Rattle.guarded_meaning.specs.Arcs.{ArcCorner};
+ghost use Rattle.guarded_meaning.specs.Parts.{IsClearOf, unmarked};
+
+use crate::query::Corner;
+use crate::whole_arcs::WholeArcs;
+use std::marker::Model;
+
+/// A corner is looked at beside other arcs whose neighbours are so many places apart at most: those between them, which are gone, lie in its triangle.
+const LONGEST_STRETCH: usize = 1000;
+
+/// What lies beside arcs that are reduced: other arcs, or nothing.
+pub trait Surroundings {
+    ghost others: { Self → List (List Point) };
+
+    /// There is nothing that a corner could meet.
+    ghost are_empty: { Self → Bool };
+
+    /// The corner, whose neighbours are so many places apart, keeps clear of the other arcs, if the answer is yes.
+    fn are_clear_of(&self, corner: &Corner, stretch: usize) -> bool
+        ensures clear { result ≡ true → (c : ArcCorner) → c.before ≡ corner.now.before → c.corner.point ≡ corner.now.at → c.after ≡ corner.now.after → IsClearOf (others self.now) c }
+        ensures empty { are_empty self.now ≡ true → result ≡ true };
+}
+
+/// Nothing lies beside the arcs.
+#[derive(Clone, Copy, Debug, PartialEq, Eq)]
+pub struct Nothing;
+
+impl Surroundings for Nothing {
+    ghost others = { λ _. [] };
+
+    ghost are_empty = { λ _. true };
+
+    fn are_clear_of(&self, _corner: &Corner, _stretch: usize) -> bool {
+        true
+    }
+}
+
+/// Those of all arcs that aren't marked lie beside the others. What a corner meets is looked for near the place that has the corner's number after
+/// this first one.
+#[derive(Drop)]
+pub struct OtherArcs<'a> {
+    whole: &'a WholeArcs<'a>,
+    inside: &'a [bool],
+    first: usize,
+}
+
+impl<'a> Model for OtherArcs<'a> {
+    ghost use Rattle.std.specs.Prelude.{◌≡◌, List, length};
+    ghost use Rattle.geometry.specs.Points.{Point};
+    ghost use Rattle.guarded_meaning.specs.Parts.{unmarked};
+
+    ghost Value = { List (List Point) };
+
+    ghost view = { λ o. unmarked o.inside.now o.whole.now };
+
+    ghost invariant = { λ o. length o.inside.now ≡ length o.whole.now };
+}
+
+impl<'a> OtherArcs<'a> {
+    /// The arcs that aren't marked.
+    pub fn of(whole: &'a WholeArcs<'a>, inside: &'a [bool], first: usize) -> OtherArcs<'a>
+        requires { length inside.now ≡ length whole.now }
+        ensures { result ≡ unmarked inside.now whole.now }
+    {
+        OtherArcs {
+            whole,
+            inside,
+            first,
+        }
+    }
+}
+
+impl<'a> Surroundings for OtherArcs<'a> {
+    ghost others = { λ o. o };
+
+    ghost are_empty = { λ _. false };
+
+    fn are_clear_of(&self, corner: &Corner, stretch: usize) -> bool {
+        if stretch > LONGEST_STRETCH {
+            return false;
+        }
+        let near = self.first.saturating_add(corner.place);
+        self.whole.is_clear_of(self.inside, near, corner)
+    }
+}

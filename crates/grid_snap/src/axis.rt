@@ -42,11 +42,11 @@ impl Axis {
         self.first <= x && x.abs_diff(self.first) <= self.last * self.step
     }
 
-    /// What is near 2^64 over twice the step.
+    /// What is near 2^64 over twice the step, rounded up, so that halves between two coordinates are guessed right, too.
     pub(crate) fn inverse(self) -> u64
         requires { IsAxis self }
     {
-        u64::MAX / 2 / self.step
+        u64::MAX / 2 / self.step + 1
     }
 
     /// The number of the nearest of its coordinates, the higher one of two. Any inverse gives one answer.

@@ -5,6 +5,7 @@ pub mod Counts
 pub mod EndWeights
 pub mod Gathered
 pub mod HeapLaws
+pub mod Heaps
 pub mod KeptWeights
 pub mod LinkLaws
 pub mod LinkedCorners

@@ -1,5 +1,5 @@
 -- Links that are set, and entries.
-use Rattle.std.proofs.Common.{◌≡◌, ◌≢◌, ℕ, Bool, true, false, not, ◌+◌, ◌-◌, ◌<◌, ◌≤◌, List, [], ◌∷◌, ◌++◌, append_assoc, append-nil, pred, length, get_or, refl, ap, sym, ◌∙◌, arith, ◌⊎◌, inl, inr, get_or-set_same, get_or-set_other}
+use Rattle.std.proofs.Common.{◌≡◌, ◌≢◌, ℕ, Bool, true, false, not, ◌+◌, ◌-◌, ◌<◌, ◌≤◌, List, [], ◌∷◌, ◌++◌, append_assoc, append-nil, pred, length, get_or, refl, ap, sym, ◌∙◌, subst, arith, ◌⊎◌, inl, inr, get_or-set_same, get_or-set_other}
 use Rattle.std.proofs.Math.ListN.{set, length-set}
 use Rattle.std.proofs.lemmas.List.{get_or_default, get_or_append_left, get_or_push, length-append}
 use Rattle.geometry.specs.Areas.{twice_area}
@@ -19,14 +19,23 @@ field_same f xs i v x h e = grind (arith, same_or_not, get_or-set_same, get_or-s
 abbrev link : ℕ → ℕ → ℕ → Link
 link b a n = record { before = b; after = a; area = n }
 
-pub sets_after : (xs : List Link) (i to : ℕ) → i < length xs → SetsAfter xs (set xs i (link (get_or xs i first_link).before to (get_or xs i first_link).area)) i to
-sets_after xs i to h = unfold after_in before_in area_in in grind (arith, length-set, get_or-set_same, get_or-set_other, field_same)
+pub sets_after : (xs : List Link) (i to : ℕ) (d : Link) → i < length xs → SetsAfter xs (set xs i (link (get_or xs i d).before to (get_or xs i d).area)) i to
+sets_after xs i to d h = subst (λ x. SetsAfter xs (set xs i (link x.before to x.area)) i to) (get_or_default xs i first_link d h) here
+  where
+    here : SetsAfter xs (set xs i (link (get_or xs i first_link).before to (get_or xs i first_link).area)) i to
+    here = unfold after_in before_in area_in in grind (arith, length-set, get_or-set_same, get_or-set_other, field_same)
 
-pub sets_before : (xs : List Link) (i to : ℕ) → i < length xs → SetsBefore xs (set xs i (link to (get_or xs i first_link).after (get_or xs i first_link).area)) i to
-sets_before xs i to h = unfold after_in before_in area_in in grind (arith, length-set, get_or-set_same, get_or-set_other, field_same)
+pub sets_before : (xs : List Link) (i to : ℕ) (d : Link) → i < length xs → SetsBefore xs (set xs i (link to (get_or xs i d).after (get_or xs i d).area)) i to
+sets_before xs i to d h = subst (λ x. SetsBefore xs (set xs i (link to x.after x.area)) i to) (get_or_default xs i first_link d h) here
+  where
+    here : SetsBefore xs (set xs i (link to (get_or xs i first_link).after (get_or xs i first_link).area)) i to
+    here = unfold after_in before_in area_in in grind (arith, length-set, get_or-set_same, get_or-set_other, field_same)
 
-pub sets_area : (xs : List Link) (i n : ℕ) → i < length xs → SetsArea xs (set xs i (link (get_or xs i first_link).before (get_or xs i first_link).after n)) i n
-sets_area xs i n h = unfold after_in before_in area_in in grind (arith, length-set, get_or-set_same, get_or-set_other, field_same)
+pub sets_area : (xs : List Link) (i n : ℕ) (d : Link) → i < length xs → SetsArea xs (set xs i (link (get_or xs i d).before (get_or xs i d).after n)) i n
+sets_area xs i n d h = subst (λ x. SetsArea xs (set xs i (link x.before x.after n)) i n) (get_or_default xs i first_link d h) here
+  where
+    here : SetsArea xs (set xs i (link (get_or xs i first_link).before (get_or xs i first_link).after n)) i n
+    here = unfold after_in before_in area_in in grind (arith, length-set, get_or-set_same, get_or-set_other, field_same)
 
 pub unlinks : (x y z w : List Link) (b i a : ℕ) → b < i → i < a → SetsAfter x y b a → SetsBefore y z a b → SetsBefore z w i i → Unlinks x w b i a
 unlinks x y z w b i a l m p q r = grind arith
@@ -37,45 +46,41 @@ read ps k p h e = e ∙ get_or_default ps k p origin h
 abbrev corner_of : ℕ → Point → ℕ → Corner
 corner_of n p i = record { area = n; point = p; index = i }
 
-abbrev entry_of : ℕ → Point → ℕ → ℕ → ℕ → Entry
-entry_of n p b i a = record { corner = record { area = n; point = p; index = i }; before = b; after = a }
-
-pub entry_is : (ps : List Point) (b i a : ℕ) (x y z : Point) (n : ℕ) → b < length ps → i < length ps → a < length ps →
-    x ≡ get_or ps b x → y ≡ get_or ps i y → z ≡ get_or ps a z → n ≡ twice_area x y z → entry_of n y b i a ≡ entry_at ps b i a
-entry_is ps b i a x y z n hb hi ha ex ey ez en = unfold entry_at in grind (arith, read)
-
-pub entry_cached : (ps : List Point) (b i a : ℕ) (y : Point) (n : ℕ) → i < length ps → y ≡ get_or ps i y → n ≡ (entry_at ps b i a).corner.area → entry_of n y b i a ≡ entry_at ps b i a
-unfolding entry_at
-entry_cached ps b i a y n h e en = ap (λ m. entry_of m y b i a) en ∙ ap (λ u. entry_of (entry_at ps b i a).corner.area u b i a) (read ps i y h e)
-
-pub cached_at : (ps : List Point) (links : List Link) (i : ℕ) (y : Point) → i < length ps → y ≡ get_or ps i y → corner_of (area_in links i) y i ≡ cached ps links i
-cached_at ps links i y h e = unfold cached in ap (λ u. corner_of (area_in links i) u i) (read ps i y h e)
+abbrev entry_of : ℕ → ℕ → ℕ → ℕ → Entry
+entry_of n b i a = record { area = n; index = i; before = b; after = a }
 
 -- the area of a corner
 pub area_is : (ps : List Point) (b i a : ℕ) (x y z : Point) (n : ℕ) → b < length ps → i < length ps → a < length ps →
-    x ≡ get_or ps b x → y ≡ get_or ps i y → z ≡ get_or ps a z → n ≡ twice_area x y z → n ≡ (entry_at ps b i a).corner.area
-area_is ps b i a x y z n hb hi ha ex ey ez en = ap (λ (d : Entry). d.corner.area) (entry_is ps b i a x y z n hb hi ha ex ey ez en)
+    x ≡ get_or ps b x → y ≡ get_or ps i y → z ≡ get_or ps a z → n ≡ twice_area x y z → n ≡ (entry_at ps b i a).area
+area_is ps b i a x y z n hb hi ha ex ey ez en = unfold entry_at in grind (arith, read)
+
+pub entry_cached : (ps : List Point) (b i a n : ℕ) → n ≡ (entry_at ps b i a).area → entry_of n b i a ≡ entry_at ps b i a
+unfolding entry_at
+entry_cached ps b i a n e = ap (λ m. entry_of m b i a) e
+
+pub cached_at : (ps : List Point) (links : List Link) (i n : ℕ) (y : Point) → i < length ps → y ≡ get_or ps i y → n ≡ area_in links i → corner_of n y i ≡ cached ps links i
+cached_at ps links i n y h e en = unfold cached in ap (λ m. corner_of m y i) en ∙ ap (λ u. corner_of (area_in links i) u i) (read ps i y h e)
 
 pub same_entry : (ps : List Point) (old new : List Link) (v : ℕ) → before_in new v ≡ before_in old v → after_in new v ≡ after_in old v → entry_in ps new v ≡ entry_in ps old v
 same_entry ps old new v e f = ap (λ x. entry_at ps x v (after_in new v)) e ∙ ap (λ x. entry_at ps (before_in old v) v x) f
 
-pub notes : (ps : List Point) (old new : List Link) (i n : ℕ) → 0 < i → i + 1 < length old → SetsArea old new i n → n ≡ (entry_in ps old i).corner.area → CachesArea ps old new i
+pub notes : (ps : List Point) (old new : List Link) (i n : ℕ) → 0 < i → i + 1 < length old → SetsArea old new i n → n ≡ (entry_in ps old i).area → CachesArea ps old new i
 notes ps old new i n p q s e = grind (arith, same_entry)
 
 pub notes_end : (ps : List Point) (links : List Link) (i : ℕ) → (0 < i → i + 1 < length links → ⊥) → CachesArea ps links links i
 notes_end ps links i h = record { same = refl; here = λ p q. absurd (h p q); ends = λ _. refl; others = λ _ _. refl; befores = λ _. refl; afters = λ _. refl }
 
 -- an area between neighbours that are the next ones
-pub notes_first : (ps : List Point) (old new : List Link) (i n : ℕ) → IsFirst old (length ps) → 0 < i → i + 1 < length ps → SetsArea old new i n → n ≡ (entry_at ps (i - 1) i (i + 1)).corner.area → CachesArea ps old new i
+pub notes_first : (ps : List Point) (old new : List Link) (i n : ℕ) → IsFirst old (length ps) → 0 < i → i + 1 < length ps → SetsArea old new i n → n ≡ (entry_at ps (i - 1) i (i + 1)).area → CachesArea ps old new i
 notes_first ps old new i n f p q s e =
     let b : before_in old i ≡ i - 1 = omega (arith, f.befores i (omega arith)) in
     let a : after_in old i ≡ i + 1 = f.afters i (omega arith) in
-    notes ps old new i n p (omega (arith, f.size)) s (e ∙ sym (ap (λ x. (entry_at ps x i (after_in old i)).corner.area) b ∙ ap (λ x. (entry_at ps (i - 1) i x).corner.area) a))
+    notes ps old new i n p (omega (arith, f.size)) s (e ∙ sym (ap (λ x. (entry_at ps x i (after_in old i)).area) b ∙ ap (λ x. (entry_at ps (i - 1) i x).area) a))
 
 -- the areas up to i are cached
 pub record CachedTo (ps : List Point) (old new : List Link) (i : ℕ) : Type 0 where
   pub first : IsFirst new (length ps)
-  pub done : (v : ℕ) → 0 < v → v < i → area_in new v ≡ (entry_in ps new v).corner.area
+  pub done : (v : ℕ) → 0 < v → v < i → area_in new v ≡ (entry_in ps new v).area
   pub rest : (v : ℕ) → (v ≡ 0) ⊎ (i ≤ v) → area_in new v ≡ area_in old v
 
 pub cached_start : (ps : List Point) (links : List Link) → IsFirst links (length ps) → CachedTo ps links links 1

@@ -2,18 +2,15 @@
 use Rattle.std.proofs.Common.{◌≡◌, ◌≢◌, ℕ, suc, ◌<◌, ◌≤◌, Bool, true, false, not, if◌then◌else◌, eqb, List, [], ◌∷◌, length, Option, Some, None, refl, ap, sym, ◌∙◌, subst, arith, ◌⊎◌, inl, inr}
 use Rattle.std.specs.List.{filter, AllByRecursion}
 use Rattle.std.specs.Ordering.{is_lt, ordering_then, nat_cmp}
-use Rattle.std.specs.declared.cmp.Ordering.{Ordering}
-use Rattle.std.specs.declared.cmp.Ordering.TheVariants.{Less, Equal, Greater}
+use Rattle.std.specs.declared.cmp.Ordering.TheVariants.{Less, Greater}
 use Rattle.geometry.specs.Lists.{In}
 use Rattle.geometry.specs.Points.{Point}
-use Rattle.elimination_meaning.specs.Elimination.{Corner, corner_at, corner_cmp, corners, least, lesser, is_before}
-use Rattle.effective_area.specs.Vertices.{vertex_at, vertices, candidate_corner}
+use Rattle.elimination_meaning.specs.Elimination.{Corner, corner_at, corners, least, lesser, is_before}
+use Rattle.effective_area.specs.Vertices.{vertex_at, vertices}
 use Rattle.std.specs.Cmp.{nat_cmp_is}
 use Rattle.geometry.specs.Order.{point_cmp}
 use Rattle.elimination_meaning.proofs.Steps.{Holds, least_holds}
-use Rattle.effective_area.specs.declared.entry.Entry.{Entry}
 use Rattle.effective_area.specs.Chains.{Chain, last_of}
-use Rattle.effective_area.specs.Links.{entry_cmp}
 use Rattle.owned_values.proofs.Elements.{all_weaker}
 use Rattle.std.specs.Cmp.{IsStrictWeakOrder}
 use Rattle.std.proofs.lemmas.List.MinMax.{ranks_by}
@@ -99,15 +96,6 @@ module _ (after before : ℕ → ℕ) where
 pub in_length : (a : ℕ) (xs : List ℕ) → In a xs → 1 ≤ length xs
 in_length a [] k = elim k [ ]
 in_length a (x ∷ xs) k = omega arith
-
-first_part : (a x : Ordering) → is_lt (ordering_then a x) ≡ false → is_lt a ≡ false
-first_part Less x h = cc
-first_part Equal x h = refl
-first_part Greater x h = refl
-
-pub corner_first : (d e : Entry) → is_lt (entry_cmp d e) ≡ false → is_before (candidate_corner d.corner) (candidate_corner e.corner) ≡ false
-unfolding is_before
-corner_first d e h = first_part (corner_cmp (candidate_corner d.corner) (candidate_corner e.corner)) (ordering_then (nat_cmp d.before e.before) (nat_cmp d.after e.after)) h
 
 -- one with a greater area goes later
 pub over_later : (c d : Corner) → d.area < c.area → is_before c d ≡ false

@@ -1,15 +1,12 @@
 -- Links and entries.
-use Rattle.std.specs.Prelude.{not, ◌==◌, ◌-◌, None, pred, ◌≡◌, ◌≢◌, ℕ, ◌+◌, ◌<◌, ◌≤◌, ◌⊎◌, List, [], ◌∷◌, slice_index_or, Option, Some, Contains, length, Bool, false}
+use Rattle.std.specs.Prelude.{not, ◌==◌, ◌-◌, None, pred, ◌≡◌, ◌≢◌, ℕ, ◌+◌, ◌<◌, ◌≤◌, ◌⊎◌, List, [], ◌∷◌, ◌++◌, slice_index_or, Option, Some, Contains, length, Bool, false}
 use Rattle.std.specs.BinaryHeap.{IsUpperBound}
 use Rattle.std.specs.List.{filter, AllByRecursion}
-use Rattle.std.specs.Ordering.{ordering_then, is_lt, nat_cmp}
 use Rattle.std.specs.declared.cmp.Ordering.{Ordering}
-use Rattle.std.specs.declared.cmp.Reverse.{Reverse}
 use Rattle.geometry.specs.Lists.{In}
 use Rattle.geometry.specs.Points.{Point}
 use Rattle.elimination_meaning.specs.Elimination.{corner_at, corner_cmp, corners, eliminate, is_before, least, numbered, Corner}
-use Rattle.effective_area.specs.Vertices.{origin, vertex_at, vertices, candidate_corner, candidate}
-use Rattle.effective_area.specs.declared.candidate.Candidate.{Candidate}
+use Rattle.effective_area.specs.Vertices.{origin, vertex_at, vertices}
 use Rattle.effective_area.specs.declared.links.Link.{Link}
 use Rattle.effective_area.specs.declared.entry.Entry.{Entry}
 use Rattle.effective_area.specs.Chains.{Chain, last_of}
@@ -27,21 +24,21 @@ unfoldable pub area_in : List Link → ℕ → ℕ
 area_in links i = (slice_index_or links i first_link).area
 
 unfoldable pub entry_at : List Point → ℕ → ℕ → ℕ → Entry
-entry_at ps b i a = record { corner = candidate (corner_at (vertex_at ps b) (vertex_at ps i) (vertex_at ps a)); before = b; after = a }
+entry_at ps b i a = record { area = (corner_at (vertex_at ps b) (vertex_at ps i) (vertex_at ps a)).area; index = i; before = b; after = a }
 
 -- the entry's neighbours are the point's
 pub record IsCurrent (links : List Link) (e : Entry) : Type 0 where
-  pub within : e.corner.index < length links
-  pub before : before_in links e.corner.index ≡ e.before
-  pub after : after_in links e.corner.index ≡ e.after
+  pub within : e.index < length links
+  pub before : before_in links e.index ≡ e.before
+  pub after : after_in links e.index ≡ e.after
 
 -- an entry that was once right, of a corner under the threshold
 pub record IsSound (t : ℕ) (ps : List Point) (e : Entry) : Type 0 where
-  pub is : e ≡ entry_at ps e.before e.corner.index e.after
-  pub before : e.before < e.corner.index
-  pub after : e.corner.index < e.after
+  pub is : e ≡ entry_at ps e.before e.index e.after
+  pub before : e.before < e.index
+  pub after : e.index < e.after
   pub within : e.after < length ps
-  pub under : e.corner.area < t
+  pub under : e.area < t
 
 -- what is present, and linked in order
 pub record IsLinked (links : List Link) (vs : List ℕ) : Type 0 where
@@ -49,14 +46,13 @@ pub record IsLinked (links : List Link) (vs : List ℕ) : Type 0 where
   pub last : last_of 0 vs + 1 ≡ length links
   pub gone : (i : ℕ) → 0 < i → i < length links → (In i vs → ⊥) → before_in links i ≡ i
 
-abbrev pub entry_cmp : Entry → Entry → Ordering
-entry_cmp d e = ordering_then (corner_cmp (candidate_corner d.corner) (candidate_corner e.corner)) (ordering_then (nat_cmp d.before e.before) (nat_cmp d.after e.after))
+-- the corner that an entry stands for
+abbrev pub entry_corner : List Point → Entry → Corner
+entry_corner ps e = record { area = e.area; point = slice_index_or ps e.index origin; index = e.index }
 
-abbrev pub rentry_cmp : Reverse Entry → Reverse Entry → Ordering
-rentry_cmp d e = entry_cmp e.0 d.0
-
-abbrev pub turned : Entry → Reverse Entry
-turned e = record { 0 = e }
+-- in a queue the corner that goes first comes last
+abbrev pub queue_cmp : List Point → Entry → Entry → Ordering
+queue_cmp ps d e = corner_cmp (entry_corner ps e) (entry_corner ps d)
 
 -- the entry of an index with its present neighbours
 abbrev pub entry_in : List Point → List Link → ℕ → Entry
@@ -68,24 +64,24 @@ cached ps links v = record { area = area_in links v; point = slice_index_or ps v
 
 -- the areas of the corners that are present are cached, and the threshold for those of the ends
 pub record AreCached (t : ℕ) (ps : List Point) (links : List Link) : Type 0 where
-  pub between : (v : ℕ) → 0 < v → v + 1 < length links → before_in links v ≢ v → area_in links v ≡ (entry_in ps links v).corner.area
+  pub between : (v : ℕ) → 0 < v → v + 1 < length links → before_in links v ≢ v → area_in links v ≡ (entry_in ps links v).area
   pub ends : (v : ℕ) → (v ≡ 0) ⊎ (v + 1 ≡ length links) → area_in links v ≡ t
 
 -- a corner is due if it is under the threshold and neither neighbour goes before it
 pub record IsDue (t : ℕ) (ps : List Point) (links : List Link) (v : ℕ) : Type 0 where
   pub later : 0 < v
   pub inside : v + 1 < length links
-  pub under : (entry_in ps links v).corner.area < t
+  pub under : (entry_in ps links v).area < t
   pub before : is_before (cached ps links (before_in links v)) (cached ps links v) ≡ false
   pub after : is_before (cached ps links (after_in links v)) (cached ps links v) ≡ false
 
 -- each current corner that is due has its entry
-abbrev pub Covers : ℕ → List Point → List Link → List (Reverse Entry) → Type 0
-Covers t ps links items = (v : ℕ) → before_in links v ≢ v → IsDue t ps links v → Contains items (turned (entry_in ps links v))
+abbrev pub Covers : ℕ → List Point → List Link → List Entry → Type 0
+Covers t ps links items = (v : ℕ) → before_in links v ≢ v → IsDue t ps links v → Contains items (entry_in ps links v)
 
 -- the first of the one list goes before all of the other
-abbrev pub GoesFirst : List (Reverse Entry) → List (Reverse Entry) → Type 0
-GoesFirst xs ys = ((e : Reverse Entry) → IsUpperBound rentry_cmp e xs → IsUpperBound rentry_cmp e ys) × (xs ≡ [] → ys ≡ [])
+abbrev pub GoesFirst : List Point → List Entry → List Entry → Type 0
+GoesFirst ps xs ys = ((e : Entry) → IsUpperBound (queue_cmp ps) e xs → IsUpperBound (queue_cmp ps) e ys) × (xs ≡ [] → ys ≡ [])
 
 pub record SetsAfter (old new : List Link) (at to : ℕ) : Type 0 where
   pub same : length new ≡ length old
@@ -111,7 +107,7 @@ pub record SetsArea (old new : List Link) (at area : ℕ) : Type 0 where
 -- the area at v is computed again, if v is between the ends
 pub record CachesArea (ps : List Point) (old new : List Link) (v : ℕ) : Type 0 where
   pub same : length new ≡ length old
-  pub here : 0 < v → v + 1 < length old → area_in new v ≡ (entry_in ps new v).corner.area
+  pub here : 0 < v → v + 1 < length old → area_in new v ≡ (entry_in ps new v).area
   pub ends : (v ≡ 0) ⊎ (v + 1 ≡ length old) → area_in new v ≡ area_in old v
   pub others : (w : ℕ) → w ≢ v → area_in new w ≡ area_in old w
   pub befores : (w : ℕ) → before_in new w ≡ before_in old w
@@ -126,33 +122,39 @@ pub record Unlinks (old new : List Link) (b i a : ℕ) : Type 0 where
   pub others_back : (v : ℕ) → v ≢ a → v ≢ i → before_in new v ≡ before_in old v
 
 -- what is taken is the first of the current entries, and those stay but for it
-pub record LeavesCurrent (links : List Link) (old : List (Reverse Entry)) (taken : Option Entry) (new : List (Reverse Entry)) : Type 0 where
-  pub first : (e d : Entry) → taken ≡ Some e → Contains old (turned d) → IsCurrent links d → is_lt (entry_cmp d e) ≡ false
-  pub stays : (d : Entry) → Contains old (turned d) → IsCurrent links d → (taken ≡ Some d) ⊎ Contains new (turned d)
-  pub rest : (d : Entry) → Contains new (turned d) → Contains old (turned d)
-  pub member : (e : Entry) → taken ≡ Some e → Contains old (turned e)
+pub record LeavesCurrent (ps : List Point) (links : List Link) (old : List Entry) (taken : Option Entry) (new : List Entry) : Type 0 where
+  pub first : (e d : Entry) → taken ≡ Some e → Contains old d → IsCurrent links d → is_before (entry_corner ps d) (entry_corner ps e) ≡ false
+  pub stays : (d : Entry) → Contains old d → IsCurrent links d → (taken ≡ Some d) ⊎ Contains new d
+  pub rest : (d : Entry) → Contains new d → Contains old d
+  pub member : (e : Entry) → taken ≡ Some e → Contains old e
+
+-- only stale ones are gone from the end
+pub record DropsStale (links : List Link) (old new : List Entry) : Type 0 where
+  pub ends : List Entry
+  pub split : old ≡ new ++ ends
+  pub stale : (d : Entry) → Contains ends d → IsCurrent links d → ⊥
 
 -- the state of a reduction: vs is present after 0, and reducing it gives what is asked for
-pub record IsState (t : ℕ) (ps : List Point) (links : List Link) (items : List (Reverse Entry)) (left : ℕ) (vs : List ℕ) : Type 0 where
+pub record IsState (t : ℕ) (ps : List Point) (links : List Link) (items : List Entry) (left : ℕ) (vs : List ℕ) : Type 0 where
   pub linked : IsLinked links vs
   pub size : length links ≡ length ps
   pub cached : AreCached t ps links
   pub covers : Covers t ps links items
-  pub sound : (d : Entry) → Contains items (turned d) → IsSound t ps d
+  pub sound : (d : Entry) → Contains items d → IsSound t ps d
   pub many : length vs ≡ left + 1
   pub rest : eliminate (left + 2) t (vertices ps (0 ∷ vs)) ≡ eliminate (length ps) t (numbered 0 ps)
 
 -- of those that are present, this first corner was removed, and this is the state after it
-pub record IsRemoved (t : ℕ) (ps : List Point) (links : List Link) (items : List (Reverse Entry)) (left : ℕ) (vs : List ℕ) (c : Candidate) : Type 0 where
+pub record IsRemoved (t : ℕ) (ps : List Point) (links : List Link) (items : List Entry) (left : ℕ) (vs : List ℕ) (c : Entry) : Type 0 where
   pub some : 0 < left
-  pub first : least (corners (vertices ps (0 ∷ vs))) ≡ Some (candidate_corner c)
+  pub first : least (corners (vertices ps (0 ∷ vs))) ≡ Some (entry_corner ps c)
   pub present : In c.index vs
   pub later : 0 < c.index
   pub within : c.index < length ps
   pub rest : IsState t ps links items (left - 1) (filter (λ v. not (v == c.index)) vs)
 
 -- the first corner is removed, or none is under the threshold
-abbrev pub RemovesFirst : ℕ → List Point → List Link → List (Reverse Entry) → ℕ → List ℕ → Option Candidate → Type 0
+abbrev pub RemovesFirst : ℕ → List Point → List Link → List Entry → ℕ → List ℕ → Option Entry → Type 0
 RemovesFirst t ps links items left vs (Some c) = IsRemoved t ps links items left vs c
 RemovesFirst t ps links items left vs None = IsLinked links vs × AllByRecursion (λ c. t ≤ c.area) (corners (vertices ps (0 ∷ vs)))
 
@@ -169,28 +171,28 @@ pub record Fits (links : List Link) (n v : ℕ) : Type 0 where
 
 -- it is the entry of a corner under the threshold
 abbrev pub IsUnder : ℕ → List Point → List Link → ℕ → Entry → Type 0
-IsUnder t ps links v d = (0 < v) × (v + 1 < length links) × (d ≡ entry_in ps links v) × (d.corner.area < t)
+IsUnder t ps links v d = (0 < v) × (v + 1 < length links) × (d ≡ entry_in ps links v) × (d.area < t)
 
 -- what is needed of v to compare the corner there: it has its neighbours and its area is cached, if it is between the ends
 pub record IsReady (ps : List Point) (links : List Link) (v : ℕ) : Type 0 where
   pub within : v < length links
   pub fits : 0 < v → v + 1 < length links → Fits links (length ps) v
-  pub cached : 0 < v → v + 1 < length links → area_in links v ≡ (entry_in ps links v).corner.area
+  pub cached : 0 < v → v + 1 < length links → area_in links v ≡ (entry_in ps links v).area
 
 -- the corner at v is new, if it is due
-pub record Pushed (t : ℕ) (ps : List Point) (links : List Link) (old new : List (Reverse Entry)) (v : ℕ) : Type 0 where
-  pub has : (d : Entry) → Contains old (turned d) → Contains new (turned d)
-  pub here : IsDue t ps links v → Contains new (turned (entry_in ps links v))
-  pub only : (d : Entry) → Contains new (turned d) → Contains old (turned d) ⊎ IsUnder t ps links v d
+pub record Pushed (t : ℕ) (ps : List Point) (links : List Link) (old new : List Entry) (v : ℕ) : Type 0 where
+  pub has : (d : Entry) → Contains old d → Contains new d
+  pub here : IsDue t ps links v → Contains new (entry_in ps links v)
+  pub only : (d : Entry) → Contains new d → Contains old d ⊎ IsUnder t ps links v d
 
 -- of two neighbours the one that goes first is new, if it is due; the outer one need not be, if its entry was queued before
-pub record PushedFirst (t : ℕ) (ps : List Point) (links : List Link) (old new : List (Reverse Entry)) (v w : ℕ) (known : Bool) : Type 0 where
-  pub has : (d : Entry) → Contains old (turned d) → Contains new (turned d)
-  pub inner : IsDue t ps links v → (before_in links v ≡ w) ⊎ (after_in links v ≡ w) → Contains new (turned (entry_in ps links v))
-  pub outer : known ≡ false → v ≢ w → IsDue t ps links w → (before_in links w ≡ v) ⊎ (after_in links w ≡ v) → Contains new (turned (entry_in ps links w))
-  pub only : (d : Entry) → Contains new (turned d) → Contains old (turned d) ⊎ (IsUnder t ps links v d ⊎ IsUnder t ps links w d)
+pub record PushedFirst (t : ℕ) (ps : List Point) (links : List Link) (old new : List Entry) (v w : ℕ) (known : Bool) : Type 0 where
+  pub has : (d : Entry) → Contains old d → Contains new d
+  pub inner : IsDue t ps links v → (before_in links v ≡ w) ⊎ (after_in links v ≡ w) → Contains new (entry_in ps links v)
+  pub outer : known ≡ false → v ≢ w → IsDue t ps links w → (before_in links w ≡ v) ⊎ (after_in links w ≡ v) → Contains new (entry_in ps links w)
+  pub only : (d : Entry) → Contains new d → Contains old d ⊎ (IsUnder t ps links v d ⊎ IsUnder t ps links w d)
 
 -- the corners before n that are due, and none that isn't under the threshold
-pub record HasCorners (t : ℕ) (ps : List Point) (links : List Link) (items : List (Reverse Entry)) (n : ℕ) : Type 0 where
-  pub has : (v : ℕ) → v < n → IsDue t ps links v → Contains items (turned (entry_in ps links v))
-  pub only : (d : Entry) → Contains items (turned d) → (v : ℕ) × (0 < v) × (v < n) × (d ≡ entry_in ps links v) × (d.corner.area < t)
+pub record HasCorners (t : ℕ) (ps : List Point) (links : List Link) (items : List Entry) (n : ℕ) : Type 0 where
+  pub has : (v : ℕ) → v < n → IsDue t ps links v → Contains items (entry_in ps links v)
+  pub only : (d : Entry) → Contains items d → (v : ℕ) × (0 < v) × (v < n) × (d ≡ entry_in ps links v) × (d.area < t)

@@ -16,7 +16,3 @@ vertices ps is = map (vertex_at ps) is
 -- the corner that a candidate stands for
 abbrev pub candidate_corner : Candidate → Corner
 candidate_corner c = record { area = c.area; point = c.point; index = c.index }
-
--- the candidate of a corner
-abbrev pub candidate : Corner → Candidate
-candidate c = record { area = c.area; point = c.point; index = c.index }

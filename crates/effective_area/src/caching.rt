@@ -6,20 +6,21 @@ ghost use Rattle.effective_area.specs.Links as spec;
 ghost use Rattle.effective_area.specs.Vertices.{candidate_corner};
 
 use crate::candidate::Candidate;
-use crate::links::{Link, first_links, set_area};
+use crate::links::{Link, after_of, area_of, before_of, first_links, set_area};
 use crate::steps::{Steps, twice_area};
 use geometry::Position;
 use owned_values::Memory;
 
 /// The corner at an index, with the cached area.
-pub fn cached(arc: &[Position], links: &[Link], index: usize) -> Candidate
+pub fn cached(arc: &[Position], links: &[Link], index: u32) -> Candidate
     requires arc { index < length arc.now }
     requires links { index < length links.now }
     ensures { candidate_corner result ≡ spec.cached arc.now links.now index }
 {
+    let index = index as usize;
     let point = arc[index];
     Candidate {
-        area: links[index].area,
+        area: area_of(links, index),
         point,
         index,
     }
@@ -27,7 +28,7 @@ pub fn cached(arc: &[Position], links: &[Link], index: usize) -> Candidate
 
 /// Whether the corner at an index goes before another one, by the cached areas.
 #[tactic(auto, unfolding(elimination_meaning::specs::Elimination::is_before))]
-pub fn goes_before(arc: &[Position], links: &[Link], index: usize, other: usize) -> bool
+pub fn goes_before(arc: &[Position], links: &[Link], index: u32, other: u32) -> bool
     requires size { length links.now ≡ length arc.now }
     requires index { index < length links.now }
     requires other { other < length links.now }
@@ -37,13 +38,13 @@ pub fn goes_before(arc: &[Position], links: &[Link], index: usize, other: usize)
 }
 
 /// Whether a corner under the threshold, at the other index, is one that the corner at an index doesn't go before.
-pub fn goes_after(arc: &[Position], links: &[Link], t: u128, index: usize, other: usize) -> bool
+pub fn goes_after(arc: &[Position], links: &[Link], t: u128, index: u32, other: u32) -> bool
     requires size { length links.now ≡ length arc.now }
     requires index { index < length links.now }
     requires other { other < length links.now }
     ensures { result ≡ true → is_before (spec.cached arc.now links.now index) (spec.cached arc.now links.now other) ≡ false }
 {
-    if links[other].area >= t {
+    if area_of(links, other as usize) >= t {
         return false;
     }
     !goes_before(arc, links, index, other)
@@ -60,7 +61,7 @@ fn area_between(
     requires before { before < length arc.now }
     requires index { index < length arc.now }
     requires after { after < length arc.now }
-    ensures area { result ≡ (entry_at arc.now before index after).corner.area }
+    ensures area { result ≡ (entry_at arc.now before index after).area }
     ensures counted { RoseBy 1 0 steps.old steps.new }
     ensures computed { AreasRose 1 steps.old steps.new }
 {
@@ -69,7 +70,7 @@ fn area_between(
 }
 
 /// Notes the area at an index with its present neighbours, if it is between the ends.
-pub fn note_area(links: &mut [Link], steps: &mut Steps, arc: &[Position], index: usize)
+pub fn note_area(links: &mut [Link], steps: &mut Steps, arc: &[Position], index: u32)
     requires size { length links.old ≡ length arc.now }
     requires within { index < length links.old }
     requires fits { 0 < index → index + 1 < length links.old → Fits links.old (length arc.now) index }
@@ -80,11 +81,13 @@ pub fn note_area(links: &mut [Link], steps: &mut Steps, arc: &[Position], index:
     if index == 0 {
         return;
     }
+    let index = index as usize;
     if links.len() - index <= 1 {
         return;
     }
-    let link = links[index];
-    let area = area_between(steps, arc, link.before, index, link.after);
+    let before = before_of(links, index) as usize;
+    let after = after_of(links, index) as usize;
+    let area = area_between(steps, arc, before, index, after);
     set_area(links, index, area);
 }
 

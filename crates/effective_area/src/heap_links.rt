@@ -1,17 +1,17 @@
 ghost use Rattle.std.specs.Prelude.{◌≡◌, ℕ, ◌+◌, ◌-◌, ◌*◌, ◌<◌, ◌≤◌, ◌++◌, [], true, IfOk, OnOk, List, ◌∷◌, length, vec_capacity};
-ghost use Rattle.std.specs.BinaryHeap.{heap_capacity, heap_items, IsHeap};
+ghost use Rattle.std.specs.BinaryHeap.{IsHeap};
 ghost use Rattle.std.specs.List.{range_with_len};
 ghost use Rattle.std.specs.List.Sorted.{IsSorted};
 ghost use Rattle.effective_area.specs.Calls.{call_at};
 ghost use Rattle.effective_area.specs.Counts.{AreasRose, RoseAtMost, RoseBy, nothing_counted};
-ghost use Rattle.effective_area.specs.Links.{AreCached, HasCorners, IsFirst, IsLinked, IsState, rentry_cmp};
+ghost use Rattle.effective_area.specs.Links.{AreCached, HasCorners, IsFirst, IsLinked, IsState, queue_cmp};
 ghost use Rattle.elimination_meaning.specs.Elimination.{reduce};
 
 use crate::caching::cached_links;
 use crate::call_log::CallLog;
-use crate::entry::Entry;
+use crate::entry::{Entry, compared};
 use crate::indexes::all_indexes;
-use crate::links::{Link, present};
+use crate::links::{Link, present, short};
 use crate::queue::put_corner;
 use crate::reducer::Reducer;
 use crate::steps::Steps;
@@ -19,17 +19,16 @@ use crate::taking::take_first;
 use geometry::Position;
 use owned_values::Memory;
 use std::alloc::Global;
-use std::cmp::Reverse;
-use std::collections::BinaryHeap;
+use std::cmp::Ordering;
 use std::marker::Model;
 
-/// The greatest room, in entries, of the lists that are kept for the next line: 64 KiB at most. What a long line took is given back,
+/// The greatest room, in entries, of the lists that are kept for the next line: 32 KiB at most. What a long line took is given back,
 /// and short ones allocate nothing but their answers.
 const KEPT_ROOM: usize = 1024;
 
 /// Fills the list with the corners of a whole line that are due.
 fn first_entries(
-    entries: &mut Vec<Reverse<Entry>>,
+    entries: &mut Vec<Entry>,
     steps: &mut Steps,
     arc: &[Position],
     links: &[Link],
@@ -42,7 +41,8 @@ fn first_entries(
     ensures counted { RoseBy 0 (length arc.now - 2) steps.old steps.new }
 {
     entries.clear();
-    for i in 1..arc.len() - 1 {
+    let last = short(arc.len() - 1)?;
+    for i in 1..last {
         put_corner(entries, steps, arc, links, t, i)?;
     }
     Ok(())
@@ -51,7 +51,7 @@ fn first_entries(
 /// Fills the list with the corners of a whole line that are due, in their order. They are sorted once, which takes less time than a
 /// heap of them all; those that come later are put on a heap.
 pub fn sorted_entries(
-    entries: &mut Vec<Reverse<Entry>>,
+    entries: &mut Vec<Entry>,
     steps: &mut Steps,
     arc: &[Position],
     links: &[Link],
@@ -60,34 +60,38 @@ pub fn sorted_entries(
     requires two { 2 ≤ length arc.now }
     requires first { IsFirst links.now (length arc.now) }
     requires cached { AreCached t arc.now links.now }
-    ensures sorted { OnOk result (IsSorted rentry_cmp entries.new.items) }
+    ensures sorted { OnOk result (IsSorted (queue_cmp arc.now) entries.new.items) }
     ensures state { OnOk result (IsState t arc.now links.now entries.new.items (length arc.now - 2) (range_with_len 1 (length arc.now - 1))) }
     ensures counted { RoseBy 0 (length arc.now - 2) steps.old steps.new }
 {
     first_entries(entries, steps, arc, links, t)?;
-    entries.sort_unstable();
+    entries.sort_unstable_by(
+        |entry: &Entry, other: &Entry| -> Ordering
+            ensures { result ≡ queue_cmp arc.entry.now entry.now other.now }
+        { compared(arc, other, entry) },
+    );
     Ok(())
 }
 
 /// Takes out corners under the threshold, the first of all each time, and answers how many positions stay.
 fn eliminate(
-    sorted: &mut Vec<Reverse<Entry>>,
-    heap: &mut BinaryHeap<Reverse<Entry>>,
+    sorted: &mut Vec<Entry>,
+    heap: &mut Vec<Entry>,
     steps: &mut Steps,
     arc: &[Position],
     links: &mut [Link],
     t: u128,
 ) -> Result<usize, Memory>
     requires two { 2 ≤ length arc.now }
-    requires sorted { IsSorted rentry_cmp sorted.old.items }
-    requires order { IsHeap rentry_cmp (heap_items heap.old) }
-    requires state { (vs : List ℕ) × IsState t arc.now links.old (sorted.old.items ++ heap_items heap.old) (length arc.now - 2) vs }
+    requires sorted { IsSorted (queue_cmp arc.now) sorted.old.items }
+    requires order { IsHeap (queue_cmp arc.now) heap.old.items }
+    requires state { (vs : List ℕ) × IsState t arc.now links.old (sorted.old.items ++ heap.old.items) (length arc.now - 2) vs }
     ensures kept { OnOk result ((vs : List ℕ) × IsLinked links.new vs × (0 ∷ vs ≡ reduce t arc.now)) }
     ensures many { IfOk result (λ many. many ≡ length (reduce t arc.now)) }
     ensures counted { RoseAtMost (2 * (length arc.now - 2)) steps.old steps.new }
 {
     let mut left = arc.len() - 2;
-    'corners: while let Some(_corner) = take_first(sorted, heap, steps, arc, links, t)? {
+    'corners: while let Some(_entry) = take_first(sorted, heap, steps, arc, links, t)? {
         left -= 1;
     }
     Ok(left + 2)
@@ -96,8 +100,8 @@ fn eliminate(
 /// The indexes that stay, over links from each index to the next.
 fn kept_by(
     alloc: Global,
-    sorted: &mut Vec<Reverse<Entry>>,
-    heap: &mut BinaryHeap<Reverse<Entry>>,
+    sorted: &mut Vec<Entry>,
+    heap: &mut Vec<Entry>,
     steps: &mut Steps,
     arc: &[Position],
     links: &mut [Link],
@@ -120,8 +124,8 @@ fn kept_by(
 #[derive(Debug, Drop)]
 struct Buffers {
     links: Vec<Link>,
-    sorted: Vec<Reverse<Entry>>,
-    heap: BinaryHeap<Reverse<Entry>>,
+    sorted: Vec<Entry>,
+    heap: Vec<Entry>,
 }
 
 impl Buffers {
@@ -130,7 +134,7 @@ impl Buffers {
         Buffers {
             links: Vec::new(alloc),
             sorted: Vec::new(alloc),
-            heap: BinaryHeap::new(alloc),
+            heap: Vec::new(alloc),
         }
     }
 
@@ -138,7 +142,7 @@ impl Buffers {
     fn are_small(&self) -> bool
         ensures links { result ≡ true → vec_capacity self.now.links ≤ KEPT_ROOM }
         ensures sorted { result ≡ true → vec_capacity self.now.sorted ≤ KEPT_ROOM }
-        ensures heap { result ≡ true → heap_capacity self.now.heap ≤ KEPT_ROOM }
+        ensures heap { result ≡ true → vec_capacity self.now.heap ≤ KEPT_ROOM }
     {
         self.links.capacity() <= KEPT_ROOM
             && self.sorted.capacity() <= KEPT_ROOM

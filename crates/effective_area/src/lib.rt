@@ -17,6 +17,8 @@ mod call_log;
 mod candidate;
 mod crossing;
 mod entry;
+mod halves;
+mod heap;
 mod heap_links;
 mod indexes;
 mod laws;

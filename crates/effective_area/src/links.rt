@@ -1,30 +1,65 @@
 ghost use Rattle.std.specs.Prelude.{◌≡◌, ℕ, ◌<◌, IfOk, OnOk, List, ◌∷◌, length};
-ghost use Rattle.effective_area.specs.Links.{IsFirst, IsLinked, SetsAfter, SetsArea, SetsBefore, Unlinks, area_in};
+ghost use Rattle.effective_area.specs.Links.{IsFirst, IsLinked, SetsAfter, SetsArea, SetsBefore, Unlinks, after_in, area_in, before_in};
 
+use crate::halves::Halves;
 use owned_values::Memory;
 use std::alloc::Global;
 
 /// The present neighbours of a position, and twice its effective area between them. One that was removed names itself as the one
 /// before it. An end has the threshold for its area, so that each corner under it goes before the end.
-#[derive(Clone, Copy, Debug, PartialEq, Eq)]
+#[derive(Clone, Copy, Debug)]
 pub struct Link {
-    pub before: usize,
-    pub after: usize,
-    pub area: u128,
+    pub before: u32,
+    pub after: u32,
+    pub area: Halves,
 }
 
-fn set_after(links: &mut [Link], at: usize, to: usize)
+/// A number of positions in short, for which there is no memory beyond that.
+pub fn short(number: usize) -> Result<u32, Memory>
+    ensures { IfOk result (λ n. n ≡ number) }
+{
+    match u32::try_from(number) {
+        Ok(number) => Ok(number),
+        Err(_) => Err(Memory),
+    }
+}
+
+/// The one before an index.
+pub fn before_of(links: &[Link], index: usize) -> u32
+    requires { index < length links.now }
+    ensures { result ≡ before_in links.now index }
+{
+    links[index].before
+}
+
+/// The one after an index.
+pub fn after_of(links: &[Link], index: usize) -> u32
+    requires { index < length links.now }
+    ensures { result ≡ after_in links.now index }
+{
+    links[index].after
+}
+
+/// The area at an index.
+pub fn area_of(links: &[Link], index: usize) -> u128
+    requires { index < length links.now }
+    ensures { result ≡ area_in links.now index }
+{
+    links[index].area.number()
+}
+
+fn set_after(links: &mut [Link], at: u32, to: u32)
     requires { at < length links.old }
     ensures { SetsAfter links.old links.new at to }
 {
-    links[at].after = to;
+    links[at as usize].after = to;
 }
 
-fn set_before(links: &mut [Link], at: usize, to: usize)
+fn set_before(links: &mut [Link], at: u32, to: u32)
     requires { at < length links.old }
     ensures { SetsBefore links.old links.new at to }
 {
-    links[at].before = to;
+    links[at as usize].before = to;
 }
 
 /// Notes an area.
@@ -32,11 +67,11 @@ pub fn set_area(links: &mut [Link], at: usize, area: u128)
     requires { at < length links.old }
     ensures { SetsArea links.old links.new at area }
 {
-    links[at].area = area;
+    links[at].area = Halves::of(area);
 }
 
 /// Links the two neighbours of an index to each other.
-pub fn unlink(links: &mut [Link], before: usize, index: usize, after: usize)
+pub fn unlink(links: &mut [Link], before: u32, index: u32, after: u32)
     requires before { before < index }
     requires index { index < after }
     requires after { after < length links.old }
@@ -53,9 +88,11 @@ pub fn first_links(links: &mut Vec<Link>, n: usize, area: u128) -> Result<(), Me
     ensures first { OnOk result (IsFirst links.new.items n) }
     ensures areas { OnOk result ((v : ℕ) → v < n → area_in links.new.items v ≡ area) }
 {
+    let count = short(n)?;
+    let area = Halves::of(area);
     links.clear();
     links.reserve(n)?;
-    for i in 0..n {
+    for i in 0..count {
         let before = if i == 0 { 0 } else { i - 1 };
         links.push_reserved(Link {
             before,
@@ -75,7 +112,7 @@ pub fn present(alloc: Global, links: &[Link], room: usize) -> Result<Vec<usize>,
     kept.push(0)?;
     let mut i = 0;
     while links.len() - i > 1 {
-        i = links[i].after;
+        i = after_of(links, i) as usize;
         kept.push(i)?;
     }
     Ok(kept)

@@ -1,74 +1,87 @@
 ghost use Rattle.std.specs.Prelude.{◌≡◌, ◌+◌, ◌<◌, ◌≤◌, ◌++◌, true, false, IfSome, IfNone, OnOk, [], ◌∷◌, length, vec_len};
-ghost use Rattle.std.specs.BinaryHeap.{heap_items, heap_len, IsHeap, IsUpperBound};
+ghost use Rattle.std.specs.BinaryHeap.{IsHeap, IsUpperBound};
 ghost use Rattle.std.specs.List.Sorted.{IsPermutation, IsSorted};
 ghost use Rattle.effective_area.specs.Counts.{RoseBy};
-ghost use Rattle.effective_area.specs.Links.{GoesFirst, IsCurrent, IsReady, IsUnder, LeavesCurrent, Pushed, PushedFirst, IsDue, area_in, cached, rentry_cmp};
+ghost use Rattle.effective_area.specs.Links.{DropsStale, GoesFirst, IsCurrent, IsReady, IsUnder, LeavesCurrent, Pushed, PushedFirst, IsDue, area_in, cached, queue_cmp};
 ghost use Rattle.elimination_meaning.specs.Elimination.{is_before};
 
 use crate::caching::goes_before;
-use crate::entry::{Entry, entry_of, is_current};
-use crate::links::Link;
+use crate::entry::{Entry, entry_of, is_ahead, is_current};
+use crate::heap;
+use crate::links::{Link, after_of, area_of, before_of};
 use crate::steps::Steps;
 use geometry::Position;
 use owned_values::Memory;
-use std::cmp::Reverse;
-use std::collections::BinaryHeap;
 
 /// Whether the first of all entries is the first of the heap, rather than the last of those that are sorted.
-fn is_on_heap(sorted: &[Reverse<Entry>], heap: &BinaryHeap<Reverse<Entry>>) -> bool
-    requires sorted { IsSorted rentry_cmp sorted.now }
-    requires order { IsHeap rentry_cmp (heap_items heap.now) }
-    ensures on_heap { result ≡ true → GoesFirst (heap_items heap.now) sorted.now }
-    ensures sorted { result ≡ false → GoesFirst sorted.now (heap_items heap.now) }
+fn is_on_heap(sorted: &[Entry], heap: &[Entry], arc: &[Position]) -> bool
+    requires sorted { IsSorted (queue_cmp arc.now) sorted.now }
+    requires order { IsHeap (queue_cmp arc.now) heap.now }
+    ensures on_heap { result ≡ true → GoesFirst arc.now heap.now sorted.now }
+    ensures sorted { result ≡ false → GoesFirst arc.now sorted.now heap.now }
 {
     let n = sorted.len();
     if n == 0 {
         return true;
     }
-    match heap.peek() {
-        Some(top) => sorted[n - 1].cmp(top).is_lt(),
-        None => false,
+    if heap.is_empty() {
+        return false;
     }
+    is_ahead(arc, &heap[0], &sorted[n - 1])
 }
 
 /// Takes out the first of all entries.
-fn pop_first(
-    sorted: &mut Vec<Reverse<Entry>>,
-    heap: &mut BinaryHeap<Reverse<Entry>>,
-) -> Option<Reverse<Entry>>
-    requires sorted { IsSorted rentry_cmp sorted.old.items }
-    requires order { IsHeap rentry_cmp (heap_items heap.old) }
-    ensures sorted { IsSorted rentry_cmp sorted.new.items }
-    ensures order { IsHeap rentry_cmp (heap_items heap.new) }
-    ensures permutation { IfSome result (λ e. IsPermutation (sorted.old.items ++ heap_items heap.old) (e ∷ (sorted.new.items ++ heap_items heap.new))) }
-    ensures first { IfSome result (λ e. IsUpperBound rentry_cmp e (sorted.old.items ++ heap_items heap.old)) }
-    ensures none { IfNone result (sorted.old.items ++ heap_items heap.old ≡ []) }
-    ensures empty { IfNone result (sorted.new.items ++ heap_items heap.new ≡ []) }
-    ensures fewer { IfSome result (λ e. vec_len sorted.new + heap_len heap.new < vec_len sorted.old + heap_len heap.old) }
+fn pop_first(sorted: &mut Vec<Entry>, heap: &mut Vec<Entry>, arc: &[Position]) -> Option<Entry>
+    requires sorted { IsSorted (queue_cmp arc.now) sorted.old.items }
+    requires order { IsHeap (queue_cmp arc.now) heap.old.items }
+    ensures sorted { IsSorted (queue_cmp arc.now) sorted.new.items }
+    ensures order { IsHeap (queue_cmp arc.now) heap.new.items }
+    ensures permutation { IfSome result (λ e. IsPermutation (sorted.old.items ++ heap.old.items) (e ∷ (sorted.new.items ++ heap.new.items))) }
+    ensures first { IfSome result (λ e. IsUpperBound (queue_cmp arc.now) e (sorted.old.items ++ heap.old.items)) }
+    ensures none { IfNone result (sorted.old.items ++ heap.old.items ≡ []) }
+    ensures empty { IfNone result (sorted.new.items ++ heap.new.items ≡ []) }
+    ensures fewer { IfSome result (λ e. vec_len sorted.new + vec_len heap.new < vec_len sorted.old + vec_len heap.old) }
 {
-    if is_on_heap(sorted, heap) {
-        return heap.pop();
+    if is_on_heap(sorted, heap, arc) {
+        return heap::pop(heap, arc);
     }
     sorted.pop()
 }
 
+/// Drops the last entry of those that are sorted, if it is stale. It is the next one, mostly: to look at its link so early has the link
+/// fetched from memory while another corner is removed.
+fn drop_stale(sorted: &mut Vec<Entry>, links: &[Link])
+    ensures dropped { DropsStale links.now sorted.old.items sorted.new.items }
+    ensures fewer { vec_len sorted.new ≤ vec_len sorted.old }
+{
+    let Some(last) = sorted.pop() else {
+        return;
+    };
+    if !is_current(links, &last) {
+        return;
+    }
+    sorted.push_reserved(last);
+}
+
 /// The first entry that is current, without the stale ones before it.
 pub fn pop_current(
-    sorted: &mut Vec<Reverse<Entry>>,
-    heap: &mut BinaryHeap<Reverse<Entry>>,
+    sorted: &mut Vec<Entry>,
+    heap: &mut Vec<Entry>,
+    arc: &[Position],
     links: &[Link],
 ) -> Option<Entry>
-    requires sorted { IsSorted rentry_cmp sorted.old.items }
-    requires order { IsHeap rentry_cmp (heap_items heap.old) }
-    ensures sorted { IsSorted rentry_cmp sorted.new.items }
-    ensures order { IsHeap rentry_cmp (heap_items heap.new) }
+    requires sorted { IsSorted (queue_cmp arc.now) sorted.old.items }
+    requires order { IsHeap (queue_cmp arc.now) heap.old.items }
+    ensures sorted { IsSorted (queue_cmp arc.now) sorted.new.items }
+    ensures order { IsHeap (queue_cmp arc.now) heap.new.items }
     ensures current { IfSome result (λ e. IsCurrent links.now e) }
-    ensures empty { IfNone result (sorted.new.items ++ heap_items heap.new ≡ []) }
-    ensures fewer { IfSome result (λ e. vec_len sorted.new + heap_len heap.new < vec_len sorted.old + heap_len heap.old) }
-    ensures left { LeavesCurrent links.now (sorted.old.items ++ heap_items heap.old) result (sorted.new.items ++ heap_items heap.new) }
+    ensures empty { IfNone result (sorted.new.items ++ heap.new.items ≡ []) }
+    ensures fewer { IfSome result (λ e. vec_len sorted.new + vec_len heap.new < vec_len sorted.old + vec_len heap.old) }
+    ensures left { LeavesCurrent arc.now links.now (sorted.old.items ++ heap.old.items) result (sorted.new.items ++ heap.new.items) }
 {
-    while let Some(Reverse(entry)) = pop_first(sorted, heap) {
+    while let Some(entry) = pop_first(sorted, heap, arc) {
         if is_current(links, &entry) {
+            drop_stale(sorted, links);
             return Some(entry);
         }
     }
@@ -79,9 +92,9 @@ pub fn pop_current(
 fn neighbour_goes_before(
     arc: &[Position],
     links: &[Link],
-    neighbour: usize,
-    index: usize,
-    later: usize,
+    neighbour: u32,
+    index: u32,
+    later: u32,
 ) -> bool
     requires size { length links.now ≡ length arc.now }
     requires neighbour { neighbour < length links.now }
@@ -96,13 +109,7 @@ fn neighbour_goes_before(
 
 /// The entry of an index, if it is between the ends and its corner is due: it is under the threshold, and those of its neighbours
 /// don't go before it. Of the corner at `later` that is known.
-fn queued_entry(
-    arc: &[Position],
-    links: &[Link],
-    t: u128,
-    index: usize,
-    later: usize,
-) -> Option<Entry>
+fn queued_entry(arc: &[Position], links: &[Link], t: u128, index: u32, later: u32) -> Option<Entry>
     requires size { length links.now ≡ length arc.now }
     requires ready { IsReady arc.now links.now index }
     ensures under { IfSome result (λ e. IsUnder t arc.now links.now index e) }
@@ -111,30 +118,32 @@ fn queued_entry(
     if index == 0 {
         return None;
     }
-    if links.len() - index <= 1 {
+    if links.len() - index as usize <= 1 {
         return None;
     }
-    let link = links[index];
-    if link.area >= t {
+    let area = area_of(links, index as usize);
+    if area >= t {
         return None;
     }
-    if neighbour_goes_before(arc, links, link.before, index, later) {
+    let before = before_of(links, index as usize);
+    if neighbour_goes_before(arc, links, before, index, later) {
         return None;
     }
-    if neighbour_goes_before(arc, links, link.after, index, later) {
+    let after = after_of(links, index as usize);
+    if neighbour_goes_before(arc, links, after, index, later) {
         return None;
     }
-    Some(entry_of(arc, links, index))
+    Some(entry_of(links, index))
 }
 
 /// Puts the corner at an index after the others, if it is due.
 pub fn put_corner(
-    entries: &mut Vec<Reverse<Entry>>,
+    entries: &mut Vec<Entry>,
     steps: &mut Steps,
     arc: &[Position],
     links: &[Link],
     t: u128,
-    index: usize,
+    index: u32,
 ) -> Result<(), Memory>
     requires size { length links.now ≡ length arc.now }
     requires ready { IsReady arc.now links.now index }
@@ -143,65 +152,64 @@ pub fn put_corner(
 {
     if let Some(entry) = queued_entry(arc, links, t, index, index) {
         steps.count_push();
-        entries.push(Reverse(entry))?;
+        entries.push(entry)?;
     }
     Ok(())
 }
 
 /// Pushes the corner at an index on the heap, if it is due. That of a neighbour at `later` is known not to go before it.
 fn push_corner(
-    heap: &mut BinaryHeap<Reverse<Entry>>,
+    heap: &mut Vec<Entry>,
     steps: &mut Steps,
     arc: &[Position],
     links: &[Link],
     t: u128,
-    index: usize,
-    later: usize,
+    index: u32,
+    later: u32,
 ) -> Result<(), Memory>
     requires size { length links.now ≡ length arc.now }
     requires ready { IsReady arc.now links.now index }
-    requires order { IsHeap rentry_cmp (heap_items heap.old) }
-    ensures order { OnOk result (IsHeap rentry_cmp (heap_items heap.new)) }
-    ensures pushed { OnOk result (Pushed t arc.now links.now (heap_items heap.old) (heap_items heap.new) index) }
+    requires order { IsHeap (queue_cmp arc.now) heap.old.items }
+    ensures order { OnOk result (IsHeap (queue_cmp arc.now) heap.new.items) }
+    ensures pushed { OnOk result (Pushed t arc.now links.now heap.old.items heap.new.items index) }
     ensures counted { RoseBy 0 1 steps.old steps.new }
 {
     if let Some(entry) = queued_entry(arc, links, t, index, later) {
         steps.count_push();
-        heap.push(Reverse(entry))?;
+        heap::push(heap, arc, entry)?;
     }
     Ok(())
 }
 
 /// Whether neither of two corners is under the threshold.
-#[tactic(auto, unfolding(crate::specs::Links::area_in))]
-fn are_over(links: &[Link], t: u128, index: usize, other: usize) -> bool
+fn are_over(links: &[Link], t: u128, index: u32, other: u32) -> bool
     requires index { index < length links.now }
     requires other { other < length links.now }
     ensures { result ≡ true → (t ≤ area_in links.now index) × (t ≤ area_in links.now other) }
 {
-    if links[index].area < t {
+    if area_of(links, index as usize) < t {
         return false;
     }
-    links[other].area >= t
+    area_of(links, other as usize) >= t
 }
 
 /// Pushes the one of two neighbours that goes first, if it is due. The outer one is left out if its entry was queued before.
 pub fn push_first(
-    heap: &mut BinaryHeap<Reverse<Entry>>,
+    heap: &mut Vec<Entry>,
     steps: &mut Steps,
     arc: &[Position],
     links: &[Link],
     t: u128,
-    inner: usize,
-    outer: usize,
+    inner: u32,
+    outer: u32,
     is_known: bool,
 ) -> Result<(), Memory>
     requires size { length links.now ≡ length arc.now }
     requires inner { IsReady arc.now links.now inner }
     requires outer { IsReady arc.now links.now outer }
-    requires order { IsHeap rentry_cmp (heap_items heap.old) }
-    ensures order { OnOk result (IsHeap rentry_cmp (heap_items heap.new)) }
-    ensures pushed { OnOk result (PushedFirst t arc.now links.now (heap_items heap.old) (heap_items heap.new) inner outer is_known) }
+    requires order { IsHeap (queue_cmp arc.now) heap.old.items }
+    ensures order { OnOk result (IsHeap (queue_cmp arc.now) heap.new.items) }
+    ensures pushed { OnOk result (PushedFirst t arc.now links.now heap.old.items heap.new.items inner outer is_known) }
     ensures counted { RoseBy 0 1 steps.old steps.new }
 {
     if are_over(links, t, inner, outer) {

@@ -1,12 +1,12 @@
 ghost use Rattle.std.specs.Prelude.{◌≡◌, ℕ, ◌-◌, ◌≤◌, ◌++◌, All, IfOk, OnOk, List, length, replicate};
-ghost use Rattle.std.specs.BinaryHeap.{heap_items, IsHeap};
+ghost use Rattle.std.specs.BinaryHeap.{IsHeap};
 ghost use Rattle.std.specs.List.{range_with_len};
 ghost use Rattle.std.specs.List.Sorted.{IsSorted};
 ghost use Rattle.geometry.specs.Points.{IsPosition};
 ghost use Rattle.geometry.specs.Units.{area_limit};
 ghost use Rattle.effective_area.specs.declared.weight.Weight.TheVariants as weight;
 ghost use Rattle.effective_area.specs.Capped.{AreFilled, IsCapped, IsFoundTo, or_area};
-ghost use Rattle.effective_area.specs.Links.{IsState, rentry_cmp};
+ghost use Rattle.effective_area.specs.Links.{IsState, queue_cmp};
 ghost use Rattle.effective_area.specs.Weights as spec;
 
 use crate::caching::cached_links;
@@ -19,8 +19,6 @@ use crate::weight::Weight;
 use geometry::{AREA_LIMIT, Position};
 use owned_values::Memory;
 use std::alloc::Global;
-use std::cmp::Reverse;
-use std::collections::BinaryHeap;
 
 /// A position is within the limit of positions: this does nothing but say so.
 fn is_within(position: Position)
@@ -46,17 +44,17 @@ fn all_ends(alloc: Global, arc: &[Position]) -> Result<Vec<Weight>, Memory>
 /// Takes out positions between the ends, the first of all each time, until so many are out, and sets the weight of each. It answers
 /// the greatest of them.
 fn weigh(
-    sorted: &mut Vec<Reverse<Entry>>,
-    heap: &mut BinaryHeap<Reverse<Entry>>,
+    sorted: &mut Vec<Entry>,
+    heap: &mut Vec<Entry>,
     arc: &[Position],
     links: &mut [Link],
     weights: &mut [Weight],
     most: usize,
 ) -> Result<u128, Memory>
     requires two { 2 ≤ length arc.now }
-    requires sorted { IsSorted rentry_cmp sorted.old.items }
-    requires order { IsHeap rentry_cmp (heap_items heap.old) }
-    requires state { IsState area_limit arc.now links.old (sorted.old.items ++ heap_items heap.old) (length arc.now - 2) (range_with_len 1 (length arc.now - 1)) }
+    requires sorted { IsSorted (queue_cmp arc.now) sorted.old.items }
+    requires order { IsHeap (queue_cmp arc.now) heap.old.items }
+    requires state { IsState area_limit arc.now links.old (sorted.old.items ++ heap.old.items) (length arc.now - 2) (range_with_len 1 (length arc.now - 1)) }
     requires within { All IsPosition arc.now }
     requires ends { weights.old ≡ replicate (length arc.now) weight.End }
     ensures { IfOk result (λ level. IsFoundTo most level (spec.weights_of arc.now) weights.new) }
@@ -69,8 +67,8 @@ fn weigh(
         let Some(corner) = take_first(sorted, heap, &mut steps, arc, links, AREA_LIMIT)? else {
             return Ok(level);
         };
-        level = level.max(corner.area);
-        weights[corner.index] = Weight::Area(level);
+        level = level.max(corner.area.number());
+        weights[corner.index as usize] = Weight::Area(level);
         left -= 1;
     }
     Ok(level)
@@ -111,7 +109,7 @@ pub fn weights_until(alloc: Global, arc: &[Position], most: usize) -> Result<Vec
     cached_links(&mut links, &mut steps, arc, AREA_LIMIT)?;
     let mut sorted = Vec::new(alloc);
     sorted_entries(&mut sorted, &mut steps, arc, &links, AREA_LIMIT)?;
-    let mut heap = BinaryHeap::new(alloc);
+    let mut heap = Vec::new(alloc);
     let level = weigh(&mut sorted, &mut heap, arc, &mut links, &mut weights, most)?;
     fill(&mut weights, level);
     Ok(weights)

@@ -1,6 +1,8 @@
 use Rattle.std.proofs.Common.{◌≡◌, ◌∙◌, arith, inl, length, subst, sym}
 use Rattle.effective_area.specs.Capped.{AreFilled, IsCapped}
 use Rattle.effective_area.specs.Weights.{weights_of}
+use Rattle.std.proofs.HeapSift.{empty}
+use Rattle.effective_area.proofs.Queues.{queue_total}
 use Rattle.effective_area.proofs.Stopped.{filled, weights_length, written_over}
 use Rattle.effective_area.proofs.Weighed.{short_weights}
 use Rattle.effective_area.proofs.weighing.weights_until.Goals as goal
@@ -20,3 +22,6 @@ returns c =
     let over = written_over len found items first in
     subst (IsCapped c.args.most ws) (sym (written_over len new _ other))
     (filled c.args.most c.in_ok-level.level ws found new c.in_ok-level.ensures (subst (λ l. AreFilled c.in_ok-level.level l new) (c.deref_mut-3.ensures.value ∙ over) c.fill.ensures))
+
+pub weigh-requires-clause-order : goal.weigh-requires-clause-order
+weigh-requires-clause-order c = empty (queue_total c.args.arc.now) c.new-heap.result.items c.new-heap.ensures.items

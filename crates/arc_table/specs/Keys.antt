@@ -6,7 +6,7 @@ use Rattle.std.proofs.lemmas.Bool.{and_parts}
 use Rattle.cutter.specs.Segments.{Segment}
 use Rattle.geometry.specs.Rings.{same}
 use Rattle.geometry.proofs.Points.{same_is, same_self}
-use Rattle.arc_table.specs.Starts.{equal}
+use Rattle.arc_table.specs.Ends.{equal}
 
 pub equal_segments : (s t : Segment) → equal s t ≡ true → s ≡ t
 equal_segments s t h = grind (arith, and_parts (same s.from t.from) (same s.to t.to), same_is s.from t.from, same_is s.to t.to)

@@ -1,13 +1,14 @@
 -- Objects whose features have ways: where these lead to protected rings, and where there are none.
-use Rattle.std.proofs.Common.{◌≡◌, ℕ, ◌+◌, ◌<◌, ◌≤◌, List, [], ◌∷◌, ◌++◌, map, drop, length, get_or, Option, None, Some, inl, inr, refl, sym, ap, ◌∙◌, arith}
+use Rattle.std.proofs.Common.{◌≡◌, ℕ, List, [], ◌∷◌, ◌++◌, map, drop, length, Option, None, Some, inl, inr, refl, sym, ap, ◌∙◌}
 use Rattle.std.proofs.Math.Seq.{drop-nil, drop-append_seam}
-use Rattle.std.proofs.lemmas.List.{at_drop_all, at_drop_more, length-map, map-append}
+use Rattle.std.proofs.lemmas.List.{length-map, map-append}
 use Rattle.geometry.specs.Lists.{joined, map_some, tail, then_some}
 use Rattle.geometry.specs.Points.{Point}
 use Rattle.geometry.specs.Pruning.{prune}
 use Rattle.simplified_topology.specs.OuterRings.{marked}
 use Rattle.simplified_topology.specs.Protected.{Protection, no_protection, MarkedRefs, sparing, shape_marked, feature_spared, object_spared, objects_spared}
-use Rattle.simplified_topology.specs.Simplified.{Refs, objects_pruned}
+use Rattle.simplified_topology.specs.Simplified.{Refs, feature_pruned, objects_pruned}
+use Rattle.simplified_topology.proofs.Marks.{left_plain}
 use Rattle.simplified_topology.proofs.Spared.{objects_plain}
 use Rattle.topojson_types.specs.declared.feature.TopoFeature.{TopoFeature}
 use Rattle.topojson_types.specs.declared.object.TopoObject.{TopoObject}
@@ -22,14 +23,6 @@ use Rattle.topo_model.proofs.Stepped as stepped
 pub ways_step : {A : Type 0} (ways : Ways) (x : A) (xs : List A) → ways_after ways (x ∷ xs) ≡ ways_after (tail ways) xs
 ways_step [] x xs = sym (drop-nil (length xs))
 ways_step (way ∷ ways) x xs = refl
-
--- one element more
-pub ways_more : {A : Type 0} (ways left whole : Ways) (i : ℕ) (xs : List A) (x : A) → i < length xs → x ≡ get_or xs i x → left ≡ tail ways → ways_after ways (drop i xs) ≡ whole → ways_after left (drop (i + 1) xs) ≡ whole
-ways_more ways left whole i xs x l g to h = grind (arith, at_drop_more (λ ys. ways_after ways ys) xs i x l, ways_step ways x (drop (i + 1) xs))
-
--- the end
-pub ways_all : {A : Type 0} (ways whole : Ways) (i : ℕ) (xs : List A) → length xs ≤ i → ways_after ways (drop i xs) ≡ whole → ways ≡ whole
-ways_all ways whole i xs l h = sym (at_drop_all (λ ys. ways_after ways ys) xs i l) ∙ h
 
 module _ {A B : Type 0} (make : Option (List ℕ) → A → B) where
   pub by_given : (way : A → Option (List ℕ)) (xs : List A) (more : Ways) → by_ways make (map way xs ++ more) xs ≡ map (λ x. make (way x) x) xs
@@ -130,3 +123,11 @@ objects_are protects kept ways os are =
 -- without ways they are pruned
 pub objects_plainly : (k : Refs) (os : Objects) → objects_along (sparing k) [] os ≡ objects_pruned k os
 objects_plainly k os = objects_are no_protection (sparing k) [] os (inr (refl, refl)) ∙ objects_plain (sparing k) os
+
+-- so is a feature without a way
+pub feature_plainly : (k : Refs) (f : TopoFeature) → feature_along (sparing k) None f ≡ feature_pruned k f
+feature_plainly k f = ap (with_shape no_protection (sparing k) f) (plainly f.shape)
+  where
+    plainly : (s : Option TopoShape) → then_some (λ s. prune (λ (p : Point). p) (sparing k) (marked s None)) s ≡ then_some (prune (λ p. p) k) s
+    plainly None = refl
+    plainly (Some s) = left_plain (λ (p : Point). p) (sparing k) s

@@ -6,7 +6,7 @@ use Rattle.geometry.specs.declared.address.Cause.{Cause}
 use Rattle.geometry.specs.declared.address.Dropped.{Dropped}
 use Rattle.geometry.specs.declared.shape.Geometry.TheVariants as g
 use Rattle.geometry.specs.DropCauses.{here, inner_cause, area_drop_causes, drop_causes, dropped_of_layers}
-use Rattle.geometry.specs.Lists.{map_some, tail, then_some}
+use Rattle.geometry.specs.Lists.{map_some, then_some}
 use Rattle.geometry.specs.Paths.{Placed, of_parts}
 use Rattle.geometry.specs.Points.{Point}
 use Rattle.geometry.proofs.Cases.{drop_causes-line, drop_causes-lines, drop_causes-area, drop_causes-areas, drop_causes-group, drop_causes_at}
@@ -15,16 +15,14 @@ use Rattle.simplified_topology.specs.OuterRings.{into_part, ends_here, along, un
 use Rattle.simplified_topology.specs.Protected.{Protection, no_protection, cause_sparing, shape_marked}
 use Rattle.simplified_topology.proofs.Marks.{causes_plain, marked_at, marked-line, marked-lines, marked-area, marked-areas, marked-group}
 use Rattle.topojson_types.specs.declared.feature.TopoFeature.{TopoFeature}
-use Rattle.topojson_types.specs.declared.object.TopoObject.{TopoObject}
 use Rattle.topojson_types.specs.Topologies.{TopoShape, object_features}
-use Rattle.topo_model.specs.Along.{Ways, first_way, ways_after, AreWays}
+use Rattle.topo_model.specs.Along.{Ways, AreWays}
 use Rattle.topo_model.specs.Places.{dropped_at}
 use Rattle.topo_model.specs.Rebuilding.{Rebuilding}
-use Rattle.topo_model.proofs.Reported.{first_part, reported_more, stated_more}
-use Rattle.topo_model.specs.Drops.{draft_cause, shape_drops, features_drops, object_drops, objects_drops}
+use Rattle.topo_model.proofs.Reported.{first_part, reported_more}
+use Rattle.topo_model.specs.Drops.{draft_cause, shape_drops, features_drops, objects_drops}
 use Rattle.topo_model.specs.Ways.{way_of}
 use Rattle.topo_model.proofs.Along.{Objects, by_given, by_none, objects_by}
-use Rattle.linework.specs.Linework.{feature_address}
 
 module _ (arcs : Rebuilding) (way : Option (List ℕ)) where
   abbrev why : Bool → Bool × List ℤ → Option Cause
@@ -119,15 +117,3 @@ pub along_more : {X Z : Type 0} (f : Z → List (Placed Cause)) (h : X → Optio
 along_more f h way a i =
     reported_more (λ k x. dropped_at (part_address a k) (f (h x (into_part k way)))) (λ k xs. dropped_at a (of_parts k (map f (along h k xs way))))
     (λ k x xs. first_part a k (f (h x (into_part k way))) (map f (along h (suc k) xs way))) i i
-
--- one feature more
-pub features_more : (arcs : Rebuilding) (object i : ℕ) (ways left : Ways) (now new whole : List Dropped) (fs : List TopoFeature) (f : TopoFeature) → i < length fs → f ≡ get_or fs i f → left ≡ tail ways →
-    now ++ object_drops arcs object i ways (drop i fs) ≡ whole → new ≡ now ++ dropped_at (feature_address object i) (shape_drops arcs (first_way ways) f.shape) → new ++ object_drops arcs object (i + 1) left (drop (i + 1) fs) ≡ whole
-features_more arcs object i ways left =
-    stated_more (λ ways i (f : TopoFeature). dropped_at (feature_address object i) (shape_drops arcs (first_way ways) f.shape)) (λ ways f. tail ways) (λ ways i fs. object_drops arcs object i ways fs) (λ ways i f fs. refl) ways left i i
-
--- one object more
-pub objects_more : (arcs : Rebuilding) (i : ℕ) (ways left : Ways) (now new whole : List Dropped) (os : List (List ℕ × TopoObject)) (o : List ℕ × TopoObject) → i < length os → o ≡ get_or os i o → left ≡ ways_after ways (object_features o.1) →
-    now ++ objects_drops arcs i ways (drop i os) ≡ whole → new ≡ now ++ object_drops arcs i 0 ways (object_features o.1) → new ++ objects_drops arcs (i + 1) left (drop (i + 1) os) ≡ whole
-objects_more arcs i ways left =
-    stated_more (λ ways i (o : List ℕ × TopoObject). object_drops arcs i 0 ways (object_features o.1)) (λ ways o. ways_after ways (object_features o.1)) (λ ways i os. objects_drops arcs i ways os) (λ ways i o os. refl) ways left i i

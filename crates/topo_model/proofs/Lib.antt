@@ -1,5 +1,6 @@
 pub mod Assembled
 pub mod AssembledSparing
+pub mod AllUsed
 pub mod Along
 pub mod BestRing
 pub mod Chosen
@@ -8,8 +9,10 @@ pub mod DraftAtZero
 pub mod DraftUses
 pub mod Drops
 pub mod Enclosed
+pub mod Full
 pub mod Kept
 pub mod KeptParts
+pub mod LeftOut
 pub mod Marked
 pub mod Marks
 pub mod Numbered
@@ -26,3 +29,4 @@ pub mod Retained
 pub mod Short
 pub mod Stepped
 pub mod Taking
+pub mod Undropped

@@ -16,12 +16,6 @@ pub reported_more : {X Y : Type 0} (of : ℕ → X → List Y) (all : ℕ → Li
     now ++ all k (drop i xs) ≡ whole → new ≡ now ++ of k x → new ++ all (k + 1) (drop (i + 1) xs) ≡ whole
 reported_more of all some k i now new whole xs x l g h e = grind (arith, append_assoc now (of k x) (all (suc k) (drop (i + 1) xs)), at_drop_more (all k) xs i x l)
 
--- the same with a state that goes on from element to element
-pub stated_more : {X Y S : Type 0} (of : S → ℕ → X → List Y) (next : S → X → S) (all : S → ℕ → List X → List Y) → ((s : S) (i : ℕ) (x : X) (xs : List X) → all s i (x ∷ xs) ≡ of s i x ++ all (next s x) (suc i) xs) →
-    (s t : S) (k i : ℕ) (now new whole : List Y) (xs : List X) (x : X) → i < length xs → x ≡ get_or xs i x → t ≡ next s x →
-    now ++ all s k (drop i xs) ≡ whole → new ≡ now ++ of s k x → new ++ all t (k + 1) (drop (i + 1) xs) ≡ whole
-stated_more of next all some s t k i now new whole xs x l g to h e = grind (arith, append_assoc now (of s k x) (all (next s x) (suc k) (drop (i + 1) xs)), at_drop_more (all s k) xs i x l)
-
 -- the end of such a list
 pub reported_all : {X Y : Type 0} (all : List X → List Y) (i : ℕ) (now whole : List Y) (xs : List X) → all [] ≡ [] → length xs ≤ i → now ++ all (drop i xs) ≡ whole → now ≡ whole
 reported_all all i now whole xs n l h = sym (append-nil now) ∙ ap (λ ds. now ++ ds) (sym (at_drop_all all xs i l ∙ n)) ∙ h

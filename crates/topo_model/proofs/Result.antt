@@ -42,7 +42,7 @@ use Rattle.topo_model.specs.Drops.{draft_cause, objects_drops}
 use Rattle.topo_model.proofs.Along.{objects_are as objects_along_are}
 use Rattle.topo_model.proofs.Drops.{protected_drops, objects_are as drops_along}
 use Rattle.topo_model.specs.Parts.{contents}
-use Rattle.topo_model.specs.ArcUses.{AllNameArcs, NamesArcs, renumbered_refs}
+use Rattle.topo_model.specs.ArcUses.{AllNameArcs, NamesArcs, as_they_are, renumbered_refs}
 use Rattle.topo_model.proofs.Picks.{places_retained, topology_places}
 
 abbrev Objects : Type 0
@@ -88,9 +88,6 @@ objects_full : (transform : Option Transform) (os : Objects) → AllByRecursion 
 objects_full transform [] h = tt
 objects_full transform (o ∷ os) h =
     all_append (λ b. is_some_list b.1 ≡ true) (features_lines_and_rings (object_features o.1)) (objects_lines_and_rings os) (object_full transform o.1 h.0) (objects_full transform os h.1)
-
-abbrev as_they_are : Refs
-as_they_are closed refs = Some refs
 
 pub objects_renumbered : (renumbering : List ℤ) (u : ℕ → Bool) (os : Objects) → NewIndexesOf renumbering u → AllByRecursion (InRange (length renumbering)) (objects_lines_and_rings os) → objects_pruned (renumbered_refs renumbering) os ≡ objects_pruned (line_renumbered u) os
 objects_renumbered renumbering u os are h =

@@ -24,3 +24,7 @@ AllNameArcs n os = AllByRecursion (NamesArcs n) (objects_lines_and_rings os)
 -- the indexes of a line or ring by the new index of each arc
 abbrev pub renumbered_refs : List ℤ → Refs
 renumbered_refs renumbering closed refs = Some (map (renumbered_by renumbering) refs)
+
+-- the indexes of a line or ring as they are
+abbrev pub as_they_are : Refs
+as_they_are closed refs = Some refs

@@ -1,105 +1,25 @@
-// The lines and rings of objects that are dropped, and where they stand. The outer ring at the end of a way isn't.
-ghost use Rattle.std.specs.Prelude.{◌≡◌, ◌++◌, IfOk, OnOk, false, map, true};
+// The lines and rings of features that are dropped, and where they stand. The outer ring at the end of a way isn't.
+ghost use Rattle.std.specs.Prelude.{◌≡◌, ◌++◌, OnOk, false, map, true};
 ghost use Rattle.geometry.specs.DropCauses.{area_drop_causes, here, drop_causes};
-ghost use Rattle.geometry.specs.Lists.{map_some, tail};
+ghost use Rattle.geometry.specs.Lists.{map_some};
 ghost use Rattle.geometry.specs.Paths.{of_parts};
-ghost use Rattle.topo_model.specs.Along.{ways_after};
 ghost use Rattle.topo_model.specs.Places.{dropped_at};
-ghost use Rattle.topo_model.specs.Drops.{draft_cause, shape_drops, object_drops, objects_drops};
-ghost use Rattle.linework.specs.Linework.{feature_address};
+ghost use Rattle.topo_model.specs.Drops.{draft_cause, shape_drops};
 ghost use Rattle.simplified_topology.specs.OuterRings.{along, ends_here, marked, rings_marked};
 ghost use Rattle.simplified_topology.specs.Protected.{cause_sparing};
-ghost use Rattle.topojson_types.specs.Topologies.{object_features};
 
 use crate::places::{Place, add_here, add_part, hole_cause};
 use crate::rebuilding::Rebuilding;
-use crate::way_steps::{Ways, ends_here, into_part};
+use crate::way_steps::{ends_here, into_part};
 use geojson_types::{Cause, Dropped, Geometry};
-use json_value::{Items, OwnText};
+use json_value::Items;
 use owned_values::Memory;
 use std::alloc::Global;
-use topojson_types::{ArcRef, TopoFeature, TopoObject, TopoShape};
+use topojson_types::{ArcRef, TopoFeature, TopoShape};
 
-/// The lines and rings of objects that have no arc index, or are small where they are rebuilt of these arcs, and the rings of polygons whose outer ring is dropped, in reading order. An object stands in the place of a layer. The ways are those of the features, in reading order, and those that come after the last way have none.
-pub fn dropped_lines(
-    alloc: Global,
-    objects: &[(OwnText, TopoObject)],
-    arcs: &Rebuilding<'_>,
-    ways: &[Option<Vec<usize>>],
-) -> Result<Vec<Dropped>, Memory>
-    ensures { IfOk result (λ dropped. dropped.items ≡ objects_drops arcs.now 0 (map (map_some (λ v. v.items)) ways.now) objects.now) }
-{
-    let mut dropped = Vec::new(alloc);
-    let mut place = Place::first(alloc);
-    let mut rest = Ways::of(ways);
-    for (number, object) in objects.iter().enumerate() {
-        add_object(
-            alloc,
-            arcs,
-            &mut place,
-            number,
-            &object.1,
-            &mut rest,
-            &mut dropped,
-        )?;
-    }
-    Ok(dropped)
-}
-
-/// Adds those of the object with this number.
-fn add_object(
-    alloc: Global,
-    arcs: &Rebuilding<'_>,
-    place: &mut Place,
-    number: usize,
-    object: &TopoObject,
-    ways: &mut Ways<'_>,
-    dropped: &mut Vec<Dropped>,
-) -> Result<(), Memory>
-    ensures ways { OnOk result (ways.new ≡ ways_after ways.old (object_features object.now)) }
-    ensures dropped { OnOk result (dropped.new.items ≡ dropped.old.items ++ object_drops arcs.now number 0 ways.old (object_features object.now)) }
-{
-    match object {
-        TopoObject::One(feature) => {
-            place.go_to(number, 0);
-            add_feature(alloc, arcs, place, feature, ways.next(), dropped)
-        }
-        TopoObject::Many(features) => {
-            add_features(
-                alloc,
-                arcs,
-                place,
-                number,
-                features.as_slice(),
-                ways,
-                dropped,
-            )
-        }
-    }
-}
-
-/// Adds those of the features of the object with this number.
-fn add_features(
-    alloc: Global,
-    arcs: &Rebuilding<'_>,
-    place: &mut Place,
-    object: usize,
-    features: &[TopoFeature],
-    ways: &mut Ways<'_>,
-    dropped: &mut Vec<Dropped>,
-) -> Result<(), Memory>
-    ensures ways { OnOk result (ways.new ≡ ways_after ways.old features.now) }
-    ensures dropped { OnOk result (dropped.new.items ≡ dropped.old.items ++ object_drops arcs.now object 0 ways.old features.now) }
-{
-    for (number, feature) in features.iter().enumerate() {
-        place.go_to(object, number);
-        add_feature(alloc, arcs, place, feature, ways.next(), dropped)?;
-    }
-    Ok(())
-}
-
-/// Adds those of the feature at this place.
-fn add_feature(
+/// Adds the lines and rings of the feature at this place that have no arc index, or are small where they are rebuilt of these arcs, and the
+/// rings of polygons whose outer ring is dropped, in reading order. The outer ring at the end of its way isn't.
+pub fn add_feature(
     alloc: Global,
     arcs: &Rebuilding<'_>,
     place: &mut Place,

@@ -14,13 +14,14 @@ ghost use Rattle.topojson_types.specs.Decoding.{placed_arcs as all_placed};
 ghost use Rattle.topojson_types.specs.Topologies.{objects_lines_and_rings};
 ghost use Rattle.topojson_types.specs.Validity.{IsPlace};
 ghost use Rattle.topo_model.specs.Along.{large_along};
-ghost use Rattle.topo_model.specs.ArcUses.{AllNameArcs};
+ghost use Rattle.topo_model.specs.ArcUses.{AllNameArcs, as_they_are};
 ghost use Rattle.topo_model.specs.Drops.{objects_drops};
 ghost use Rattle.topo_model.specs.Parts.{contents};
 
 use crate::choosing::Renumbered;
 use crate::draft_uses::draft_arcs;
-use crate::dropping::dropped_lines;
+use crate::leaving_out::leave_out_small;
+use crate::marking::all_set;
 use crate::placing::placed_arcs;
 use crate::position_counting::position_sum;
 use crate::pruning::prune_objects;
@@ -32,24 +33,9 @@ use owned_values::Memory;
 use std::alloc::Global;
 use topojson_types::{Cell, TopoObject, Transform};
 
-/// Leaves out the lines and rings of the objects that are small where they are rebuilt of these arcs, but no ring to which the way of its
-/// feature leads. They are, in reading order, what comes back.
-fn leave_out_small(
-    alloc: Global,
-    objects: &mut [(OwnText, TopoObject)],
-    arcs: &Rebuilding<'_>,
-    ways: &[Option<Vec<usize>>],
-) -> Result<Vec<Dropped>, Memory>
-    ensures objects { OnOk result (objects.new ≡ large_along arcs.now.limit arcs.now.arcs (map (map_some (λ v. v.items)) ways.now) objects.old) }
-    ensures dropped { IfOk result (λ dropped. dropped.items ≡ objects_drops arcs.now 0 (map (map_some (λ v. v.items)) ways.now) objects.old) }
-{
-    let dropped = dropped_lines(alloc, objects, arcs, ways)?;
-    prune_objects(alloc, arcs, objects, ways)?;
-    Ok(dropped)
-}
-
-/// Leaves out those that are small where the positions of the arcs are those that their cells stand for, and twice the area of a ring
-/// may not be under the limit.
+/// Leaves out the lines and rings of the objects that are small where the positions of the arcs are those that their cells stand for, and
+/// twice the area of a ring may not be under the limit, but no ring to which the way of its feature leads. They are, in reading order, what
+/// comes back.
 fn leave_out_dropped(
     alloc: Global,
     objects: &mut [(OwnText, TopoObject)],
@@ -84,7 +70,28 @@ fn renumber(
     ensures { OnOk result ((u : ℕ → Bool) → used.now ≡ answers u 0 (length used.now) → objects.new ≡ objects_pruned (line_renumbered u) objects.old) }
 {
     let renumbering = renumbering(alloc, used)?;
-    prune_objects(alloc, &Renumbered::by(&renumbering), objects, &[])
+    prune_objects(alloc, &Renumbered::by(&renumbering), objects)
+}
+
+/// The arcs that a line or ring of the objects uses, which have a set flag. The objects have the new indexes, or stay as they are where each
+/// flag is set.
+fn only_used(
+    alloc: Global,
+    objects: &mut [(OwnText, TopoObject)],
+    arcs: Vec<Items<Cell>>,
+    used: &[bool],
+) -> Result<Vec<Items<Cell>>, Memory>
+    requires used { used.now ≡ answers (is_used objects.old) 0 (length arcs.items) }
+    requires indexed { AllByRecursion (λ b. AreInRange (length arcs.items) b.1) (objects_lines_and_rings objects.old) }
+    requires pruned { objects_pruned as_they_are objects.old ≡ objects.old }
+    ensures objects { OnOk result (objects.new ≡ objects_pruned (line_renumbered (is_used objects.old)) objects.old) }
+    ensures arcs { IfOk result (λ kept. kept.items ≡ keep_from (is_used objects.old) 0 arcs.items) }
+{
+    if all_set(used) {
+        return Ok(arcs);
+    }
+    renumber(alloc, objects, used)?;
+    kept_arcs(alloc, arcs, used)
 }
 
 /// The retained arcs without those that no line or ring of the objects uses, and how many of the positions of the others were not retained,
@@ -97,6 +104,7 @@ fn without_unused(
 ) -> Result<(Vec<Items<Cell>>, u64), Memory>
     requires many { length retained.items ≡ length counts.now }
     requires indexed { AllNameArcs (length retained.items) objects.old }
+    requires pruned { objects_pruned as_they_are objects.old ≡ objects.old }
     ensures objects { OnOk result (objects.new ≡ objects_pruned (line_renumbered (is_used objects.old)) objects.old) }
     ensures arcs { IfOk result (λ r. r.0.items ≡ keep_from (is_used objects.old) 0 retained.items) }
     ensures removed_count { IfOk result (λ r. r.1
@@ -104,8 +112,7 @@ fn without_unused(
 {
     let used = draft_arcs(alloc, objects, retained.len())?;
     let before = used_sum(counts, &used);
-    renumber(alloc, objects, &used)?;
-    let stay = kept_arcs(alloc, retained, &used)?;
+    let stay = only_used(alloc, objects, retained, &used)?;
     let after = position_sum(&stay);
     Ok((stay, removed_count(before, after)))
 }

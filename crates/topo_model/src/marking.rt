@@ -1,6 +1,6 @@
 // Which arcs lines and rings use.
 ghost use Rattle.std.specs.Prelude.{◌≡◌, IfOk, false, replicate};
-ghost use Rattle.std.specs.List.{list_any};
+ghost use Rattle.std.specs.List.{list_all, list_any};
 ghost use Rattle.topo_model.specs.Marks.{also_set, names_arc};
 
 use json_value::Items;
@@ -35,4 +35,16 @@ pub fn mark_lines(lines: &[Items<ArcRef>], used: &mut [bool])
     'lines: for refs in lines {
         mark_refs(refs.as_slice(), used);
     }
+}
+
+/// Whether each flag is set.
+pub fn all_set(flags: &[bool]) -> bool
+    ensures { result ≡ list_all (λ flag. flag) flags.now }
+{
+    for flag in flags {
+        if !*flag {
+            return false;
+        }
+    }
+    true
 }

@@ -7,10 +7,10 @@ ghost use Rattle.geometry.specs.Lists.{map_some, some_of, then_some, unless_empt
 ghost use Rattle.geometry.specs.Pruning.{area_by, prune};
 ghost use Rattle.simplified_topology.specs.OuterRings.{along, ends_here, marked, rings_marked};
 ghost use Rattle.simplified_topology.specs.Protected.{sparing};
-ghost use Rattle.topojson_types.specs.Topologies.{object_features};
-ghost use Rattle.topo_model.specs.Along.{by_ways, feature_along, object_along, objects_along, ways_after};
+ghost use Rattle.simplified_topology.specs.Simplified.{feature_pruned, object_pruned, objects_pruned};
+ghost use Rattle.topo_model.specs.Along.{feature_along};
 
-use crate::way_steps::{Ways, ends_here, into_part};
+use crate::way_steps::{ends_here, into_part};
 use geojson_types::Geometry;
 use json_value::{Items, OwnText};
 use owned_values::Memory;
@@ -191,7 +191,7 @@ fn pruned_option<K: Keeps>(
 }
 
 /// Prunes the shape of a feature.
-fn prune_feature<K: Keeps>(
+pub fn prune_feature<K: Keeps>(
     alloc: Global,
     keeps: &K,
     feature: &mut TopoFeature,
@@ -204,53 +204,41 @@ fn prune_feature<K: Keeps>(
     Ok(())
 }
 
-/// Prunes the shapes of features.
+/// Prunes the shapes of features without a way.
 fn prune_features<K: Keeps>(
     alloc: Global,
     keeps: &K,
     features: &mut [TopoFeature],
-    ways: &mut Ways<'_>,
 ) -> Result<(), Memory>
-    ensures features { OnOk result (features.new ≡ by_ways (feature_along (sparing (K.keeps keeps.now))) ways.old features.old) }
-    ensures ways { OnOk result (ways.new ≡ ways_after ways.old features.old) }
+    ensures { OnOk result (features.new ≡ map (feature_pruned (K.keeps keeps.now)) features.old) }
 {
     'features: for feature in features.iter_mut() {
-        prune_feature(alloc, keeps, feature, ways.next())?;
+        prune_feature(alloc, keeps, feature, None)?;
     }
     Ok(())
 }
 
 /// Prunes the shapes of the features of an object.
-fn prune_object<K: Keeps>(
-    alloc: Global,
-    keeps: &K,
-    object: &mut TopoObject,
-    ways: &mut Ways<'_>,
-) -> Result<(), Memory>
-    ensures object { OnOk result (object.new ≡ object_along (sparing (K.keeps keeps.now)) ways.old object.old) }
-    ensures ways { OnOk result (ways.new ≡ ways_after ways.old (object_features object.old)) }
+#[tactic(auto, using(crate::proofs::Along::feature_plainly))]
+fn prune_object<K: Keeps>(alloc: Global, keeps: &K, object: &mut TopoObject) -> Result<(), Memory>
+    ensures { OnOk result (object.new ≡ object_pruned (K.keeps keeps.now) object.old) }
 {
     match object {
-        TopoObject::One(feature) => prune_feature(alloc, keeps, feature, ways.next()),
-        TopoObject::Many(features) => {
-            prune_features(alloc, keeps, features.as_mut_slice(), ways)
-        }
+        TopoObject::One(feature) => prune_feature(alloc, keeps, feature, None),
+        TopoObject::Many(features) => prune_features(alloc, keeps, features.as_mut_slice()),
     }
 }
 
-/// Prunes the shapes of the features of all objects. The ways are those of the features, in reading order, and those that come after the
-/// last way have none.
+/// Prunes the shapes of the features of all objects, of which none has a way.
 pub fn prune_objects<K: Keeps>(
     alloc: Global,
     keeps: &K,
     objects: &mut [(OwnText, TopoObject)],
-    ways: &[Option<Vec<usize>>],
 ) -> Result<(), Memory>
-    ensures { OnOk result (objects.new ≡ objects_along (sparing (K.keeps keeps.now)) (map (map_some (λ v. v.items)) ways.now) objects.old) }
+    ensures { OnOk result (objects.new ≡ objects_pruned (K.keeps keeps.now) objects.old) }
 {
-    let mut rest = Ways::of(ways);
     'objects: for object in objects.iter_mut() {
-        prune_object(alloc, keeps, &mut object.1, &mut rest)?;
+        prune_object(alloc, keeps, &mut object.1)?;
     }
     Ok(())
 }

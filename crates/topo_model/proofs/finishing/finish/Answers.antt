@@ -1,4 +1,4 @@
-use Rattle.std.proofs.Common.{◌-◌, ◌++◌, length, map, take, drop, ap, sym, subst, ◌∙◌}
+use Rattle.std.proofs.Common.{◌≡◌, ◌-◌, ◌++◌, length, map, take, drop, ap, sym, subst, ◌∙◌}
 use Rattle.std.specs.Prelude.{sum}
 use Rattle.std.specs.List.{AllByRecursion}
 use Rattle.std.specs.Option.{option_copied}
@@ -7,12 +7,13 @@ use Rattle.build_meaning.specs.Trimming.{is_used, keep_from, line_renumbered}
 use Rattle.byte_ends.specs.Ends.{saturated}
 use Rattle.geometry.specs.Lists.{map_some}
 use Rattle.simplified_topology.specs.Protected.{MarkedRefs, sparing}
-use Rattle.simplified_topology.specs.Simplified.{large_refs}
+use Rattle.simplified_topology.specs.Simplified.{large_refs, objects_pruned}
 use Rattle.topojson_types.specs.Decoding.{placed_arcs}
 use Rattle.topojson_types.specs.Validity.{IsPlace}
 use Rattle.topo_model.specs.Drops.{objects_drops}
 use Rattle.topo_model.specs.Along.{Ways, objects_along, large_along}
-use Rattle.topo_model.specs.ArcUses.{AllNameArcs}
+use Rattle.topo_model.specs.ArcUses.{AllNameArcs, as_they_are}
+use Rattle.topo_model.proofs.AllUsed.{objects_again}
 use Rattle.topo_model.proofs.Result.{along_long, finished, put_along, put_back}
 use Rattle.topo_model.proofs.finishing.finish.Goals as goal
 
@@ -27,6 +28,15 @@ without_unused-requires-clause-indexed c =
     let large = c.as_mut_slice-2.ensures.value ∙ put_along kept ways c.args.objects.len c.args.objects.items c.as_mut_slice.result.now c.leave_out_dropped.new.objects c.args.objects.ok.0 c.as_mut_slice.ensures.value pruned
     ∙ ap (objects_along kept ways) c.as_mut_slice.ensures.value in
     subst (AllNameArcs (length c.args.retained.items)) (sym large) c.requires.indexed
+
+pub without_unused-requires-clause-pruned : goal.without_unused-requires-clause-pruned
+without_unused-requires-clause-pruned c =
+    let kept : MarkedRefs = sparing (large_refs c.args.ring_limit (placed_arcs (option_copied c.args.transform) c.args.retained.items)) in
+    let ways : Ways = map (map_some (λ v. v.items)) c.args.ways.now in
+    let pruned = c.in_ok-dropped.ensures.objects ∙ ap (λ arcs. large_along c.args.ring_limit (placed_arcs (option_copied c.args.transform) arcs) ways c.as_mut_slice.result.now) c.deref.ensures.value in
+    let large = c.as_mut_slice-2.ensures.value ∙ put_along kept ways c.args.objects.len c.args.objects.items c.as_mut_slice.result.now c.leave_out_dropped.new.objects c.args.objects.ok.0 c.as_mut_slice.ensures.value pruned
+    ∙ ap (objects_along kept ways) c.as_mut_slice.ensures.value in
+    subst (λ os. objects_pruned as_they_are os ≡ os) (sym large) (objects_again kept ways c.args.objects.items)
 
 pub returns : goal.returns
 returns c =

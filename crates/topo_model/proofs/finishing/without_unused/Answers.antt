@@ -1,6 +1,5 @@
-use Rattle.std.proofs.Common.{◌≡◌, ◌-◌, length, ap, subst, ◌∙◌, refl}
+use Rattle.std.proofs.Common.{◌≡◌, ◌-◌, length, ap, ◌∙◌, refl}
 use Rattle.std.specs.Prelude.{sum}
-use Rattle.std.specs.List.{AllByRecursion}
 use Rattle.topo_model.specs.Uses.{answers}
 use Rattle.topo_model.proofs.Chosen.{chosen_as}
 use Rattle.build_meaning.specs.Built.{positions_of}
@@ -11,17 +10,18 @@ use Rattle.topojson_types.specs.Topologies.{objects_lines_and_rings}
 use Rattle.owned_values.proofs.Elements.{all_weaker}
 use Rattle.topo_model.specs.ArcUses.{NamesArcs}
 use Rattle.topo_model.proofs.DraftUses.{all_used}
-use Rattle.topo_model.proofs.Result.{flags_are, flags_long}
+use Rattle.topo_model.proofs.Result.{flags_are}
 use Rattle.topo_model.proofs.finishing.without_unused.Goals as goal
 
-pub renumber-requires : goal.renumber-requires
-renumber-requires c =
-    let flags : c.in_ok-used.used.items ≡ answers (is_used c.args.objects.now) 0 (length c.args.retained.items) =
-    flags_are c.args.objects.now c.args.objects.now c.args.retained.items c.len.result c.in_ok-used.used.items refl (c.len.ensures ∙ c.args.retained.ok.0)
-    (c.in_ok-used.ensures ∙ all_used (length c.args.retained.items) c.len.result c.args.objects.now c.requires.indexed) in
-    subst (λ n. AllByRecursion (λ b. AreInRange n b.1) (objects_lines_and_rings c.args.objects.now))
-    (flags_long (is_used c.args.objects.now) c.in_ok-used.used.items c.deref-2.result.now (length c.args.retained.items) flags c.deref-2.ensures.value).1
-    (all_weaker (NamesArcs (length c.args.retained.items)) (λ b. AreInRange (length c.args.retained.items) b.1) (λ b k. k.0) (objects_lines_and_rings c.args.objects.now) c.requires.indexed)
+pub only_used-requires-clause-used : goal.only_used-requires-clause-used
+only_used-requires-clause-used c =
+    c.deref-2.ensures.value
+    ∙ flags_are c.args.objects.now c.args.objects.now c.args.retained.items c.len.result c.in_ok-used.used.items refl (c.len.ensures ∙ c.args.retained.ok.0)
+    (c.in_ok-used.ensures ∙ all_used (length c.args.retained.items) c.len.result c.args.objects.now c.requires.indexed)
+
+pub only_used-requires-clause-indexed : goal.only_used-requires-clause-indexed
+only_used-requires-clause-indexed c =
+    all_weaker (NamesArcs (length c.args.retained.items)) (λ b. AreInRange (length c.args.retained.items) b.1) (λ b k. k.0) (objects_lines_and_rings c.args.objects.now) c.requires.indexed
 
 pub returns : goal.returns
 returns c =
@@ -29,12 +29,10 @@ returns c =
     flags_are c.args.objects.now c.args.objects.now c.args.retained.items c.len.result c.in_ok-used.used.items refl (c.len.ensures ∙ c.args.retained.ok.0)
     (c.in_ok-used.ensures ∙ all_used (length c.args.retained.items) c.len.result c.args.objects.now c.requires.indexed) in
     let u = is_used c.args.objects.now in
-    let n = length c.args.retained.items in
-    let stay = c.in_ok-stay.ensures ∙ chosen_as u n c.deref-3.result.now c.args.retained.items (c.deref-3.ensures.value ∙ flags) refl in
     record {
-      objects = c.in_ok-renumber.ensures (is_used c.args.objects.now) (flags_long (is_used c.args.objects.now) c.in_ok-used.used.items c.deref-2.result.now (length c.args.retained.items) flags c.deref-2.ensures.value).0;
-      arcs = c.in_ok-stay.ensures ∙ chosen_as (is_used c.args.objects.now) (length c.args.retained.items) c.deref-3.result.now c.args.retained.items (c.deref-3.ensures.value ∙ flags) refl;
+      objects = c.in_ok-stay.ensures.objects;
+      arcs = c.in_ok-stay.ensures.arcs;
       removed_count = c.removed_count.ensures
-          ∙ ap (λ k. saturated (k - c.position_sum-after.result)) (c.used_sum-before.ensures ∙ ap sum (chosen_as u n c.deref.result.now c.args.counts.now (c.deref.ensures.value ∙ flags) c.requires.many))
-          ∙ ap (λ k. saturated (sum (keep_from u 0 c.args.counts.now) - k)) (c.position_sum-after.ensures ∙ ap positions_of (c.deref-4.ensures.value ∙ stay));
+          ∙ ap (λ k. saturated (k - c.position_sum-after.result)) (c.used_sum-before.ensures ∙ ap sum (chosen_as u (length c.args.retained.items) c.deref.result.now c.args.counts.now (c.deref.ensures.value ∙ flags) c.requires.many))
+          ∙ ap (λ k. saturated (sum (keep_from u 0 c.args.counts.now) - k)) (c.position_sum-after.ensures ∙ ap positions_of (c.deref-3.ensures.value ∙ c.in_ok-stay.ensures.arcs));
     }

@@ -1,0 +1,14 @@
+use Rattle.geometry.specs.Lists.{tail}
+use Rattle.linework.specs.Linework.{feature_address}
+use Rattle.simplified_topology.specs.Protected.{sparing}
+use Rattle.simplified_topology.specs.Simplified.{large_refs}
+use Rattle.topo_model.specs.Along.{first_way, feature_along}
+use Rattle.topo_model.specs.Drops.{shape_drops}
+use Rattle.topo_model.specs.Places.{dropped_at}
+use Rattle.topo_model.proofs.LeftOut.{Walked}
+use Rattle.topo_model.proofs.leaving_out.leave_out_of_features.Given as goal
+
+abbrev pub invariant-features : goal.invariant-features
+invariant-features l =
+    Walked (λ w f. feature_along (sparing (large_refs l.arcs.limit l.arcs.arcs)) (first_way w) f) (λ w f. tail w) (λ w i f. dropped_at (feature_address l.object i) (shape_drops l.arcs (first_way w) f.shape))
+    l.initial.ways l.initial.dropped.items l.fn.features l.ways l.dropped.items l.number l.features

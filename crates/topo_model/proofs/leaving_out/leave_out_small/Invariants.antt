@@ -1,0 +1,14 @@
+use Rattle.std.proofs.Common.{[], map}
+use Rattle.geometry.specs.Lists.{map_some}
+use Rattle.simplified_topology.specs.Protected.{sparing}
+use Rattle.simplified_topology.specs.Simplified.{large_refs}
+use Rattle.topojson_types.specs.Topologies.{object_features}
+use Rattle.topo_model.specs.Along.{object_along, ways_after}
+use Rattle.topo_model.specs.Drops.{object_drops}
+use Rattle.topo_model.proofs.LeftOut.{Walked}
+use Rattle.topo_model.proofs.leaving_out.leave_out_small.Given as goal
+
+abbrev pub invariant-objects : goal.invariant-objects
+invariant-objects l =
+    Walked (λ w o. (o.0, object_along (sparing (large_refs l.arcs.limit l.arcs.arcs)) w o.1)) (λ w o. ways_after w (object_features o.1)) (λ w i o. object_drops l.arcs i 0 w (object_features o.1))
+    (map (map_some (λ v. v.items)) l.ways) [] l.fn.objects l.rest l.dropped.items l.number l.objects

@@ -1,15 +1,18 @@
 -- What is counted in a topology is counted in what is kept of it.
 use Rattle.std.proofs.Common.{◌≡◌, ℕ, None, List, [], ◌∷◌, length, refl, ap, ◌∙◌}
 use Rattle.std.specs.Prelude.{is_some, map}
+use Rattle.std.specs.Option.{unwrap_or}
 use Rattle.std.proofs.lemmas.List.{length-map}
 use Rattle.topojson_types.specs.Topologies.{Contents, object_features}
 use Rattle.topojson_types.specs.declared.object.TopoObject.{TopoObject}
 use Rattle.topojson_types.specs.declared.object.TopoObject.TheVariants.{One, Many}
+use Rattle.topojson_decoder.specs.ArcEnds.{ends}
 use Rattle.topojson_decoder.specs.Kept.{of_contents, of_feature, of_named, of_object}
-use Rattle.topojson_decoder.specs.Texts.{parts_contents}
 use Rattle.topojson_decoder.specs.declared.keeping.Keeping.{Keeping}
+use Rattle.topojson_decoder.specs.declared.keeping.Keeping.TheVariants.{Whole, Shapes, Blank}
 use Rattle.topojson_decoder.specs.declared.topologies.Parts.{Parts}
-use Rattle.reports.specs.Summaries.{counted, has_grid, positions_in, summary_of, summary_with}
+use Rattle.reports.specs.declared.summary.Summary.{Summary}
+use Rattle.reports.specs.Summaries.{counted, positions_in, summary_of, summary_with}
 
 module _ (k : Keeping) where
   as_many : (o : TopoObject) → length (object_features (of_object k o)) ≡ length (object_features o)
@@ -23,9 +26,16 @@ module _ (k : Keeping) where
   all_counted [] = refl
   all_counted (o ∷ os) = rw (counted_same o, all_counted os) refl
 
-  summary_kept : (t : Contents) → summary_of (of_contents k t) ≡ summary_of t
-  summary_kept t = ap (λ z. record { objects = z; arcs = length t.arcs; positions = positions_in t.arcs; grid = has_grid t; crossings = None }) (all_counted t.objects)
+-- the summary of what is kept of a topology
+abbrev summary_of_parts : Parts → Summary
+summary_of_parts p = record { objects = map counted p.objects; arcs = length p.arcs; positions = unwrap_or p.positions (positions_in p.arcs); grid = is_some p.transform; crossings = None }
 
-  -- the summary of parts that are what is kept of a topology is the topology's
-  pub reported_of : (parts : Parts) (t : Contents) → parts_contents parts ≡ of_contents k t → summary_with parts.objects parts.arcs (is_some parts.transform) ≡ summary_of t
-  reported_of parts t kept = ap summary_of kept ∙ summary_kept t
+same_summary : (k : Keeping) (t : Contents) → summary_of_parts (of_contents k t) ≡ summary_of t
+same_summary Whole t = rw (all_counted Whole t.objects) refl
+same_summary Shapes t = rw (all_counted Shapes t.objects) refl
+same_summary Blank t = rw (all_counted Blank t.objects, length-map t.arcs ends) refl
+
+-- is the topology's
+pub summary_kept : (parts : Parts) (k : Keeping) (t : Contents) → parts ≡ of_contents k t → (s : Summary) → s ≡ summary_with parts.objects parts.arcs (is_some parts.transform)
+    → (n : ℕ) → n ≡ unwrap_or parts.positions s.positions → ◌≡◌ {A = Summary} (record { objects = s.objects; arcs = s.arcs; positions = n; grid = s.grid; crossings = s.crossings }) (summary_of t)
+summary_kept parts k t kept s is n in_all = rw (in_all, is) (ap summary_of_parts kept ∙ same_summary k t)

@@ -9,7 +9,6 @@ use Rattle.topojson_types.specs.Topologies.{Contents}
 use Rattle.topojson_meaning.specs.declared.fault.TopoFault.TheVariants as topo
 use Rattle.topojson_meaning.specs.Topologies.{topology}
 use Rattle.topojson_decoder.specs.Kept.{of_contents}
-use Rattle.topojson_decoder.specs.Texts.{parts_contents}
 use Rattle.topojson_decoder.specs.declared.keeping.Keeping.{Keeping}
 use Rattle.topojson_decoder.specs.declared.topologies.Parts.{Parts}
 use Rattle.inputs.specs.declared.file_fault.FileFault.{FileFault}
@@ -62,7 +61,7 @@ ReadsTopology old new (Err e) = FailsToGive old new e
 
 -- the answer for the bytes
 abbrev pub IsKeptOf : Keeping → List ℕ → Result Parts FileFault → Type 0
-IsKeptOf keeping bytes (Ok parts) = (t : Contents) × (counts : Counts) × SpellsTopology bytes t counts × (parts_contents parts ≡ of_contents keeping t)
+IsKeptOf keeping bytes (Ok parts) = (t : Contents) × (counts : Counts) × SpellsTopology bytes t counts × (parts ≡ of_contents keeping t)
 IsKeptOf keeping bytes (Err e) = IsNoTopology bytes e
 
 -- and for the source
@@ -70,7 +69,7 @@ pub record IsKeptRead (keeping : Keeping) (old new : Fed) (parts : Parts) : Type
   pub contents : Contents
   pub counts : Counts
   pub read : IsTopologyRead old new contents counts
-  pub kept : parts_contents parts ≡ of_contents keeping contents
+  pub kept : parts ≡ of_contents keeping contents
 
 abbrev pub ReadsKept : Keeping → Fed → Fed → Result Parts FileFault → Type 0
 ReadsKept keeping old new (Ok parts) = IsKeptRead keeping old new parts

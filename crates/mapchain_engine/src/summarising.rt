@@ -3,8 +3,10 @@ ghost use Rattle.std.specs.Prelude.{◌≡◌, ℕ, List, Some, Result, IfOk, If
 ghost use Rattle.inputs.specs.declared.file_fault.FileFault.{FileFault as Fault};
 ghost use Rattle.reports.specs.declared.summary.Summary.{Summary as Counted};
 ghost use Rattle.reports.specs.Summaries.{summary_of};
+ghost use Rattle.topojson_types.specs.Topologies.{Contents};
 ghost use Rattle.topojson_types.specs.Validity.{IsTopology};
-ghost use Rattle.topojson_decoder.specs.Texts.{parts_contents};
+ghost use Rattle.topojson_decoder.specs.Kept.{of_contents, parts_contents};
+ghost use Rattle.topojson_decoder.specs.declared.keeping.Keeping.{Keeping as Kept};
 ghost use Rattle.mapchain_engine.specs.FileOutcomes.{FileHasOutcome, FollowsSummary, summarised};
 ghost use Rattle.mapchain_engine.specs.Files.{FailsToGive, IsSummarised};
 
@@ -33,15 +35,24 @@ pub fn stat<R: Feed>(alloc: Global, source: &mut Source<R>) -> Result<Summary, F
         → FollowsSummary outcome result }
 {
     let parts = read_kept(alloc, Keeping::Blank, source, &mut Unwatched)?;
-    let summary = summary_with(
+    let summary = summary_of_kept(alloc, &parts);
+    // (as in building)
+    mem::forget(parts);
+    Ok(summary?)
+}
+
+/// The summary of a topology of which this is kept.
+fn summary_of_kept(alloc: Global, parts: &Parts) -> Result<Summary, Memory>
+    ensures { (keeping : Kept) (t : Contents) → parts.now ≡ of_contents keeping t → IfOk result (λ summary. summary ≡ summary_of t) }
+{
+    let mut summary = summary_with(
         alloc,
         parts.objects.as_slice(),
         parts.arcs.as_slice(),
         parts.transform.is_some(),
-    );
-    // (as in building)
-    mem::forget(parts);
-    Ok(summary?)
+    )?;
+    summary.positions = parts.positions.unwrap_or(summary.positions);
+    Ok(summary)
 }
 
 /// The summary of a topology.
@@ -78,12 +89,7 @@ fn stat_shapes<R: Feed, K: Watch>(
         → FollowsSummary outcome result }
 {
     let parts = read_kept(alloc, Keeping::Shapes, source, watch)?;
-    let summary = summary_with(
-        alloc,
-        parts.objects.as_slice(),
-        parts.arcs.as_slice(),
-        parts.transform.is_some(),
-    );
+    let summary = summary_of_kept(alloc, &parts);
     topology_is_valid();
     shapes_stay_valid();
     show(alloc, parts, watch);

@@ -56,7 +56,7 @@ abbrev pub no_cell : Option Transform → CellsSoFar
 no_cell transform = ((transform, origin), [])
 
 module _ (transform : Option Transform) where
-  cells_made : (vs : List Json) (c : Counts) → and_then as_arc (arc_cells transform vs c) ≡ and_then arc_of (fold with_cell (no_cell transform) vs c)
+  pub cells_made : (vs : List Json) (c : Counts) → and_then as_arc (arc_cells transform vs c) ≡ and_then arc_of (fold with_cell (no_cell transform) vs c)
   cells_made vs c = ap (and_then as_arc) (all_cells transform vs c) ∙ run_to_end next_cell after_cell cells_from no_cells one_cell as_arc (transform, origin) vs c
 
   arc_by : (o : Option (List Json)) (c : Counts) → (pure (or_fail WrongKind o) >>= λ vs. arc_cells transform vs >>= as_arc) c ≡ and_then arc_of (list_by WrongKind (fold with_cell (no_cell transform)) o c)
@@ -85,7 +85,7 @@ abbrev pub no_arc : Option Transform → ArcsSoFar
 no_arc transform = (transform, [])
 
 module _ (transform : Option Transform) where
-  all_arcs : (vs : List Json) (c : Counts) → each (arc transform) vs c ≡ and_then arcs_of (fold with_arc (no_arc transform) vs c)
+  pub all_arcs : (vs : List Json) (c : Counts) → each (arc transform) vs c ≡ and_then arcs_of (fold with_arc (no_arc transform) vs c)
   all_arcs vs c = sym (run_through arc same_transform (λ t us. each (arc t) us) no_arcs one_arc transform vs c)
 
   arcs_by : (o : Option (List Json)) (c : Counts) → (pure (or_fail WrongKind o) >>= each (arc transform)) c ≡ and_then arcs_of (list_by WrongKind (fold with_arc (no_arc transform)) o c)

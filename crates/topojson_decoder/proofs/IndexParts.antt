@@ -4,9 +4,9 @@ use Rattle.std.specs.Prelude.{bytes_eq, codes}
 use Rattle.std.specs.Borrow.{Bor}
 use Rattle.json_value.specs.declared.json.Json.{Json}
 use Rattle.json_value.specs.Members.{Members, named}
-use Rattle.geojson_types.specs.declared.counts.Counts.{Counts}
 use Rattle.topojson_types.specs.declared.transform.Transform.{Transform}
 use Rattle.topojson_meaning.specs.declared.fault.TopoFault.{TopoFault}
+use Rattle.topojson_decoder.specs.declared.index.By.{By}
 use Rattle.topojson_decoder.specs.declared.index.FoundArcs.{FoundArcs}
 use Rattle.topojson_decoder.specs.declared.index.Index.{Index}
 use Rattle.topojson_decoder.specs.declared.occurrence.Occurrence.{Occurrence}
@@ -17,17 +17,17 @@ use Rattle.topojson_decoder.specs.Transforms.{IsTransformOf}
 use Rattle.topojson_decoder.proofs.MemberOccurrences.{no_other, passes, sees}
 
 -- nothing was seen of no members
-pub no_index : (start : Counts) (d : ℕ) → IsIndex start d [] (record { kind = Never; transform = Never; arcs = Never; objects = Never })
+pub no_index : (start : By) (d : ℕ) → IsIndex start d [] (record { kind = Never; transform = Never; arcs = Never; objects = Never })
 unfolding named
 no_index start d = record { kind = refl; transform = refl; arcs = refl; objects = refl }
 
 -- where arcs stand is known whatever the transform is
-unread_seen : (start : Counts) (d : ℕ) (t u : Option (Option Transform)) (vs : List Json) (s : Occurrence FoundArcs) → IsOccurrence (AreArcs start t d) vs s → IsOccurrence (AreArcs start u d) vs (unread s)
+unread_seen : (start : By) (d : ℕ) (t u : Option (Option Transform)) (vs : List Json) (s : Occurrence FoundArcs) → IsOccurrence (AreArcs start t d) vs s → IsOccurrence (AreArcs start u d) vs (unread s)
 unread_seen start d t u vs Never h = h
 unread_seen start d t u vs (Once x) (v, same, k) = (v, same, record { prefix = k.prefix; read = tt })
 unread_seen start d t u vs Again h = h
 
-module _ (start : Counts) (d : ℕ) (ms : Members) (i : Index) (name : List ℕ) (v : Json) (h : IsIndex start d ms i) where
+module _ (start : By) (d : ℕ) (ms : Members) (i : Index) (name : List ℕ) (v : Json) (h : IsIndex start d ms i) where
   abbrev more : Members
   more = ms ++ (name, v) ∷ []
 

@@ -1,9 +1,10 @@
 -- What is kept of what is read.
-use Rattle.std.proofs.Common.{◌≡◌, ℕ, List, [], ◌∷◌, ◌++◌, Option, Some, None, Result, Ok, Err, refl, ap, sym, ◌∙◌}
+use Rattle.std.proofs.Common.{◌≡◌, ◌⊎◌, inl, inr, ℕ, List, [], ◌∷◌, ◌++◌, Option, Some, None, Result, Ok, Err, refl, ap, sym, ◌∙◌}
 use Rattle.std.specs.Prelude.{map}
 use Rattle.std.specs.Borrow.{Bor}
 use Rattle.json_value.specs.declared.json.Json.{Json}
 use Rattle.geojson_types.specs.declared.counts.Counts.{Counts}
+use Rattle.geometry.specs.Points.{Point}
 use Rattle.topojson_types.specs.Topologies.{Contents}
 use Rattle.topojson_types.specs.declared.feature.TopoFeature.{TopoFeature}
 use Rattle.topojson_types.specs.declared.object.TopoObject.{TopoObject}
@@ -14,8 +15,8 @@ use Rattle.json_cursor.specs.Answers.{Answers}
 use Rattle.json_cursor.specs.declared.stop.Stop.{Stop}
 use Rattle.json_cursor.specs.declared.stop.Stop.TheVariants as stop
 use Rattle.topojson_decoder.specs.declared.keeping.Keeping.{Keeping}
-use Rattle.topojson_decoder.specs.declared.keeping.Keeping.TheVariants.{Whole, Shapes}
-use Rattle.topojson_decoder.specs.Kept.{making, of_contents, of_feature, of_named, of_object, of_option}
+use Rattle.topojson_decoder.specs.declared.keeping.Keeping.TheVariants.{Whole, Shapes, Blank}
+use Rattle.topojson_decoder.specs.Kept.{held_arcs, making, of_contents, of_feature, of_named, of_object, of_option, parts_contents}
 use Rattle.topojson_decoder.specs.Members.{Judges}
 
 -- ---- what is made of what is read
@@ -87,18 +88,23 @@ module _ {A B : Type 0} (f : A → B) where
 
 -- ---- the whole
 
-module _ {A : Type 0} (f : A → A) (same : (x : A) → f x ≡ x) where
-  nothing_made : (r : Result (A × Counts) TopoFault) → make f r ≡ r
-  nothing_made (Err e) = refl
-  nothing_made (Ok y) = ap (λ z. Ok (z, y.1)) (same y.0)
+-- what is answered of the reader that makes this is answered of the reader, where it can be made again
+module _ {A B : Type 0} (f : A → B) (back : B → A) (same : (x : A) → back (f x) ≡ x) where
+  pub answers_back : (read : Json → Reader A) (prefix : Option (Json × List ℕ)) (old new : Counts) (answer : Result (B × Bor (List ℕ)) (Stop TopoFault))
+      → Answers (λ p. p) (λ v. making f (read v)) prefix old new answer → Answers back read prefix old new answer
+  answers_back read prefix old new (Ok x) r =
+      let u = unmade f (read r.value) old x.0 new r.means in
+      record { value = r.value; prefix_is = r.prefix_is; means = u.reads ∙ ap (λ z. Ok (z, new)) (sym (same u.whole) ∙ ap back (sym u.is)) }
+  answers_back read prefix old new (Err (stop.Fault e)) h = λ v rest is. unmade_fault f (read v) old e (h v rest is)
+  answers_back read prefix old new (Err stop.NoValue) h = h
+  answers_back read prefix old new (Err stop.Memory) h = tt
 
-  -- what is answered of the reader that makes the same of it is answered of the reader
-  pub answers_whole : {X : Type 0} (view : X → A) (read : Json → Reader A) (prefix : Option (Json × List ℕ)) (old new : Counts) (answer : Result (X × Bor (List ℕ)) (Stop TopoFault))
-      → Answers view (λ v. making f (read v)) prefix old new answer → Answers view read prefix old new answer
-  answers_whole view read prefix old new (Ok x) r = record { value = r.value; prefix_is = r.prefix_is; means = sym (nothing_made (read r.value old)) ∙ r.means }
-  answers_whole view read prefix old new (Err (stop.Fault e)) h = λ v rest is. sym (nothing_made (read v old)) ∙ h v rest is
-  answers_whole view read prefix old new (Err stop.NoValue) h = h
-  answers_whole view read prefix old new (Err stop.Memory) h = tt
+-- all of arcs
+pub all_held : (k : Keeping) → (k ≡ Whole) ⊎ (k ≡ Shapes) → (arcs : List (List Point)) → held_arcs k arcs ≡ record { list = arcs; positions = None }
+all_held Whole is arcs = refl
+all_held Shapes is arcs = refl
+all_held Blank (inl h) arcs = absurd cc
+all_held Blank (inr h) arcs = absurd cc
 
 pub whole_option : {A : Type 0} (x : Option A) → of_option Whole x ≡ x
 whole_option None = refl
@@ -122,7 +128,7 @@ pub whole_objects : (os : List (List ℕ × TopoObject)) → map (of_named Whole
 whole_objects [] = refl
 whole_objects (o ∷ os) = rw (whole_named o, whole_objects os) refl
 
-pub whole_contents : (t : Contents) → of_contents Whole t ≡ t
+pub whole_contents : (t : Contents) → parts_contents (of_contents Whole t) ≡ t
 whole_contents t = ap (λ z. record { objects = z; arcs = t.arcs; transform = t.transform }) (whole_objects t.objects)
 
 -- ---- the names of objects

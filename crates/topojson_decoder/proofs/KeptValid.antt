@@ -1,15 +1,15 @@
 -- Where of each feature of a valid topology its geometry alone is kept it is valid still.
-use Rattle.std.proofs.Common.{◌≡◌, ℕ, List, [], ◌∷◌, ◌++◌, Option, refl, ap, sym, subst}
-use Rattle.std.specs.Prelude.{Bool, ℤ, map}
+use Rattle.std.proofs.Common.{◌≡◌, ℕ, List, [], ◌∷◌, ◌++◌, Option, refl, ap}
+use Rattle.std.specs.Prelude.{map}
 use Rattle.std.specs.List.{AllByRecursion}
 use Rattle.geometry.specs.Pruning.{option_lines_and_rings}
-use Rattle.topojson_types.specs.Topologies.{Contents, features_lines_and_rings, object_features, objects_lines_and_rings}
-use Rattle.topojson_types.specs.Validity.{AreDistinct, AreInRange, IsClosed, IsFeature, IsJoined, IsObject, IsTopology}
+use Rattle.topojson_types.specs.Topologies.{features_lines_and_rings, object_features, objects_lines_and_rings}
+use Rattle.topojson_types.specs.Validity.{IsFeature, IsObject}
 use Rattle.topojson_types.specs.declared.feature.TopoFeature.{TopoFeature}
 use Rattle.topojson_types.specs.declared.object.TopoObject.{TopoObject}
 use Rattle.topojson_types.specs.declared.object.TopoObject.TheVariants.{One, Many}
 use Rattle.topojson_types.specs.declared.transform.Transform.{Transform}
-use Rattle.topojson_decoder.specs.Kept.{ShapesStayValid, of_contents, of_feature, of_named, of_object}
+use Rattle.topojson_decoder.specs.Kept.{ShapesStayValid, of_feature, of_named, of_object}
 use Rattle.topojson_decoder.specs.declared.keeping.Keeping.TheVariants.{Shapes}
 use Rattle.topojson_decoder.proofs.KeptParts.{names_kept}
 

@@ -1,4 +1,6 @@
+pub mod ArcEndParts
 pub mod ArcParts
+pub mod ByEnds
 pub mod CellParts
 pub mod Ends
 pub mod FeatureLists

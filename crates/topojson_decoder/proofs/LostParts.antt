@@ -20,6 +20,7 @@ use Rattle.json_value.specs.Readers.{Counting}
 use Rattle.topojson_meaning.specs.declared.fault.TopoFault.{TopoFault}
 use Rattle.geojson_types.specs.declared.counts.Counts.{Counts}
 use Rattle.topojson_types.specs.declared.transform.Transform.{Transform}
+use Rattle.topojson_decoder.specs.declared.index.By.{By}
 use Rattle.topojson_decoder.specs.declared.index.FoundArcs.{FoundArcs}
 use Rattle.topojson_decoder.specs.declared.index.Index.{Index}
 use Rattle.topojson_decoder.specs.declared.occurrence.Occurrence.{Occurrence}
@@ -35,7 +36,7 @@ here d bytes rest h = elim (none_or_some (prefix_value d bytes)) [
   | inr some ↦ inr (some.0.0, some.1 ∙ ap (λ (end : List ℕ). Some (some.0.0, end)) (h some.0.0 some.0.1 some.1))
 ]
 
-pub found : (start : Counts) (t : Option (Option Transform)) (d : ℕ) (bytes rest : Bor (List ℕ)) → EndsAt d bytes.now (Ok rest) → FindsArcs start t d bytes.now (Ok (record { prefix = bytes; read = None }, rest))
+pub found : (start : By) (t : Option (Option Transform)) (d : ℕ) (bytes rest : Bor (List ℕ)) → EndsAt d bytes.now (Ok rest) → FindsArcs start t d bytes.now (Ok (record { prefix = bytes; read = None }, rest))
 found start t d bytes rest h = elim (here d bytes.now rest h) [
   | inl none ↦ inr (none, (none, refl))
   | inr some ↦ inl (some.0, some.1, record { prefix = (rest.now, some.1); read = tt })
@@ -96,7 +97,7 @@ module _ (d : ℕ) (arcs : Occurrence FoundArcs) (objects : Occurrence (Bor (Lis
 
 -- ---- a member, as soon as its name was found
 
-module _ (start : Counts) (d : ℕ) (before after : Index) (bytes name value : List ℕ) (named : prefix_member d bytes ≡ (prefix_value d value >>= λ x. Some ((name, x.0), x.1))) where
+module _ (start : By) (d : ℕ) (before after : Index) (bytes name value : List ℕ) (named : prefix_member d bytes ≡ (prefix_value d value >>= λ x. Some ((name, x.0), x.1))) where
   pub member_goes_on_or_loses : (answer : Result (Bor (List ℕ)) Fault) → GoesOnOrLoses start d name before after value answer → TakesOrLoses start d before after bytes answer
   member_goes_on_or_loses (Ok rest) (inl t, stay) = (inl (member_goes_on (IsIndex start d) d before after bytes name value named (Ok rest) t), stay)
   member_goes_on_or_loses (Ok rest) (inr (none, lost), stay) = (inr (named ∙ rw none refl, lost), stay)
@@ -105,7 +106,7 @@ module _ (start : Counts) (d : ℕ) (before after : Index) (bytes name value : L
 
 -- ---- the loop
 
-module _ (start : Counts) (d n : ℕ) (total : Option (Members × List ℕ)) (first : Index) where
+module _ (start : By) (d n : ℕ) (total : Option (Members × List ℕ)) (first : Index) where
   abbrev SoFar : ℕ → List ℕ → Index → Type 0
   SoFar = part.MembersSoFar (IsIndex start d) d n total first
 

@@ -6,7 +6,7 @@ use Rattle.geojson_types.specs.declared.counts.Counts.{Counts}
 use Rattle.topojson_meaning.specs.declared.fault.TopoFault.{TopoFault}
 use Rattle.topojson_meaning.specs.Reader.{Reader, ◌>>=◌, and_then, give}
 use Rattle.json_cursor.specs.declared.stop.Stop.{Stop}
-use Rattle.json_cursor.specs.Answers.{Stops}
+use Rattle.json_cursor.specs.Answers.{Reads, Stops}
 use Rattle.json_cursor.specs.Folds.{fold}
 use Rattle.json_cursor.proofs.Steps.{then_stops}
 use Rattle.topojson_decoder.specs.Running.{running}
@@ -56,3 +56,33 @@ module _ {S B : Type 0} (read : S → Json → Reader B) (next : S → B → S) 
 
       pub run_to_end : (s : S) (vs : List Json) (c : Counts) → and_then end (many s vs c) ≡ and_then (λ t. end t.1) (fold (running read next) (s, []) vs c)
       run_to_end s vs c = ap (and_then end) (sym (run_through s vs c)) ∙ in_two (fold (running read next) (s, []) vs c)
+
+-- ---- what is made of what is read, one after another
+
+module _ {S B K : Type 0} (read : S → Json → Reader B) (next : S → B → S) (step : K → B → K) where
+  -- one more value: what it is read as goes into what was made, and what the next one is read by comes of it
+  abbrev pub stepping : S × K → Json → Reader (S × K)
+  stepping s v = do
+    x ← read s.0 v
+    give (next s.0 x, step s.1 x)
+
+  pub step_stops : (prefix : Option (Json × List ℕ)) (old : Counts) (why : Stop TopoFault) (s : S × K) → Stops (read s.0) prefix old why → Stops (stepping s) prefix old why
+  step_stops prefix old why s h = then_stops (read s.0) (λ x. give (next s.0 x, step s.1 x)) (stepping s) prefix old (λ v. refl) why h
+
+  pub step_reads : (prefix : Option (Json × List ℕ)) (x : B) (rest : List ℕ) (old new : Counts) (s : S × K) → Reads (read s.0) prefix x rest old new → Reads (stepping s) prefix (next s.0 x, step s.1 x) rest old new
+  step_reads prefix x rest old new s r = record { value = r.value; prefix_is = r.prefix_is; means = rw r.means refl }
+
+  module _ (of : List B → K) (law : (xs : List B) (x : B) → step (of xs) x ≡ of (xs ++ x ∷ [])) where
+    abbrev pub made_so : S × List B → Reader (S × K)
+    made_so s = give (s.0, of s.1)
+
+    stepped : (vs : List Json) → ((s : S) (xs : List B) (d : Counts) → fold stepping (s, of xs) vs d ≡ and_then made_so (fold (running read next) (s, xs) vs d))
+        → (s : S) (xs : List B) (r : Result (B × Counts) TopoFault)
+        → and_then (λ t. fold stepping t vs) (and_then (λ x. give (next s x, step (of xs) x)) r) ≡ and_then made_so (and_then (λ t. fold (running read next) t vs) (and_then (λ x. give (next s x, xs ++ x ∷ [])) r))
+    stepped vs others s xs (Ok x) = ap (λ k. fold stepping (next s x.0, k) vs x.1) (law xs x.0) ∙ others (next s x.0) (xs ++ x.0 ∷ []) x.1
+    stepped vs others s xs (Err e) = refl
+
+    pub step_through : (vs : List Json) (s : S) (xs : List B) (c : Counts) → fold stepping (s, of xs) vs c ≡ and_then made_so (fold (running read next) (s, xs) vs c)
+    unfolding fold
+    step_through [] s xs c = refl
+    step_through (v ∷ vs) s xs c = stepped vs (step_through vs) s xs (read s v c)

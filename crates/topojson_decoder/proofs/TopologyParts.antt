@@ -30,6 +30,7 @@ use Rattle.json_cursor.specs.Answers.{Reads, Stops, stop_of}
 use Rattle.json_cursor.specs.Arrays.{prefix_value}
 use Rattle.json_cursor.proofs.Steps.{found_stops}
 use Rattle.topojson_decoder.specs.declared.keeping.Keeping.{Keeping}
+use Rattle.topojson_decoder.specs.declared.topologies.Parts.{Parts}
 use Rattle.topojson_decoder.specs.declared.occurrence.Occurrence.TheVariants.{Once}
 use Rattle.topojson_decoder.specs.Kept.{kept_contents, kept_value_contents, making, of_contents}
 use Rattle.topojson_decoder.specs.Members.{BeginsAt, IsOccurrence, Judges}
@@ -150,6 +151,10 @@ made_gives view other f read old new (stop.Fault e) h = made_fault f read old e 
 made_gives view other f read old new stop.NoValue h = h
 made_gives view other f read old new stop.Memory h = tt
 
+-- readers that read the same read a part the same
+pub read_by : {B : Type 0} (name : List ℕ) (read other : Json → Reader B) → read ≡ other → (ms : Members) (c : Counts) → need_as name other ms c ≡ need_as name read ms c
+read_by name read other same ms c = λ i. need_as name (sym same i) ms c
+
 -- ---- its transform
 
 module _ (ms : Members) (c : Counts) where
@@ -227,8 +232,8 @@ module _ {X : Type 0} (view : X → Contents) (ms : Members) (old : Counts) wher
         objects_by : (e : TopoFault) → need_as (codes "objects") (objects t arcs) ms mid ≡ Err e → contents ms old ≡ Err e
         objects_by e h = then_on ms old typed t found ∙ rw (read, h) refl
 
-        pub objects_stop_gives : (new : Counts) (s : Stop TopoFault) (u : Option Transform) → u ≡ t → (bs : List (List Point)) → bs ≡ arcs → Gives {X = List (List ℕ × TopoObject)} (λ x. x) (need_as (codes "objects") (objects u bs) ms) mid new (Err s) → Gives view (contents ms) old new (Err s)
-        objects_stop_gives new (stop.Fault e) u same bs they h = objects_by e (ap (λ z. need_as (codes "objects") (objects z arcs) ms mid) (sym same) ∙ ap (λ z. need_as (codes "objects") (objects u z) ms mid) (sym they) ∙ h)
+        pub objects_stop_gives : (new : Counts) (s : Stop TopoFault) (u : Option Transform) → u ≡ t → (bs : List (List Point)) → objects u bs ≡ objects u arcs → Gives {X = List (List ℕ × TopoObject)} (λ x. x) (need_as (codes "objects") (objects u bs) ms) mid new (Err s) → Gives view (contents ms) old new (Err s)
+        objects_stop_gives new (stop.Fault e) u same bs they h = objects_by e (ap (λ z. need_as (codes "objects") (objects z arcs) ms mid) (sym same) ∙ read_by (codes "objects") (objects u bs) (objects u arcs) they ms mid ∙ h)
         objects_stop_gives new stop.NoValue u same bs they h = h
         objects_stop_gives new stop.Memory u same bs they h = tt
 
@@ -254,10 +259,10 @@ module _ (k : Keeping) (old : Counts) (prefix : Option (Json × List ℕ)) where
     object_is : kept_value_contents k (j.Object ms) old ≡ kept_contents k ms old
     object_is = made_alike (of_contents k) (value_contents (j.Object ms)) old (contents ms) whole_is
 
-    pub object_reads : (t : Contents) (new : Counts) → kept_contents k ms old ≡ Ok (t, new) → Reads (kept_value_contents k) prefix t rest old new
+    pub object_reads : (t : Parts) (new : Counts) → kept_contents k ms old ≡ Ok (t, new) → Reads (kept_value_contents k) prefix t rest old new
     object_reads t new h = record { value = j.Object ms; prefix_is = is; means = object_is ∙ h }
 
-    pub object_stops : {X : Type 0} (view : X → Contents) (new : Counts) (s : Stop TopoFault) → Gives view (kept_contents k ms) old new (Err s) → Stops (kept_value_contents k) prefix old s
+    pub object_stops : {X : Type 0} (view : X → Parts) (new : Counts) (s : Stop TopoFault) → Gives view (kept_contents k ms) old new (Err s) → Stops (kept_value_contents k) prefix old s
     object_stops view new (stop.Fault e) h = found_stops (kept_value_contents k) prefix old (j.Object ms) rest e is (object_is ∙ h)
     object_stops view new stop.NoValue h = absurd h
     object_stops view new stop.Memory h = tt

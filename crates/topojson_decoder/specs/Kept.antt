@@ -1,4 +1,4 @@
--- What is kept of what is read: all of it, or of each feature its geometry alone, or only that it is there.
+-- What is kept of what is read: all of it, or of each feature its geometry alone, or only that it is there, and then of each arc its ends.
 use Rattle.std.specs.Prelude.{ℕ, List, Option, Some, None, Result, Ok, Err, map}
 use Rattle.json_value.specs.declared.json.Json.{Json}
 use Rattle.json_value.specs.Members.{Members}
@@ -10,12 +10,16 @@ use Rattle.topojson_types.specs.declared.object.TopoObject.{TopoObject}
 use Rattle.topojson_types.specs.declared.object.TopoObject.TheVariants.{One, Many}
 use Rattle.topojson_types.specs.declared.transform.Transform.{Transform}
 use Rattle.topojson_meaning.specs.declared.fault.TopoFault.{TopoFault}
+use Rattle.topojson_meaning.specs.Arcs.{arc_list}
 use Rattle.topojson_meaning.specs.Features.{feature_element}
 use Rattle.topojson_meaning.specs.Objects as objects
 use Rattle.topojson_meaning.specs.Reader.{Reader, ◌>>=◌, give}
 use Rattle.topojson_meaning.specs.Topologies as topologies
+use Rattle.topojson_decoder.specs.ArcEnds.{all_positions, ends}
+use Rattle.topojson_decoder.specs.declared.arc_ends.KeptArcs.{KeptArcs}
 use Rattle.topojson_decoder.specs.declared.keeping.Keeping.{Keeping}
 use Rattle.topojson_decoder.specs.declared.keeping.Keeping.TheVariants.{Whole, Shapes, Blank}
+use Rattle.topojson_decoder.specs.declared.topologies.Parts.{Parts}
 
 -- ---- what is kept
 
@@ -52,13 +56,31 @@ of_object keeping (Many fs) = Many (map (of_feature keeping) fs)
 abbrev pub of_named : Keeping → List ℕ × TopoObject → List ℕ × TopoObject
 of_named keeping o = (o.0, of_object keeping o.1)
 
+-- of arcs: of each its ends, where not all of it, and then how many positions they have
+abbrev pub of_arcs : Keeping → List (List Point) → List (List Point)
+of_arcs Whole arcs = arcs
+of_arcs Shapes arcs = arcs
+of_arcs Blank arcs = map ends arcs
+
+abbrev pub positions_of : Keeping → List (List Point) → Option ℕ
+positions_of Whole arcs = None
+positions_of Shapes arcs = None
+positions_of Blank arcs = Some (all_positions arcs)
+
+abbrev pub held_arcs : Keeping → List (List Point) → KeptArcs
+held_arcs keeping arcs = record { list = of_arcs keeping arcs; positions = positions_of keeping arcs }
+
 -- of a topology
-abbrev pub of_contents : Keeping → Contents → Contents
-of_contents keeping t = record { objects = map (of_named keeping) t.objects; arcs = t.arcs; transform = t.transform }
+abbrev pub of_contents : Keeping → Contents → Parts
+of_contents keeping t = record { objects = map (of_named keeping) t.objects; arcs = of_arcs keeping t.arcs; transform = t.transform; positions = positions_of keeping t.arcs }
+
+-- the topology of these parts, where all of its arcs is kept
+abbrev pub parts_contents : Parts → Contents
+parts_contents p = record { objects = p.objects; arcs = p.arcs; transform = p.transform }
 
 -- a valid topology stays valid where of each feature its geometry alone is kept
 abbrev pub ShapesStayValid : Type 0
-ShapesStayValid = (t : Contents) → IsTopology t → IsTopology (of_contents Shapes t)
+ShapesStayValid = (t : Contents) → IsTopology t → IsTopology (parts_contents (of_contents Shapes t))
 
 -- ---- readers
 
@@ -82,9 +104,13 @@ kept_object keeping transform arcs v = making (of_object keeping) (objects.objec
 abbrev pub kept_objects : Keeping → Option Transform → List (List Point) → Json → Reader (List (List ℕ × TopoObject))
 kept_objects keeping transform arcs v = making (map (of_named keeping)) (objects.objects transform arcs v)
 
+-- of all arcs
+abbrev pub kept_arc_list : Keeping → Option Transform → Json → Reader KeptArcs
+kept_arc_list keeping transform v = making (held_arcs keeping) (arc_list transform v)
+
 -- of the topology with these members, and of the one that a value stands for
-abbrev pub kept_contents : Keeping → Members → Reader Contents
+abbrev pub kept_contents : Keeping → Members → Reader Parts
 kept_contents keeping ms = making (of_contents keeping) (topologies.contents ms)
 
-abbrev pub kept_value_contents : Keeping → Json → Reader Contents
+abbrev pub kept_value_contents : Keeping → Json → Reader Parts
 kept_value_contents keeping v = making (of_contents keeping) (topologies.value_contents v)

@@ -1,3 +1,4 @@
+pub mod ArcEnds
 pub mod Cells
 pub mod Features
 pub mod Geometries

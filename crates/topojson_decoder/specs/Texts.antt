@@ -21,11 +21,7 @@ TextAnswers bytes (Err (Meaning e)) = IsUtf8 bytes × (v : Json) × Reads topolo
 TextAnswers bytes (Err (Text fault)) = SaysUtf8 bytes (Err fault) × SpellsNothing topology_depth bytes (Err fault)
 TextAnswers bytes (Err Memory) = Unit {0}
 
--- a topology of these parts
-abbrev pub parts_contents : Parts → Contents
-parts_contents p = record { objects = p.objects; arcs = p.arcs; transform = p.transform }
-
 -- What reading may answer where this much is kept of the topology: its parts are those of the topology, kept so.
 abbrev pub PartsAnswer : Keeping → List ℕ → Result (Parts × Counts) Refusal → Type 0
-PartsAnswer keeping bytes (Ok r) = (t : Contents) × TextAnswers bytes (Ok (t, r.1)) × (parts_contents r.0 ≡ of_contents keeping t)
+PartsAnswer keeping bytes (Ok r) = (t : Contents) × TextAnswers bytes (Ok (t, r.1)) × (r.0 ≡ of_contents keeping t)
 PartsAnswer keeping bytes (Err e) = TextAnswers bytes (Err e)

@@ -5,8 +5,11 @@ ghost use Rattle.json_cursor.specs.Answers.{Answers};
 ghost use Rattle.json_cursor.specs.Arrays.{prefix_value};
 ghost use Rattle.topojson_meaning.specs.Arcs as spec;
 ghost use Rattle.topojson_decoder.specs.Cells.{ArcsSoFar, CellsSoFar, with_arc, with_cell};
+ghost use Rattle.topojson_decoder.specs.Kept.{kept_arc_list};
 
+use crate::arc_ends::{KeptArcs, arc_ends_at};
 use crate::cells::cell_at;
+use crate::keeping::Keeping;
 use geojson_types::Counts;
 use json_cursor::{Elements, Stop, folded_array_at};
 use json_value::Items;
@@ -220,5 +223,33 @@ pub fn arcs_at<'a>(
             arcs.shrink_to_fit();
             Ok((Items::of(arcs), rest))
         }
+    }
+}
+
+/// What is kept of the arcs of the array at the front, and what follows it; or why reading stops.
+pub(crate) fn kept_arcs_at<'a>(
+    alloc: Global,
+    depth_left: u32,
+    keeping: Keeping,
+    transform: Option<&Transform>,
+    bytes: &'a [u8],
+    counts: &mut Counts,
+) -> Result<(KeptArcs, &'a [u8]), Stop<TopoFault>>
+    ensures { Answers (λ x. x) (kept_arc_list keeping (option_copied transform.entry)) (prefix_value depth_left bytes.now) counts.old counts.new result }
+{
+    match keeping {
+        Keeping::Blank => arc_ends_at(alloc, depth_left, transform, bytes, counts),
+        Keeping::Whole | Keeping::Shapes => match arcs_at(
+            alloc, depth_left, transform, bytes, counts,
+        ) {
+            Err(stop) => Err(stop),
+            Ok((list, rest)) => Ok((
+                KeptArcs {
+                    list,
+                    positions: None,
+                },
+                rest,
+            )),
+        },
     }
 }

@@ -3,27 +3,35 @@ ghost use Rattle.std.specs.Prelude.{◌≡◌, [], ℕ, Option, Some, bytes_eq, 
 ghost use Rattle.std.specs.Option.{option_copied};
 ghost use Rattle.json_reading.specs.Gives.{IsMalformed};
 ghost use Rattle.json_cursor.specs.Members.{prefix_members};
-ghost use Rattle.geojson_types.specs.declared.counts.Counts.{Counts as Counted};
 ghost use Rattle.topojson_types.specs.declared.transform.Transform.{Transform as Scaling};
+ghost use Rattle.topojson_decoder.specs.declared.index.By.{By as Begun};
 ghost use Rattle.topojson_decoder.specs.Index.{EndsAt, FindsArcs, GoesOnOrLoses, Indexes, IsIndex, TakesAllOrLoses, TakesOrLoses, transform_by, unread};
 
-use crate::arcs::arcs_at;
+use crate::arc_ends::KeptArcs;
+use crate::arcs::kept_arcs_at;
 use crate::held::held;
+use crate::keeping::Keeping;
 use crate::leaping::leap;
 use crate::occurrence::Occurrence;
 use crate::transforms::transform_at;
 use geojson_types::Counts;
 use json_cursor::{after_byte, name_at};
 use json_reading::{Fault, Why, after_value, skip};
-use json_value::Items;
 use std::alloc::Global;
 use topojson_meaning::TopoFault;
-use topojson_types::{Cell, Transform};
+use topojson_types::Transform;
+
+/// By what the members of a topology are read: what is kept of its arcs, and what was counted before them.
+#[derive(Clone, Copy)]
+pub struct By {
+    pub keeping: Keeping,
+    pub counts: Counts,
+}
 
 /// What arcs were read as, or their fault, and what was counted then.
 #[derive(Drop)]
 pub struct ReadArcs {
-    pub arcs: Result<Items<Items<Cell>>, TopoFault>,
+    pub arcs: Result<KeptArcs, TopoFault>,
     pub counts: Counts,
 }
 
@@ -57,12 +65,19 @@ fn read_at<'a>(
     depth_left: u32,
     transform: Option<&Transform>,
     bytes: &'a [u8],
-    start: Counts,
+    start: By,
 ) -> Result<(FoundArcs<'a>, &'a [u8]), Fault>
     ensures { FindsArcs start (Some (option_copied transform.entry)) depth_left bytes.now result }
 {
-    let mut counts = start;
-    let answer = arcs_at(alloc, depth_left, transform, bytes, &mut counts);
+    let mut counts = start.counts;
+    let answer = kept_arcs_at(
+        alloc,
+        depth_left,
+        start.keeping,
+        transform,
+        bytes,
+        &mut counts,
+    );
     let (arcs, rest) = held(alloc, depth_left, bytes, answer)?;
     let read = ReadArcs { arcs, counts };
     Ok((
@@ -90,7 +105,7 @@ fn passed_at<'a>(
     depth_left: u32,
     bytes: &'a [u8],
 ) -> Result<(FoundArcs<'a>, &'a [u8]), Fault>
-    ensures { (start : Counted) (t : Option (Option Scaling)) → FindsArcs start t depth_left bytes.now result }
+    ensures { (start : Begun) (t : Option (Option Scaling)) → FindsArcs start t depth_left bytes.now result }
 {
     let rest = end_at(alloc, depth_left, bytes)?;
     Ok((
@@ -122,7 +137,7 @@ fn arcs_member<'a>(
     depth_left: u32,
     transform: &Occurrence<Result<Option<Transform>, TopoFault>>,
     bytes: &'a [u8],
-    start: Counts,
+    start: By,
 ) -> Result<(FoundArcs<'a>, &'a [u8]), Fault>
     ensures { FindsArcs start (transform_by transform.now) depth_left bytes.now result }
 {
@@ -154,7 +169,7 @@ fn forget_read(arcs: &mut Occurrence<FoundArcs<'_>>)
 impl<'a> Index<'a> {
     /// Of no members.
     pub(crate) fn none() -> Index<'a>
-        ensures { (start : Counted) (depth_left : ℕ) → IsIndex start depth_left [] result }
+        ensures { (start : Begun) (depth_left : ℕ) → IsIndex start depth_left [] result }
     {
         Index {
             kind: Occurrence::Never,
@@ -171,7 +186,7 @@ impl<'a> Index<'a> {
         depth_left: u32,
         name: &str,
         bytes: &'a [u8],
-        start: Counts,
+        start: By,
     ) -> Result<&'a [u8], Fault>
         ensures { GoesOnOrLoses start depth_left name.now self.old self.new bytes.now result }
     {
@@ -204,7 +219,7 @@ impl<'a> Index<'a> {
         alloc: Global,
         depth_left: u32,
         bytes: &'a [u8],
-        start: Counts,
+        start: By,
     ) -> Result<&'a [u8], Fault>
         ensures { TakesOrLoses start depth_left self.old self.new bytes.now result }
     {
@@ -229,7 +244,7 @@ fn members_into<'a>(
     depth_left: u32,
     index: &mut Index<'a>,
     inside: &'a [u8],
-    start: Counts,
+    start: By,
 ) -> Result<&'a [u8], Fault>
     ensures { TakesAllOrLoses start depth_left (prefix_members depth_left (length inside.now) inside.now) index.old index.new result }
 {
@@ -254,7 +269,7 @@ pub(crate) fn members_seen_at<'a>(
     alloc: Global,
     depth_left: u32,
     bytes: &'a [u8],
-    start: Counts,
+    start: By,
 ) -> Result<Option<(Index<'a>, &'a [u8])>, Fault>
     ensures { Indexes start depth_left bytes.now result }
 {

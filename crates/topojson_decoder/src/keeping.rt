@@ -1,17 +1,17 @@
-// What is kept of the features that are read.
+// What is kept of what is read.
 ghost use Rattle.std.specs.Prelude.{◌≡◌};
 ghost use Rattle.topojson_decoder.specs.Kept.{of_shape};
 
 use topojson_types::TopoShape;
 
-/// What is kept of the features that are read. They are checked alike.
+/// What is kept of the features and the arcs that are read. They are checked alike.
 #[derive(Clone, Copy)]
 pub enum Keeping {
     /// All that they are.
     Whole,
-    /// Their geometries: no identifier and no properties.
+    /// The geometries of features, with no identifier and no properties. All that the arcs are.
     Shapes,
-    /// That they are there: no identifier, no properties and no geometry.
+    /// That features are there, with no identifier, no properties and no geometry. Of each arc its ends.
     Blank,
 }
 

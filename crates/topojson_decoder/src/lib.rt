@@ -6,6 +6,7 @@
 //! more; that has no contracts.
 #![tactic(auto)]
 
+mod arc_ends;
 mod arcs;
 mod areas;
 mod cells;

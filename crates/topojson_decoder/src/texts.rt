@@ -8,7 +8,8 @@ ghost use Rattle.geojson_types.specs.declared.counts.Counts.{Counts as Counted};
 ghost use Rattle.topojson_meaning.specs.Topologies.{topology};
 ghost use Rattle.json_value.specs.Limits.{topology_depth};
 ghost use Rattle.topojson_types.specs.Validity.{IsTopology};
-ghost use Rattle.topojson_decoder.specs.Texts.{PartsAnswer, TextAnswers, parts_contents};
+ghost use Rattle.topojson_decoder.specs.Kept.{parts_contents};
+ghost use Rattle.topojson_decoder.specs.Texts.{PartsAnswer, TextAnswers};
 
 use crate::keeping::Keeping;
 use crate::topologies::{Parts, kept_topology_at};
@@ -50,6 +51,7 @@ pub fn topology_of_valid(parts: Parts) -> Topology
         objects,
         arcs,
         transform,
+        ..
     } = parts;
     Topology::of(objects, arcs, transform)
 }

@@ -6,19 +6,19 @@ ghost use Rattle.json_value.specs.Members.{Members as Listed, named};
 ghost use Rattle.geojson_types.specs.declared.counts.Counts.{Counts as Counted};
 ghost use Rattle.json_cursor.specs.Answers.{Answers};
 ghost use Rattle.json_cursor.specs.Arrays.{prefix_value};
-ghost use Rattle.topojson_meaning.specs.Arcs.{arc_list};
 ghost use Rattle.topojson_meaning.specs.Members.{need_as};
 ghost use Rattle.topojson_meaning.specs.Reader.{pure};
 ghost use Rattle.topojson_meaning.specs.Topologies as spec;
 ghost use Rattle.topojson_decoder.specs.Index.{AreArcs, IsIndex, IsLost, NoArcs, NoObjects, transform_by};
 ghost use Rattle.topojson_decoder.specs.declared.occurrence.Occurrence.TheVariants.{Once};
-ghost use Rattle.topojson_decoder.specs.Kept.{kept_contents, kept_objects, kept_value_contents};
+ghost use Rattle.topojson_decoder.specs.Kept.{kept_arc_list, kept_contents, kept_objects, kept_value_contents};
 ghost use Rattle.topojson_decoder.specs.Members.{BeginsAt, IsOccurrence, Judges};
 ghost use Rattle.topojson_decoder.specs.Topologies.{Gives, NeededAt, transform_in, type_in};
 ghost use Rattle.topojson_decoder.specs.Transforms.{IsTransformOf};
 
-use crate::arcs::arcs_at;
-use crate::index::{FoundArcs, Index, ReadArcs, members_seen_at};
+use crate::arc_ends::KeptArcs;
+use crate::arcs::kept_arcs_at;
+use crate::index::{By, FoundArcs, Index, ReadArcs, members_seen_at};
 use crate::keeping::Keeping;
 use crate::named_objects::objects_at;
 use crate::occurrence::Occurrence;
@@ -35,6 +35,8 @@ pub struct Parts {
     pub objects: Items<(OwnText, TopoObject)>,
     pub arcs: Items<Items<Cell>>,
     pub transform: Option<Transform>,
+    /// How many positions the arcs have, where their ends alone are kept.
+    pub positions: Option<u64>,
 }
 
 /// Where the value of a member begins that must be there once.
@@ -87,11 +89,12 @@ fn transform_of(
 fn arcs_by(
     alloc: Global,
     depth_left: u32,
+    keeping: Keeping,
     transform: Option<&Transform>,
     found: FoundArcs<'_>,
     counts: &mut Counts,
-) -> Result<Items<Items<Cell>>, Stop<TopoFault>>
-    ensures judges { (v : Value) → AreArcs counts.old (Some (option_copied transform.entry)) depth_left v found.entry → Judges (arc_list (option_copied transform.entry) v) counts.old counts.new result }
+) -> Result<KeptArcs, Stop<TopoFault>>
+    ensures judges { (v : Value) → AreArcs (record { keeping = keeping; counts = counts.old }) (Some (option_copied transform.entry)) depth_left v found.entry → Judges (kept_arc_list keeping (option_copied transform.entry) v) counts.old counts.new result }
     ensures there { IfOk result (λ _. NoArcs depth_left (Once found.entry) → ⊥) }
 {
     let FoundArcs { prefix, read } = found;
@@ -108,7 +111,7 @@ fn arcs_by(
                 Ok(arcs) => Ok(arcs),
             }
         }
-        None => match arcs_at(alloc, depth_left, transform, prefix, counts) {
+        None => match kept_arcs_at(alloc, depth_left, keeping, transform, prefix, counts) {
             Err(stop) => Err(stop),
             Ok((arcs, _)) => Ok(arcs),
         },
@@ -119,18 +122,19 @@ fn arcs_by(
 fn arcs_of(
     alloc: Global,
     depth_left: u32,
+    keeping: Keeping,
     transform: Option<&Transform>,
     occurrence: Occurrence<FoundArcs<'_>>,
     counts: &mut Counts,
-) -> Result<Items<Items<Cell>>, Stop<TopoFault>>
+) -> Result<KeptArcs, Stop<TopoFault>>
     ensures there { IfOk result (λ _. NoArcs depth_left occurrence.entry → ⊥) }
-    ensures gives { (ms : Listed) → IsOccurrence (AreArcs counts.old (Some (option_copied transform.entry)) depth_left) (named (codes "arcs") ms) occurrence.entry
-        → Gives (λ x. x) (need_as (codes "arcs") (arc_list (option_copied transform.entry)) ms) counts.old counts.new result }
+    ensures gives { (ms : Listed) → IsOccurrence (AreArcs (record { keeping = keeping; counts = counts.old }) (Some (option_copied transform.entry)) depth_left) (named (codes "arcs") ms) occurrence.entry
+        → Gives (λ x. x) (need_as (codes "arcs") (kept_arc_list keeping (option_copied transform.entry)) ms) counts.old counts.new result }
 {
     match occurrence {
         Occurrence::Never => Err(Stop::Fault(TopoFault::Missing)),
         Occurrence::Again => Err(Stop::Fault(TopoFault::Duplicate)),
-        Occurrence::Once(found) => arcs_by(alloc, depth_left, transform, found, counts),
+        Occurrence::Once(found) => arcs_by(alloc, depth_left, keeping, transform, found, counts),
     }
 }
 
@@ -169,7 +173,7 @@ fn parts_of(
 ) -> Result<Parts, Stop<TopoFault>>
     // What was leaped over stands there.
     ensures there { IfOk result (λ _. IsLost depth_left index.entry → ⊥) }
-    ensures gives { (ms : Listed) → IsIndex counts.old depth_left ms index.entry → Gives (λ p. record { objects = p.objects; arcs = p.arcs; transform = p.transform }) (kept_contents keeping ms) counts.old counts.new result }
+    ensures gives { (ms : Listed) → IsIndex (record { keeping = keeping; counts = counts.old }) depth_left ms index.entry → Gives (λ p. p) (kept_contents keeping ms) counts.old counts.new result }
 {
     let Index {
         kind,
@@ -189,7 +193,7 @@ fn parts_of(
         }
         Ok(transform) => transform,
     };
-    let arcs = match arcs_of(alloc, depth_left, transform.as_ref(), arcs, counts) {
+    let arcs = match arcs_of(alloc, depth_left, keeping, transform.as_ref(), arcs, counts) {
         Err(stop) => {
             drop(transform);
             return Err(stop);
@@ -201,7 +205,7 @@ fn parts_of(
         depth_left,
         keeping,
         transform.as_ref(),
-        arcs.as_slice(),
+        arcs.list.as_slice(),
         objects,
         counts,
     ) {
@@ -211,10 +215,12 @@ fn parts_of(
             Err(stop)
         }
         Ok(objects) => {
+            let KeptArcs { list, positions } = arcs;
             Ok(Parts {
                 objects,
-                arcs,
+                arcs: list,
                 transform,
+                positions,
             })
         }
     }
@@ -228,9 +234,13 @@ pub(crate) fn kept_topology_at<'a>(
     bytes: &'a [u8],
     counts: &mut Counts,
 ) -> Result<(Parts, &'a [u8]), Stop<TopoFault>>
-    ensures { Answers (λ p. record { objects = p.objects; arcs = p.arcs; transform = p.transform }) (kept_value_contents keeping) (prefix_value depth_left bytes.now) counts.old counts.new result }
+    ensures { Answers (λ p. p) (kept_value_contents keeping) (prefix_value depth_left bytes.now) counts.old counts.new result }
 {
-    let Some((index, rest)) = members_seen_at(alloc, depth_left, bytes, *counts)? else {
+    let by = By {
+        keeping,
+        counts: *counts,
+    };
+    let Some((index, rest)) = members_seen_at(alloc, depth_left, bytes, by)? else {
         return Err(Stop::Fault(TopoFault::NotTopology));
     };
     match parts_of(alloc, depth_left - 1, keeping, index, counts) {

@@ -3,7 +3,6 @@ use Rattle.geojson_types.specs.Counting.{no_counts}
 use Rattle.topojson_meaning.specs.Topologies.{value_contents}
 use Rattle.topojson_decoder.specs.Kept.{kept_value_contents, of_contents}
 use Rattle.json_value.specs.Limits.{topology_depth}
-use Rattle.topojson_decoder.specs.Texts.{parts_contents}
 use Rattle.json_cursor.proofs.WholeTexts as text
 use Rattle.topojson_decoder.proofs.KeptParts.{unmade, unmade_fault}
 use Rattle.topojson_decoder.proofs.TextParts.{stands_for, stands_for_none}
@@ -12,7 +11,7 @@ use Rattle.topojson_decoder.proofs.texts.read_parts.Goals as goal
 pub returns-then-is_empty : goal.returns-then-is_empty
 returns-then-is_empty c =
     let r = rw c.skip.ensures at c.in-Ok.ensures in
-    let read = unmade (of_contents c.args.keeping) (value_contents r.value) no_counts (parts_contents c.in-Ok.parts) c.kept_topology_at.new.counts (rw c.none-counts.ensures at r.means) in (
+    let read = unmade (of_contents c.args.keeping) (value_contents r.value) no_counts c.in-Ok.parts c.kept_topology_at.new.counts (rw c.none-counts.ensures at r.means) in (
       read.whole,
       (c.if-not-are_utf8.ensures.yes refl, r.value, text.whole topology_depth c.args.bytes.now _ c.text_of.ensures r.value _ _ r.prefix_is c.skip-following.ensures c.if-is_empty.ensures, stands_for r.value _ _ read.reads),
       read.is,

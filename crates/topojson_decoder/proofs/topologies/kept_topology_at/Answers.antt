@@ -1,7 +1,6 @@
 use Rattle.std.proofs.Common.{inl, inr}
 use Rattle.json_cursor.specs.Arrays.{prefix_value}
 use Rattle.topojson_decoder.specs.Kept.{kept_value_contents}
-use Rattle.topojson_decoder.specs.Texts.{parts_contents}
 use Rattle.topojson_decoder.proofs.LostParts.{no_stop}
 use Rattle.topojson_decoder.proofs.TopologyParts as part
 use Rattle.topojson_decoder.proofs.topologies.kept_topology_at.Goals as goal
@@ -13,7 +12,7 @@ pub returns-in-Err : goal.returns-in-Err
 returns-in-Err c =
     let found = rw c.in-Some.is at c.in_ok-index.ensures in
     elim found.1 [
-      | inl object ↦ part.object_stops c.args.keeping c.args.counts.now (prefix_value c.args.depth_left c.args.bytes.now) object.members _ object.prefix parts_contents c.parts_of.new.counts c.in-Err.stop
+      | inl object ↦ part.object_stops c.args.keeping c.args.counts.now (prefix_value c.args.depth_left c.args.bytes.now) object.members _ object.prefix (λ p. p) c.parts_of.new.counts c.in-Err.stop
           (c.in-Err.ensures.gives object.members object.index)
       | inr lost ↦ no_stop (kept_value_contents c.args.keeping) (prefix_value c.args.depth_left c.args.bytes.now) c.args.counts.now c.in-Err.stop lost.0
     ]

@@ -1,11 +1,10 @@
 use Rattle.json_cursor.specs.Arrays.{prefix_value}
 use Rattle.topojson_meaning.specs.Topologies.{value_contents}
-use Rattle.topojson_decoder.specs.Kept.{of_contents}
-use Rattle.topojson_decoder.specs.Texts.{parts_contents}
+use Rattle.topojson_decoder.specs.Kept.{of_contents, parts_contents}
 use Rattle.topojson_decoder.specs.declared.keeping.Keeping.TheVariants.{Whole}
-use Rattle.topojson_decoder.proofs.KeptParts.{answers_whole, whole_contents}
+use Rattle.topojson_decoder.proofs.KeptParts.{answers_back, whole_contents}
 use Rattle.topojson_decoder.proofs.topologies.topology_at.Goals as goal
 
 pub returns : goal.returns
 returns c =
-    answers_whole (of_contents Whole) whole_contents parts_contents value_contents (prefix_value c.args.depth_left c.args.bytes.now) c.args.counts.now c.kept_topology_at.new.counts c.kept_topology_at.result c.kept_topology_at.ensures
+    answers_back (of_contents Whole) parts_contents whole_contents value_contents (prefix_value c.args.depth_left c.args.bytes.now) c.args.counts.now c.kept_topology_at.new.counts c.kept_topology_at.result c.kept_topology_at.ensures

@@ -86,12 +86,9 @@ void *realloc(void *old, size_t size) {
 #   opened;
 # - the names of layers are looked through one by one where the set of them can't be had, whose nodes have these bytes. It is
 #   asked for once all files are open.
-# - where no crossing may be made, the list of all places, here of eight, and that of each arc's, take their room at once or, where that is
-#   refused, as they come.
 SHRINKING = "less"
 WORDS_LIST = ("new", 96, 0)
 NAME_SET = (248,)
-PLACES_LISTS = {("new", 8 * places, 1) for places in range(2, 9)}
 
 # ---- the files
 
@@ -381,8 +378,7 @@ def is_dispensable(words, refused):
     kind, size, opened = refused
     files = sum("=" in it and not it.startswith("-") for it in words) + (OUTPUT in words)
     is_of_names = kind == "new" and size in NAME_SET and words[0] == "build" and opened == files
-    is_of_places = refused in PLACES_LISTS and "--no-crossings" in words
-    return kind == SHRINKING or refused == WORDS_LIST or is_of_names or is_of_places
+    return kind == SHRINKING or refused == WORDS_LIST or is_of_names
 
 
 def fail(words, number, ended):

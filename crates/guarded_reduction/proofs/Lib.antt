@@ -3,6 +3,7 @@ pub mod Apart
 pub mod Beyond
 pub mod Blocks
 pub mod Boxes
+pub mod Cells
 pub mod Corners
 pub mod Counts
 pub mod Covering

@@ -1,6 +1,7 @@
 pub mod Beside
 pub mod Blocking
 pub mod Blocks
+pub mod Cells
 pub mod Crossings
 pub mod Entries
 pub mod Extents

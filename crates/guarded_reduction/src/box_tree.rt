@@ -1,5 +1,5 @@
 // The index with all that it keeps.
-ghost use Rattle.std.specs.Prelude.{◌≡◌, ◌+◌, ◌*◌, ◌<◌, ◌^◌, slice_index, true, false, length, replicate, slice_set, IfOk};
+ghost use Rattle.std.specs.Prelude.{◌≡◌, ◌+◌, ◌*◌, ◌<◌, ◌^◌, slice_index, false, length, slice_set, IfOk};
 ghost use Rattle.std.specs.Option.{IfNone, IfSome};
 ghost use Rattle.guarded_reduction.specs.Indexes.{IsIndex, Meets, NoneMeets};
 
@@ -24,17 +24,19 @@ pub struct BoxTree {
     pub extents: Vec<Extent>,
 }
 
-/// The index of these positions, which are all left.
-pub fn tree_of(alloc: Global, positions: Vec<Position>) -> Result<BoxTree, Memory>
-    requires { length positions.items < 2 ^ 60 }
+/// The index of these positions, of which some are left.
+pub fn tree_of(
+    alloc: Global,
+    positions: Vec<Position>,
+    present: Vec<bool>,
+) -> Result<BoxTree, Memory>
+    requires { length present.items ≡ length positions.items }
     ensures index { IfOk result (λ x. IsIndex x) }
     ensures positions { IfOk result (λ x. x.positions.items ≡ positions.items) }
-    ensures present { IfOk result (λ x. x.present.items ≡ replicate (length positions.items) true) }
+    ensures present { IfOk result (λ x. x.present.items ≡ present.items) }
 {
-    let n = positions.len();
     let places = places_in_order(alloc, &positions)?;
     let ranks = ranks_of(alloc, &places)?;
-    let present = vec![in alloc; true; n]?;
     let extents = boxes_over(alloc, &positions, &present, &places)?;
     Ok(BoxTree {
         positions,

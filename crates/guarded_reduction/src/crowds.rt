@@ -16,7 +16,7 @@ impl BoxTree {
     }
 
     /// More than so many places have the position of this one, as far as the places so many ranks before and after it show.
-    pub fn is_crowded(&self, place: usize, many: usize) -> bool
+    fn is_crowded(&self, place: usize, many: usize) -> bool
         requires index { IsIndex self.now }
         requires within { place < length self.now.positions.items }
     {

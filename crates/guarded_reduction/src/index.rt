@@ -35,7 +35,21 @@ impl PositionIndex {
         requires { length positions.items < 2 ^ 60 }
         ensures { IfOk result (λ x. x ≡ all_left positions.items) }
     {
-        let tree = tree_of(alloc, positions)?;
+        let present = vec![in alloc; true; positions.len()]?;
+        PositionIndex::of_left(alloc, positions, present)
+    }
+
+    /// The index of these positions, of which some are left.
+    pub fn of_left(
+        alloc: Global,
+        positions: Vec<Position>,
+        present: Vec<bool>,
+    ) -> Result<PositionIndex, Memory>
+        requires { length present.items ≡ length positions.items }
+        ensures positions { IfOk result (λ x. x.positions ≡ positions.items) }
+        ensures left { IfOk result (λ x. x.left ≡ present.items) }
+    {
+        let tree = tree_of(alloc, positions, present)?;
         Ok(PositionIndex { tree })
     }
 
@@ -77,16 +91,6 @@ impl PositionIndex {
         requires other { other < length self.now.positions }
     {
         self.tree.is_more_crowded(place, other)
-    }
-
-    /// One position seems to have more than so many places, with those that are gone. Nothing rests on it but speed.
-    pub(crate) fn has_crowd(&self, many: usize) -> bool {
-        for place in 0..self.tree.positions.len() {
-            if self.tree.is_crowded(place, many) {
-                return true;
-            }
-        }
-        false
     }
 
     /// A place that is left and meets the test of the query.

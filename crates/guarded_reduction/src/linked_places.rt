@@ -12,7 +12,7 @@ ghost use Rattle.guarded_reduction.specs.Moves.{lost_at};
 use crate::blocking::{Blocked, Links};
 use crate::entry::Entry;
 use crate::flattening::{afters_of, all_positions, befores_of};
-use crate::query::{Corner, Query};
+use crate::query::{Corner, Query, reach_of};
 use crate::ring_moves::step;
 use crate::searching::position_of;
 use crate::shown_places::ShownPlaces;
@@ -200,6 +200,15 @@ impl LinkedPlaces {
             after: self.position(self.after(place)),
             place,
         }
+    }
+
+    /// Readies the index for a search for what blocks the corner at a place.
+    pub fn ready(&mut self, alloc: Global, place: usize) -> Result<(), Memory>
+        requires { place < length self.old.positions }
+        ensures { self.new ≡ self.old }
+    {
+        let within = reach_of(&self.corner(place));
+        self.places.ready(alloc, &within)
     }
 
     /// A place that is left and blocks a corner, where crossings are to be avoided.

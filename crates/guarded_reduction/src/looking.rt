@@ -16,6 +16,7 @@ use crate::linked_places::LinkedPlaces;
 use crate::query::Query;
 use crate::waiting_lists::WaitingLists;
 use owned_values::Memory;
+use std::alloc::Global;
 use std::cmp::Reverse;
 use std::collections::BinaryHeap;
 
@@ -45,17 +46,19 @@ fn wait_on(
 
 /// The corner that goes next, if its rings stay, and if there is one. Those that are blocked come to wait, each once.
 pub fn next_corner(
+    alloc: Global,
     heap: &mut BinaryHeap<Reverse<Entry>>,
     waiting: &mut WaitingLists,
-    places: &LinkedPlaces,
+    places: &mut LinkedPlaces,
     threshold: u128,
 ) -> Result<Option<Entry>, Memory>
     requires order { IsHeap turned_cmp (heap_items heap.old) }
-    requires queued { IsQueued threshold places.now (heap_items heap.old) waiting.old }
-    requires chained { IsChained places.now }
+    requires queued { IsQueued threshold places.old (heap_items heap.old) waiting.old }
+    requires chained { IsChained places.old }
     ensures order { OnOk result (IsHeap turned_cmp (heap_items heap.new)) }
-    ensures next { IfOk result (λ found. IfSome found (λ e. IsNext threshold places.now (heap_items heap.new) waiting.new e)) }
-    ensures none { IfOk result (λ found. IfNone found (NoneNext threshold places.now waiting.new)) }
+    ensures same { OnOk result (places.new ≡ places.old) }
+    ensures next { IfOk result (λ found. IfSome found (λ e. IsNext threshold places.old (heap_items heap.new) waiting.new e)) }
+    ensures none { IfOk result (λ found. IfNone found (NoneNext threshold places.old waiting.new)) }
     ensures fewer { IfOk result (λ found. IfSome found (λ _. heap_len heap.new < heap_len heap.old)) }
 {
     let mut held = places.len();
@@ -68,6 +71,7 @@ pub fn next_corner(
         if !places.is_current(&entry) {
             continue;
         }
+        places.ready(alloc, entry.place)?;
         let Some(holder) = holder_of(places, entry.place, last) else {
             return Ok(Some(entry));
         };
@@ -80,6 +84,7 @@ pub fn next_corner(
 
 /// The corner that goes next, if there is one. The places of those with which not all rings would stay, stay for good.
 pub fn next_going(
+    alloc: Global,
     heap: &mut BinaryHeap<Reverse<Entry>>,
     waiting: &mut WaitingLists,
     places: &mut LinkedPlaces,
@@ -98,7 +103,7 @@ pub fn next_going(
     ensures none { IfOk result (λ found. IfNone found (NoneNext threshold places.new waiting.new)) }
     ensures same { IfOk result (λ found. IfNone found (rings.new ≡ rings.old)) }
 {
-    'corners: while let Some(entry) = next_corner(heap, waiting, places, threshold)? {
+    'corners: while let Some(entry) = next_corner(alloc, heap, waiting, places, threshold)? {
         if rings.keeps(places, entry.place) {
             rings.remove(places, entry.place);
             return Ok(Some(entry));

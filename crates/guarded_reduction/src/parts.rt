@@ -20,15 +20,11 @@ use std::{mem, slice};
 /// So many boxes are compared at most for each position, to find the arcs that may meet those that don't keep clear of others.
 const MOST_BOXES: usize = 32;
 
-/// So many places have one position at most, if arcs are to be reduced in parts: at each look all ends of arcs at a junction are seen.
-const MOST_AT_ONCE: usize = 32;
-
 /// Of one arc the numbers of the positions that stay, where no corner that goes meets an arc that isn't marked.
 fn reduced_alone(
     alloc: Global,
     whole: &WholeArcs<'_>,
     inside: &[bool],
-    first: usize,
     arc: &[Items<Position>],
     threshold: u128,
 ) -> Result<Option<Vec<usize>>, Memory>
@@ -37,7 +33,7 @@ fn reduced_alone(
     ensures apart { IfOk result (λ found. IfSome found (λ _. StaysApart (unmarked inside.now whole.now) threshold (length (joined arc.now)) (map (numbered 0) arc.now))) }
     ensures kept { IfOk result (λ found. IfSome found (λ kept. kept.items ∷ [] ≡ reduce_arcs (guarded_by true []) threshold arc.now)) }
 {
-    let beside = OtherArcs::of(whole, inside, first);
+    let beside = OtherArcs::of(whole, inside);
     let Some(mut kept) = reduce_beside(alloc, arc, true, &[], threshold, &beside)? else {
         return Ok(None);
     };
@@ -59,11 +55,10 @@ fn each_alone(
 {
     let mut inside = vec![in alloc; false; arcs.len()]?;
     let mut all = Vec::with_capacity(alloc, arcs.len())?;
-    let mut first = 0usize;
     'arcs: for k in 0..arcs.len() {
         let arc = slice::from_ref(&arcs[k]);
         inside[k] = true;
-        let found = reduced_alone(alloc, whole, inside.as_slice(), first, arc, threshold)?;
+        let found = reduced_alone(alloc, whole, inside.as_slice(), arc, threshold)?;
         inside[k] = false;
         match found {
             Some(kept) => all.push(kept)?,
@@ -72,7 +67,6 @@ fn each_alone(
                 all.push(Vec::new(alloc))?;
             }
         }
-        first = first.wrapping_add(arcs[k].len());
     }
     Ok(all)
 }
@@ -195,7 +189,7 @@ fn put_alone(all: &mut [Vec<usize>], kept: &mut [Vec<usize>], marks: &[bool])
 /// Of each arc the numbers of the positions that stay, where no corner goes that would make a crossing: each arc is reduced by itself, unless a corner
 /// that goes meets another arc, whatever is left of that. Those of which one does, and those that may meet these, are reduced together. Nothing
 /// where that doesn't succeed: where one of them meets an arc that was reduced by itself, or too many don't stand alone. It isn't tried where one arc
-/// has half of all positions, which would be gone through twice, nor where many places have one position.
+/// has half of all positions, which would be gone through twice.
 pub fn reduce_by_parts(
     alloc: Global,
     arcs: &[Items<Position>],
@@ -207,16 +201,13 @@ pub fn reduce_by_parts(
         return Ok(None);
     }
     let whole = WholeArcs::of(alloc, arcs)?;
-    if whole.has_crowd(MOST_AT_ONCE) {
-        return Ok(None);
-    }
     let mut marks = vec![in alloc; false; arcs.len()]?;
     let mut kept = each_alone(alloc, &whole, arcs, threshold, marks.as_mut_slice())?;
     if !spread_marks(alloc, arcs, marks.as_mut_slice())? {
         return Ok(None);
     }
     let others = marked_copies(alloc, arcs, marks.as_slice())?;
-    let beside = OtherArcs::of(&whole, marks.as_slice(), usize::MAX);
+    let beside = OtherArcs::of(&whole, marks.as_slice());
     let Some(mut all) = reduce_beside(alloc, others.as_slice(), true, &[], threshold, &beside)?
     else {
         return Ok(None);

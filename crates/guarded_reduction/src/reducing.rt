@@ -50,6 +50,7 @@ fn reduce_places<S: Surroundings>(
     begin_round(&mut heap, &waiting, places, 0, round)?;
     'corners: for _step in 0..n {
         let next = next_in_rounds(
+            alloc,
             &mut heap,
             &mut waiting,
             places,

@@ -13,6 +13,7 @@ use crate::linked_places::LinkedPlaces;
 use crate::looking::next_going;
 use crate::waiting_lists::WaitingLists;
 use owned_values::Memory;
+use std::alloc::Global;
 use std::cmp::Reverse;
 use std::collections::BinaryHeap;
 
@@ -118,6 +119,7 @@ fn begin_next_round(
 
 /// The corner that goes next, if there is one. Where the heap has none any more, the next round begins.
 pub fn next_in_rounds(
+    alloc: Global,
     heap: &mut BinaryHeap<Reverse<Entry>>,
     waiting: &mut WaitingLists,
     places: &mut LinkedPlaces,
@@ -139,11 +141,11 @@ pub fn next_in_rounds(
     ensures none { IfOk result (λ found. IfNone found (NoneNext threshold places.new waiting.new)) }
 {
     'rounds: while *round < threshold {
-        if let Some(entry) = next_going(heap, waiting, places, rings, *round)? {
+        if let Some(entry) = next_going(alloc, heap, waiting, places, rings, *round)? {
             return Ok(Some(entry));
         }
         begin_next_round(heap, waiting, places, round, threshold)?;
     }
-    let last = next_going(heap, waiting, places, rings, *round)?;
+    let last = next_going(alloc, heap, waiting, places, rings, *round)?;
     Ok(last)
 }

@@ -37,14 +37,20 @@ pub fn read_extent(extents: &[Extent], at: usize) -> Extent
 }
 
 /// The place is left and meets the test.
-fn is_met_at<Q: Query>(index: &BoxTree, place: usize, within: &Extent, query: &Q) -> bool
-    requires index { IsIndex index.now }
-    requires within { place < length index.now.positions.items }
+pub fn is_met_at<Q: Query>(
+    positions: &[Position],
+    present: &[bool],
+    place: usize,
+    within: &Extent,
+    query: &Q,
+) -> bool
+    requires present { place < length present.now }
+    requires within { place < length positions.now }
     requires reach { Reaches within.now (Q.test query.now) }
-    ensures { result ≡ (is_left_at index.now.present.items place && Q.test query.now place (point_at index.now.positions.items place)) }
+    ensures { result ≡ (is_left_at present.now place && Q.test query.now place (point_at positions.now place)) }
 {
-    let at = position_of(&index.positions, place);
-    meets(around(at), *within) && (is_left(&index.present, place) && query.is_met_by(place, at))
+    let at = position_of(positions, place);
+    meets(around(at), *within) && (is_left(present, place) && query.is_met_by(place, at))
 }
 
 /// The place of a leaf.
@@ -68,7 +74,7 @@ fn found_at<Q: Query>(index: &BoxTree, leaf: usize, within: &Extent, query: &Q) 
     ensures none { IfNone result (NoneMeetsUnder index.now leaf (Q.test query.now)) }
 {
     let place = place_at(index, leaf);
-    if is_met_at(index, place, within, query) {
+    if is_met_at(&index.positions, &index.present, place, within, query) {
         Some(place)
     } else {
         None

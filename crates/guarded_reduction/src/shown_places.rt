@@ -4,6 +4,8 @@ ghost use Rattle.std.specs.Option.{IfNone, IfSome};
 ghost use Rattle.guarded_reduction.specs.Indexes.{Meets, NoneMeets, is_left_at};
 ghost use Rattle.guarded_reduction.specs.PlacedLists.{all_placed, without_placed};
 
+use crate::cell_index::CellIndex;
+use crate::extent::Extent;
 use crate::index::PositionIndex;
 use crate::query::Query;
 use geometry::Position;
@@ -11,16 +13,21 @@ use owned_values::Memory;
 use std::alloc::Global;
 use std::marker::Model;
 
+/// So many cells and places are gone through at most before boxes take the place of cells.
+const MOST: usize = 1000;
+
 #[derive(Drop)]
 pub enum Places {
     Listed {
         positions: Vec<Position>,
         left: Vec<bool>,
     },
-    Indexed(PositionIndex),
+    Celled(CellIndex),
+    Boxed(PositionIndex),
 }
 
-/// Positions by the numbers of their places, of which some are left, with an index over these, or without one where nothing is looked for.
+/// Positions by the numbers of their places, of which some are left, with an index over these, or without one where nothing is looked for. The index is
+/// one of cells, until a box is to be looked through in whose cells too many places lie, and then one of boxes.
 #[derive(Drop)]
 pub struct ShownPlaces {
     places: Places,
@@ -44,7 +51,7 @@ impl ShownPlaces {
         ensures { IfOk result (λ x. x ≡ all_placed indexed positions.items) }
     {
         let places = if indexed {
-            Places::Indexed(PositionIndex::of(alloc, positions)?)
+            Places::Celled(CellIndex::of(alloc, positions)?)
         } else {
             let left = vec![in alloc; true; positions.len()]?;
             Places::Listed { positions, left }
@@ -58,7 +65,8 @@ impl ShownPlaces {
     {
         match &self.places {
             Places::Listed { positions, .. } => positions.as_slice(),
-            Places::Indexed(index) => index.positions(),
+            Places::Celled(index) => index.positions(),
+            Places::Boxed(index) => index.positions(),
         }
     }
 
@@ -70,7 +78,8 @@ impl ShownPlaces {
     {
         match &self.places {
             Places::Listed { left, .. } => left[place],
-            Places::Indexed(index) => index.is_left(place),
+            Places::Celled(index) => index.is_left(place),
+            Places::Boxed(index) => index.is_left(place),
         }
     }
 
@@ -80,7 +89,8 @@ impl ShownPlaces {
     {
         match &self.places {
             Places::Listed { .. } => false,
-            Places::Indexed(_) => true,
+            Places::Celled(_) => true,
+            Places::Boxed(_) => true,
         }
     }
 
@@ -91,7 +101,8 @@ impl ShownPlaces {
     {
         match &self.places {
             Places::Listed { .. } => false,
-            Places::Indexed(index) => index.is_more_crowded(place, other),
+            Places::Celled(_) => false,
+            Places::Boxed(index) => index.is_more_crowded(place, other),
         }
     }
 
@@ -102,8 +113,23 @@ impl ShownPlaces {
     {
         match &mut self.places {
             Places::Listed { left, .. } => left[place] = false,
-            Places::Indexed(index) => index.remove(place),
+            Places::Celled(index) => index.remove(place),
+            Places::Boxed(index) => index.remove(place),
         }
+    }
+
+    /// Readies the index for a search through this box: one of boxes takes the place of one of cells where too many places lie in these.
+    pub fn ready(&mut self, alloc: Global, within: &Extent) -> Result<(), Memory>
+        ensures { self.new ≡ self.old }
+    {
+        let Places::Celled(cells) = &self.places else {
+            return Ok(());
+        };
+        if !cells.is_quick(within, MOST) {
+            let boxes = cells.in_boxes(alloc)?;
+            self.places = Places::Boxed(boxes);
+        }
+        Ok(())
     }
 
     /// A place that is left and meets the test of the query, where there is an index. It is looked for near a place first.
@@ -115,7 +141,8 @@ impl ShownPlaces {
     {
         match &self.places {
             Places::Listed { .. } => None,
-            Places::Indexed(index) => index.find_near(place, query),
+            Places::Celled(index) => index.find(query),
+            Places::Boxed(index) => index.find_near(place, query),
         }
     }
 }

@@ -11,6 +11,9 @@ use std::marker::Model;
 /// A corner is looked at beside other arcs whose neighbours are so many places apart at most: those between them, which are gone, lie in its triangle.
 const LONGEST_STRETCH: usize = 1000;
 
+/// So many cells and places beside those are gone through at most for a corner.
+const MOST: usize = 1000;
+
 /// What lies beside arcs that are reduced: other arcs, or nothing.
 pub trait Surroundings {
     ghost others: { Self → List (List Point) };
@@ -38,13 +41,11 @@ impl Surroundings for Nothing {
     }
 }
 
-/// Those of all arcs that aren't marked lie beside the others. What a corner meets is looked for near the place that has the corner's number after
-/// this first one.
+/// Those of all arcs that aren't marked lie beside the others.
 #[derive(Drop)]
 pub struct OtherArcs<'a> {
     whole: &'a WholeArcs<'a>,
     inside: &'a [bool],
-    first: usize,
 }
 
 impl<'a> Model for OtherArcs<'a> {
@@ -61,15 +62,11 @@ impl<'a> Model for OtherArcs<'a> {
 
 impl<'a> OtherArcs<'a> {
     /// The arcs that aren't marked.
-    pub fn of(whole: &'a WholeArcs<'a>, inside: &'a [bool], first: usize) -> OtherArcs<'a>
+    pub fn of(whole: &'a WholeArcs<'a>, inside: &'a [bool]) -> OtherArcs<'a>
         requires { length inside.now ≡ length whole.now }
         ensures { result ≡ unmarked inside.now whole.now }
     {
-        OtherArcs {
-            whole,
-            inside,
-            first,
-        }
+        OtherArcs { whole, inside }
     }
 }
 
@@ -82,7 +79,7 @@ impl<'a> Surroundings for OtherArcs<'a> {
         if stretch > LONGEST_STRETCH {
             return false;
         }
-        let near = self.first.saturating_add(corner.place);
-        self.whole.is_clear_of(self.inside, near, corner)
+        self.whole
+            .is_clear_of(self.inside, corner, stretch.saturating_add(MOST))
     }
 }

@@ -51,6 +51,7 @@ fn weigh_places(
     let mut level = 0u128;
     'corners: for _step in 0..n {
         let next = next_in_rounds(
+            alloc,
             &mut heap,
             &mut waiting,
             places,

@@ -4,14 +4,8 @@ use Rattle.guarded_meaning.specs.Parts.{IsClearOf, unmarked}
 use Rattle.guarded_reduction.proofs.KeepsClear.{keeps_clear, none_found}
 use Rattle.guarded_reduction.proofs.whole_arcs.WholeArcs.is_clear_of.Goals as goal
 
-pub returns-then-near-positions : goal.returns-then-near-positions
-returns-then-near-positions c = λ e d f g h.
-    subst (λ (arcs : List (List Point)). IsClearOf (unmarked c.args.inside.now arcs) d) c.self.view_is
-    (keeps_clear c.args.inside.now c.self.inside.arcs.now c.self.inside.index c.self.inside.owners.items c.self.inside.partners.items c.as_slice.result.now c.as_slice-2.result.now c.positions-positions.result.now c.args.corner.now c.self.invariant
-    c.as_slice.ensures.value c.as_slice-2.ensures.value c.positions-positions.ensures (none_found c.find_near.result _ c.is_none.result c.is_none.ensures e c.find_near.ensures.none) d f g h)
-
 pub returns : goal.returns
 returns c = λ e d f g h.
     subst (λ (arcs : List (List Point)). IsClearOf (unmarked c.args.inside.now arcs) d) c.self.view_is
-    (keeps_clear c.args.inside.now c.self.inside.arcs.now c.self.inside.index c.self.inside.owners.items c.self.inside.partners.items c.as_slice.result.now c.as_slice-2.result.now c.positions-positions.result.now c.args.corner.now c.self.invariant
-    c.as_slice.ensures.value c.as_slice-2.ensures.value c.positions-positions.ensures (none_found c.find.result _ c.is_none-2.result c.is_none-2.ensures e c.find.ensures.none) d f g h)
+    (keeps_clear c.args.inside.now c.self.inside.arcs.now c.self.inside.index c.self.inside.owners.items c.self.inside.partners.items c.as_slice.result.now c.as_slice-2.result.now c.positions.result.now c.args.corner.now c.self.invariant
+    c.as_slice.ensures.value c.as_slice-2.ensures.value c.positions.ensures (none_found c.find.result _ c.is_none.result c.is_none.ensures e c.find.ensures.none) d f g h)

@@ -1,0 +1,195 @@
+-- Lists of places by cells.
+use Rattle.std.proofs.Common.{◌≡◌, ◌≢◌, ℕ, zero, suc, ℤ, ◌+◌, ◌-◌, ◌*◌, ◌/◌, ◌^◌, ◌<◌, ◌≤◌, ◌≤ℤ◌, Bool, true, false, List, [], ◌∷◌, ◌++◌, length, replicate, slice_index, slice_set, length-append, length-set, get_or-set_same, get_or-set_other, ◌&&◌, unsigned_abs, pos, ◌-ℤ◌, refl, ap, sym, subst, ◌∙◌, ◌⊎◌, inl, inr, arith}
+use Rattle.std.proofs.Math.Nat.{div-le_self, div-mul-le_self}
+use Rattle.std.proofs.lemmas.Bool.{cases_Bool, cases_eq, cases_lt}
+use Rattle.std.proofs.lemmas.List.{get_or-replicate, length-replicate, get_or_append_left, get_or_past, get_or_push}
+use Rattle.std.proofs.lemmas.Nat.{le-div, pow_pos}
+use Rattle.geometry.specs.Points.{Point}
+use Rattle.guarded_reduction.specs.declared.cell_lists.Grid.{Grid}
+use Rattle.guarded_reduction.specs.declared.extent.Extent.{Extent}
+use Rattle.guarded_reduction.specs.Cells.{AreChained, IsGrid, IsOn, NoneMeetsInRow, NoneMeetsInRows, NoneMeetsOn, cell_along, least, list_at, list_of}
+use Rattle.guarded_reduction.specs.Extents.{HoldsPoint}
+use Rattle.guarded_reduction.specs.Indexes.{NoneMeets, is_left_at, point_at}
+use Rattle.guarded_reduction.specs.Tests.{Reaches, Test}
+
+-- ---- cells
+
+div_mono : (a b d : ℕ) → 0 < d → a ≤ b → a / d ≤ b / d
+div_mono a b d p h = le-div (a / d) b d p (omega (arith, div-mul-le_self a d, h))
+
+abbrev from_least : ℤ → ℕ
+from_least x = unsigned_abs (x -ℤ least)
+
+from_least_mono : (x y : ℤ) → least ≤ℤ x → x ≤ℤ y → from_least x ≤ from_least y
+from_least_mono x y l h = grind arith
+
+-- cells are numbered as the numbers in them
+pub cell_mono : (bits : ℕ) (x y : ℤ) → least ≤ℤ x → x ≤ℤ y → cell_along bits x ≤ cell_along bits y
+unfolding cell_along
+cell_mono bits x y l h = div_mono (from_least x / 2) (from_least y / 2) (2 ^ bits) (pow_pos bits) (div_mono (from_least x) (from_least y) 2 (omega arith) (from_least_mono x y l h))
+
+-- ---- lists that are made
+
+-- no place is on a list
+pub chained_none : (bits mask many : ℕ) (ps : List Point) → AreChained bits mask ps (replicate many 0) [] 0
+chained_none bits mask many ps = record {
+  many = refl;
+  first = λ z h. absurd (omega (arith, h));
+  next = λ y z l h. absurd (omega (arith, h));
+  on_first = λ list h. absurd (none list (cases_lt list many) h);
+  on_next = λ z h. absurd (omega (arith, h));
+}
+  where
+    none : (list : ℕ) → (list < many) ⊎ (many ≤ list) → 0 < slice_index (replicate many 0) list → ⊥
+    none list (inl l) h = omega (arith, h, get_or-replicate {A = ℕ} many list 0 0 l)
+    none list (inr l) h = omega (arith, h, get_or_past {X = ℕ} (replicate many 0) list 0 (omega (arith, l, length-replicate {A = ℕ} many 0)))
+
+-- the next place is put on its list
+module _ (bits mask : ℕ) (ps : List Point) (firsts nexts more : List ℕ) (n list number : ℕ) (c : AreChained bits mask ps firsts nexts n) (on : list ≡ list_at bits mask (point_at ps n)) (within : list < length firsts)
+    (is : number ≡ n + 1) (pushed : more ≡ nexts ++ slice_index firsts list ∷ []) where
+  abbrev first_of : ℕ → ℕ
+  first_of l = slice_index (slice_set firsts list number) l
+
+  here_first : (l : ℕ) → l ≡ list → first_of l ≡ n + 1
+  here_first l e = ap first_of e ∙ get_or-set_same firsts list number 0 within ∙ is
+
+  other_first : (l : ℕ) → l ≢ list → first_of l ≡ slice_index firsts l
+  other_first l e = get_or-set_other firsts list l number 0 e
+
+  old_next : (z : ℕ) → z < n → slice_index more z ≡ slice_index nexts z
+  old_next z h = ap (λ (xs : List ℕ). slice_index xs z) pushed ∙ get_or_append_left nexts (slice_index firsts list ∷ []) 0 z (omega (arith, h, c.many))
+
+  new_next : (z : ℕ) → z ≡ n → slice_index more z ≡ slice_index firsts list
+  new_next z e = ap (λ (xs : List ℕ). slice_index xs z) pushed ∙ get_or_push nexts (slice_index firsts list) 0 z (c.many ∙ sym e)
+
+  list_here : (z : ℕ) → z ≡ n → list_at bits mask (point_at ps z) ≡ list
+  list_here z e = ap (λ (y : ℕ). list_at bits mask (point_at ps y)) e ∙ sym on
+
+  on_later : (m l k : ℕ) → m ≤ n → IsOn bits mask ps m l k → IsOn bits mask ps (n + 1) l k
+  on_later m l k h o = record { within = omega (arith, h, o.within); list_is = o.list_is }
+
+  firsts_at : (z : ℕ) → z < n + 1 → (list_at bits mask (point_at ps z) ≡ list) ⊎ (list_at bits mask (point_at ps z) ≢ list) → z < first_of (list_at bits mask (point_at ps z))
+  firsts_at z h (inl e) = omega (arith, h, here_first _ e)
+  firsts_at z h (inr e) = on_old (cases_eq z n)
+    where
+      on_old : (z ≡ n) ⊎ (z ≢ n) → z < first_of (list_at bits mask (point_at ps z))
+      on_old (inl q) = absurd (e (list_here z q))
+      on_old (inr q) = let l : z < n = omega (arith, h, q) in let k = c.first z l in omega (arith, k, other_first _ e)
+
+  nexts_at : (y z : ℕ) → y < z → z < n + 1 → list_at bits mask (point_at ps y) ≡ list_at bits mask (point_at ps z) → (z ≡ n) ⊎ (z ≢ n) → y < slice_index more z
+  nexts_at y z l h e (inl q) =
+      let k = c.first y (omega (arith, l, q)) in
+      let s : slice_index firsts (list_at bits mask (point_at ps y)) ≡ slice_index firsts list = ap (slice_index firsts) (e ∙ list_here z q) in
+      omega (arith, k, s, new_next z q)
+  nexts_at y z l h e (inr q) = let w : z < n = omega (arith, h, q) in let k = c.next y z l w e in omega (arith, k, old_next z w)
+
+  on_firsts : (l : ℕ) → 0 < first_of l → (l ≡ list) ⊎ (l ≢ list) → IsOn bits mask ps (n + 1) l (first_of l)
+  on_firsts l h (inl e) =
+      let k = here_first l e in
+      record { within = omega (arith, k); list_is = ap (λ (m : ℕ). list_at bits mask (point_at ps m)) (omega (arith, k)) ∙ list_here n refl ∙ sym e }
+  on_firsts l h (inr e) =
+      let k = other_first l e in
+      subst (IsOn bits mask ps (n + 1) l) (sym k) (on_later n l (slice_index firsts l) (omega arith) (c.on_first l (omega (arith, h, k))))
+
+  on_nexts : (z : ℕ) → z < n + 1 → 0 < slice_index more z → (z ≡ n) ⊎ (z ≢ n) → IsOn bits mask ps z (list_at bits mask (point_at ps z)) (slice_index more z)
+  on_nexts z h p (inl q) =
+      let k = new_next z q in
+      let o = c.on_first list (omega (arith, p, k)) in
+      record { within = omega (arith, k, o.within, q); list_is = ap (λ (m : ℕ). list_at bits mask (point_at ps (m - 1))) k ∙ o.list_is ∙ sym (list_here z q) }
+  on_nexts z h p (inr q) =
+      let w : z < n = omega (arith, h, q) in
+      let k = old_next z w in
+      subst (IsOn bits mask ps z (list_at bits mask (point_at ps z))) (sym k) (c.on_next z w (omega (arith, p, k)))
+
+  pub chained_more : AreChained bits mask ps (slice_set firsts list number) more (n + 1)
+  chained_more = record {
+    many = ap length pushed ∙ length-append nexts (slice_index firsts list ∷ []) ∙ omega (arith, c.many);
+    first = λ z h. firsts_at z h (cases_eq _ list);
+    next = λ y z l h e. nexts_at y z l h e (cases_eq z n);
+    on_first = λ l h. on_firsts l h (cases_eq l list);
+    on_next = λ z h p. on_nexts z h p (cases_eq z n);
+  }
+
+-- ---- lists that are gone through
+
+-- a list's places all come before its first number
+pub walk_begins : (ps : List Point) (bs : List Bool) (g : Grid) (test : Test) (list number : ℕ) → IsGrid ps g → number ≡ slice_index g.firsts.items list → NoneMeetsOn ps bs g test list number
+walk_begins ps bs g test list number a e = record { fails = λ z f w l _. let k = a.chained.first z w in absurd (omega (arith, f, k, e, ap (slice_index g.firsts.items) l)) }
+
+pub first_is_on : (ps : List Point) (g : Grid) (list number : ℕ) → IsGrid ps g → number ≡ slice_index g.firsts.items list → 0 < number → IsOn g.bits g.mask ps (length ps) list number
+first_is_on ps g list number a e h = subst (IsOn g.bits g.mask ps (length ps) list) (sym e) (a.chained.on_first list (omega (arith, h, e)))
+
+-- one place more doesn't meet the test
+pub walk_on : (ps : List Point) (bs : List Bool) (g : Grid) (test : Test) (list number place next : ℕ) → IsGrid ps g → 0 < number → place ≡ number - 1 → IsOn g.bits g.mask ps (length ps) list number → NoneMeetsOn ps bs g test list number →
+    (is_left_at bs place && test place (point_at ps place)) ≡ false → next ≡ slice_index g.nexts.items place → NoneMeetsOn ps bs g test list next
+walk_on ps bs g test list number place next a p e o none fails is = record { fails = λ z f w l s. on z f w l s (cases_lt z number) }
+  where
+    there : place < length ps
+    there = omega (arith, e, p, o.within)
+
+    here : list_at g.bits g.mask (point_at ps place) ≡ list
+    here = ap (λ (m : ℕ). list_at g.bits g.mask (point_at ps m)) e ∙ o.list_is
+
+    on : (z : ℕ) → next ≤ z → z < length ps → list_at g.bits g.mask (point_at ps z) ≡ list → is_left_at bs z ≡ true → (z < number) ⊎ (number ≤ z) →
+        test z (point_at ps z) ≡ false
+    on z f w l s (inr h) = none.fails z h w l s
+    on z f w l s (inl h) = at (cases_eq z place)
+      where
+        at : (z ≡ place) ⊎ (z ≢ place) → test z (point_at ps z) ≡ false
+        at (inl q) = grind (arith, fails, s, q)
+        at (inr q) = let k = a.chained.next z place (omega (arith, h, e, q)) there (l ∙ sym here) in absurd (omega (arith, k, f, is))
+
+-- the next one of the list
+pub next_is_on : (ps : List Point) (g : Grid) (list number place next : ℕ) → IsGrid ps g → 0 < number → place ≡ number - 1 → IsOn g.bits g.mask ps (length ps) list number → next ≡ slice_index g.nexts.items place → 0 < next →
+    (next < number) × IsOn g.bits g.mask ps (length ps) list next
+next_is_on ps g list number place next a p e o is h =
+    let there : place < length ps = omega (arith, e, p, o.within) in
+    let k = a.chained.on_next place there (omega (arith, h, is)) in (
+      omega (arith, k.within, is, e, p),
+      record { within = omega (arith, k.within, is, there); list_is = ap (λ (m : ℕ). list_at g.bits g.mask (point_at ps (m - 1))) is ∙ k.list_is ∙ ap (λ (m : ℕ). list_at g.bits g.mask (point_at ps m)) e ∙ o.list_is },
+    )
+
+-- ---- rows of cells
+
+pub row_begins : (ps : List Point) (bs : List Bool) (g : Grid) (test : Test) (row low high : ℕ) → high ≤ low → NoneMeetsInRow ps bs g test row low high
+row_begins ps bs g test row low high h = record { fails = λ z w s r l k. absurd (omega (arith, h, l, k)) }
+
+listed_at : (bits mask : ℕ) (p : Point) (column row list : ℕ) → list ≡ list_of mask column row → cell_along bits p.x ≡ column → cell_along bits p.y ≡ row → list_at bits mask p ≡ list
+unfolding list_at
+listed_at bits mask p column row list e h k = ap (λ (c : ℕ). list_of mask c (cell_along bits p.y)) h ∙ ap (list_of mask column) k ∙ sym e
+
+-- one cell more
+pub row_on : (ps : List Point) (bs : List Bool) (g : Grid) (test : Test) (row low column list : ℕ) → list ≡ list_of g.mask column row → NoneMeetsOn ps bs g test list 0 → NoneMeetsInRow ps bs g test row low column → NoneMeetsInRow ps bs g test row low (column + 1)
+row_on ps bs g test row low column list e on none = record { fails = λ z w s r l k. at z w s r l k (cases_eq (cell_along g.bits (point_at ps z).x) column) }
+  where
+    at : (z : ℕ) → z < length ps → is_left_at bs z ≡ true → cell_along g.bits (point_at ps z).y ≡ row → low ≤ cell_along g.bits (point_at ps z).x →
+        cell_along g.bits (point_at ps z).x < column + 1 → (cell_along g.bits (point_at ps z).x ≡ column) ⊎ (cell_along g.bits (point_at ps z).x ≢ column) → test z (point_at ps z) ≡ false
+    at z w s r l k (inl q) = on.fails z (omega arith) w (listed_at g.bits g.mask (point_at ps z) column row list e q r) s
+    at z w s r l k (inr q) = none.fails z w s r l (omega (arith, k, q))
+
+pub row_until : (ps : List Point) (bs : List Bool) (g : Grid) (test : Test) (row low column high : ℕ) → high ≤ column → NoneMeetsInRow ps bs g test row low column → NoneMeetsInRow ps bs g test row low high
+row_until ps bs g test row low column high h none = record { fails = λ z w s r l k. none.fails z w s r l (omega (arith, h, k)) }
+
+pub rows_begin : (ps : List Point) (bs : List Bool) (g : Grid) (test : Test) (low high low_row high_row : ℕ) → high_row ≤ low_row → NoneMeetsInRows ps bs g test low high low_row high_row
+rows_begin ps bs g test low high low_row high_row h = record { fails = λ row l k. absurd (omega (arith, h, l, k)) }
+
+-- one row more
+pub rows_on : (ps : List Point) (bs : List Bool) (g : Grid) (test : Test) (low high low_row row : ℕ) → NoneMeetsInRow ps bs g test row low high → NoneMeetsInRows ps bs g test low high low_row row → NoneMeetsInRows ps bs g test low high low_row (row + 1)
+rows_on ps bs g test low high low_row row on none = record { fails = λ r l k. at r l k (cases_eq r row) }
+  where
+    at : (r : ℕ) → low_row ≤ r → r < row + 1 → (r ≡ row) ⊎ (r ≢ row) → NoneMeetsInRow ps bs g test r low high
+    at r l k (inl q) = subst (λ (m : ℕ). NoneMeetsInRow ps bs g test m low high) (sym q) on
+    at r l k (inr q) = none.fails r l (omega (arith, k, q))
+
+-- what lies in a box lies in its cells
+pub all_within : (ps : List Point) (bs : List Bool) (g : Grid) (test : Test) (e : Extent) (low high low_row high_row : ℕ) → ((k : ℤ) → e.low_x ≤ℤ k → low ≤ cell_along g.bits k) → ((k : ℤ) → e.low_x ≤ℤ k → k ≤ℤ e.high_x → cell_along g.bits k < high) →
+    ((k : ℤ) → e.low_y ≤ℤ k → low_row ≤ cell_along g.bits k) → ((k : ℤ) → e.low_y ≤ℤ k → k ≤ℤ e.high_y → cell_along g.bits k < high_row) → Reaches e test → NoneMeetsInRows ps bs g test low high low_row high_row →
+    NoneMeets ps bs test
+all_within ps bs g test e low high low_row high_row left right below above r none = record { fails = λ z w s. on z w s (cases_Bool (test z (point_at ps z))) }
+  where
+    on : (z : ℕ) → z < length ps → is_left_at bs z ≡ true → (test z (point_at ps z) ≡ true) ⊎ (test z (point_at ps z) ≡ false) → test z (point_at ps z) ≡ false
+    on z w s (inr n) = n
+    on z w s (inl t) =
+        let p = point_at ps z in
+        let h = r.holds z p t in
+        (none.fails (cell_along g.bits p.y) (below p.y h.low_y) (above p.y h.low_y h.high_y)).fails z w s refl (left p.x h.low_x) (right p.x h.low_x h.high_x)

@@ -1,20 +1,15 @@
 -- Blocks while they are made, and what they show.
-use Rattle.std.proofs.Common.{◌≡◌, ℕ, ◌+◌, ◌-◌, ◌<◌, ◌≤◌, ◌/◌, ◌^◌, false, List, [], ◌∷◌, ◌++◌, length, slice_set, get_or-set_same, get_or-set_other, refl, sym, subst, ◌∙◌, ◌⊎◌, inl, inr, arith}
+use Rattle.std.proofs.Common.{◌≡◌, ℕ, ◌+◌, ◌-◌, ◌<◌, ◌≤◌, ◌/◌, ◌^◌, List, [], ◌∷◌, ◌++◌, length, slice_set, get_or-set_same, get_or-set_other, refl, sym, subst, ◌∙◌, ◌⊎◌, inl, inr, arith}
 use Rattle.std.proofs.lemmas.Bool.{cases_eq}
 use Rattle.std.proofs.lemmas.List.{get_or_append_left, get_or_push}
 use Rattle.std.proofs.lemmas.Nat.{shr-shr}
-use Rattle.guarded_meaning.specs.Segments.{Segment, meets_badly}
+use Rattle.guarded_meaning.specs.Segments.{Segment}
 use Rattle.guarded_reduction.specs.declared.block.Block.{Block}
 use Rattle.guarded_reduction.specs.declared.levels.Level.{Level}
 use Rattle.guarded_reduction.specs.declared.line.Line.{Line}
 use Rattle.guarded_reduction.specs.Blocks.{Covers}
 use Rattle.guarded_reduction.specs.Levels.{IsOver, NoneBadWithin, block_at, no_block}
 use Rattle.guarded_reduction.specs.Lines.{as_segment, line_at}
-
--- the first n segments are in the blocks, by eight
-pub record AreCovered (ls : List Line) (bs : List Block) (n : ℕ) : Type 0 where
-  pub within : (r : ℕ) → r < n → r / 8 < length bs
-  pub covers : (r : ℕ) → r < n → Covers (block_at bs (r / 8)) (as_segment (line_at ls r))
 
 -- what the first n blocks cover, the others do, by eight
 pub record AreGathered (bs cs : List Block) (n : ℕ) : Type 0 where
@@ -23,24 +18,6 @@ pub record AreGathered (bs cs : List Block) (n : ℕ) : Type 0 where
 
 abbrev pub Kept : List Block → List Block → Type 0
 Kept bs cs = (i : ℕ) (t : Segment) → i < length bs → Covers (block_at bs i) t → Covers (block_at cs i) t
-
-pub covered_next : (ls : List Line) (bs : List Block) (n : ℕ) → AreCovered ls bs n → n / 8 ≤ length bs
-covered_next ls bs n h = on (cases_eq n 0)
-  where
-    on : (n ≡ 0) ⊎ (n ≡ 0 → ⊥) → n / 8 ≤ length bs
-    on (inl e) = omega arith
-    on (inr m) = let k = h.within (n - 1) (omega (arith, m)) in omega (arith, k, m)
-
-pub covered_more : (ls : List Line) (bs cs : List Block) (n : ℕ) → AreCovered ls bs n → length bs ≤ length cs → Kept bs cs → n / 8 < length cs → Covers (block_at cs (n / 8)) (as_segment (line_at ls n)) → AreCovered ls cs (n + 1)
-covered_more ls bs cs n h g k w c = record { within = λ r p. within r p (cases_eq r n); covers = λ r p. covers r p (cases_eq r n) }
-  where
-    within : (r : ℕ) → r < n + 1 → (r ≡ n) ⊎ (r ≡ n → ⊥) → r / 8 < length cs
-    within r p (inl e) = subst (λ i. i / 8 < length cs) (sym e) w
-    within r p (inr m) = let i = h.within r (omega (arith, p, m)) in omega (arith, i, g)
-
-    covers : (r : ℕ) → r < n + 1 → (r ≡ n) ⊎ (r ≡ n → ⊥) → Covers (block_at cs (r / 8)) (as_segment (line_at ls r))
-    covers r p (inl e) = subst (λ i. Covers (block_at cs (i / 8)) (as_segment (line_at ls i))) (sym e) c
-    covers r p (inr m) = k (r / 8) (as_segment (line_at ls r)) (h.within r (omega (arith, p, m))) (h.covers r (omega (arith, p, m)))
 
 pub gathered_next : (bs cs : List Block) (n : ℕ) → AreGathered bs cs n → n / 8 ≤ length cs
 gathered_next bs cs n h = on (cases_eq n 0)
@@ -60,23 +37,16 @@ gathered_more bs cs ds n h g k w c = record { within = λ i p. within i p (cases
     covers i t p (inl e) q = subst (λ j. Covers (block_at ds (j / 8)) t) (sym e) (c t (subst (λ j. Covers (block_at bs j) t) e q))
     covers i t p (inr m) q = k (i / 8) t (h.within i (omega (arith, p, m))) (h.covers i t (omega (arith, p, m)) q)
 
--- the next level is over the segments that this one is over
-pub over_next : (ls : List Line) (level next : Level) → IsOver ls level → AreGathered level.blocks.items next.blocks.items (length level.blocks.items) → next.bits ≡ level.bits + 3 → level.bits < 56 → IsOver ls next
-over_next ls level next o g e small = record {
+-- the next level is over the units that this one is over
+pub over_next : (ls : List Line) (ss : List ℕ) (level next : Level) → IsOver ls ss level → AreGathered level.blocks.items next.blocks.items (length level.blocks.items) → next.bits ≡ level.bits + 3 → level.bits < 56 → IsOver ls ss next
+over_next ls ss level next o g e small = record {
   bits = omega (arith, e, small);
-  within = λ r p. subst (λ i. i < length next.blocks.items) (same r) (g.within (r / 2 ^ level.bits) (o.within r p));
-  covers = λ r p. subst (λ i. Covers (block_at next.blocks.items i) (as_segment (line_at ls r))) (same r) (g.covers (r / 2 ^ level.bits) (as_segment (line_at ls r)) (o.within r p) (o.covers r p));
+  within = λ u p. subst (λ i. i < length next.blocks.items) (same u) (g.within (u / 2 ^ level.bits) (o.within u p));
+  covers = λ u r p a b. subst (λ i. Covers (block_at next.blocks.items i) (as_segment (line_at ls r))) (same u) (g.covers (u / 2 ^ level.bits) (as_segment (line_at ls r)) (o.within u p) (o.covers u r p a b));
 }
   where
-    same : (r : ℕ) → r / 2 ^ level.bits / 8 ≡ r / 2 ^ next.bits
-    same r = shr-shr r level.bits 3 ∙ subst (λ b. r / 2 ^ (level.bits + 3) ≡ r / 2 ^ b) (sym e) refl
-
--- a block that is clear, and whose segments none meets badly
-pub none_in_block : (ls : List Line) (level : Level) (l : Line) (rank end : ℕ) → IsOver ls level → ((r : ℕ) → rank ≤ r → r < end → r / 2 ^ level.bits ≡ rank / 2 ^ level.bits) →
-    ((t : Segment) → Covers (block_at level.blocks.items (rank / 2 ^ level.bits)) t → meets_badly (as_segment l) t ≡ false) → NoneBadWithin ls l rank end
-none_in_block ls level l rank end o same clear = record {
-  none = λ r a b w. clear (as_segment (line_at ls r)) (subst (λ i. Covers (block_at level.blocks.items i) (as_segment (line_at ls r))) (same r a b) (o.covers r w));
-}
+    same : (u : ℕ) → u / 2 ^ level.bits / 8 ≡ u / 2 ^ next.bits
+    same u = shr-shr u level.bits 3 ∙ subst (λ b. u / 2 ^ (level.bits + 3) ≡ u / 2 ^ b) (sym e) refl
 
 pub none_at : (ls : List Line) (l : Line) (rank : ℕ) → NoneBadWithin ls l rank rank
 none_at ls l rank = record { none = λ r a b w. absurd (omega (arith, a, b)) }

@@ -36,6 +36,7 @@ pub mod Sided
 pub mod Starts
 pub mod Stretches
 pub mod Trees
+pub mod Units
 pub mod Unlinking
 pub mod Users
 pub mod Waits

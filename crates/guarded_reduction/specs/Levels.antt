@@ -1,5 +1,5 @@
 -- Blocks of segments, and what they show.
-use Rattle.std.specs.Prelude.{◌≡◌, ℕ, ◌<◌, ◌≤◌, ◌/◌, ◌^◌, false, List, length, slice_index_or}
+use Rattle.std.specs.Prelude.{◌≡◌, ℕ, ◌+◌, ◌<◌, ◌≤◌, ◌/◌, ◌^◌, false, List, length, slice_index_or}
 use Rattle.guarded_meaning.specs.Segments.{meets_badly}
 use Rattle.guarded_reduction.specs.Trees.{no_extent}
 use Rattle.guarded_reduction.specs.declared.block.Block.{Block}
@@ -18,11 +18,22 @@ no_block = record { extent = no_extent; first = no_star; second = no_star }
 unfoldable pub block_at : List Block → ℕ → Block
 block_at bs i = slice_index_or bs i no_block
 
--- each segment is in the block that its rank is in
-pub record IsOver (ls : List Line) (level : Level) : Type 0 where
+-- the rank that a unit begins with
+unfoldable pub start_at : List ℕ → ℕ → ℕ
+start_at ss u = slice_index_or ss u 0
+
+-- units of n segments: each begins where the one before it ends, and the last of these ranks is where the last unit ends
+pub record AreStarts (n : ℕ) (ss : List ℕ) : Type 0 where
+  pub some : 0 < length ss
+  pub first : start_at ss 0 ≡ 0
+  pub next : (u : ℕ) → u + 1 < length ss → start_at ss u < start_at ss (u + 1)
+  pub last : (u : ℕ) → u + 1 ≡ length ss → start_at ss u ≡ n
+
+-- each segment is in the block that its unit is in
+pub record IsOver (ls : List Line) (ss : List ℕ) (level : Level) : Type 0 where
   pub bits : level.bits < 60
-  pub within : (r : ℕ) → r < length ls → r / 2 ^ level.bits < length level.blocks.items
-  pub covers : (r : ℕ) → r < length ls → Covers (block_at level.blocks.items (r / 2 ^ level.bits)) (as_segment (line_at ls r))
+  pub within : (u : ℕ) → u + 1 < length ss → u / 2 ^ level.bits < length level.blocks.items
+  pub covers : (u r : ℕ) → u + 1 < length ss → start_at ss u ≤ r → r < start_at ss (u + 1) → Covers (block_at level.blocks.items (u / 2 ^ level.bits)) (as_segment (line_at ls r))
 
 -- none of these ranks is that of a segment that meets this one badly
 pub record NoneBadWithin (ls : List Line) (l : Line) (first end : ℕ) : Type 0 where

@@ -2,7 +2,7 @@
 ghost use Rattle.std.specs.Prelude.{◌≡◌, ◌+◌, ◌-◌, ◌<◌, ◌≤◌, length, map, min};
 ghost use Rattle.std.specs.List.{All};
 ghost use Rattle.guarded_meaning.specs.Segments.{bad_pairs};
-ghost use Rattle.guarded_reduction.specs.Levels.{IsOver};
+ghost use Rattle.guarded_reduction.specs.Levels.{AreStarts, IsOver, start_at};
 ghost use Rattle.guarded_reduction.specs.Lines.{as_segment, bad_across, bad_from, bad_inside};
 
 use crate::levels::Level;
@@ -10,38 +10,38 @@ use crate::line::{Line, is_bad_pair, read_line};
 use crate::probe::with_box;
 use crate::run::{Run, extent_round};
 use crate::skipping::skip_from;
+use crate::unit::run_of;
 
-/// So many segments, neighbours in their order, are counted together.
-const TOGETHER: usize = 8;
+/// After so many units that may have something for the segments of one, each of these goes on by itself.
+const MOST_UNITS: usize = 64;
 
-/// After so many blocks that may have something for the segments that are counted together, each of these goes on by itself.
-const MOST_BLOCKS: usize = 64;
-
-/// So many, and as many as segments from this rank on meet a segment badly; or the limit.
+/// So many, and as many as segments of this unit and later ones meet a segment badly; or the limit.
 pub fn count_from(
     lines: &[Line],
+    starts: &[usize],
     levels: &[Level],
     line: &Line,
-    rank: usize,
+    unit: usize,
     sofar: u64,
     limit: u64,
 ) -> u64
-    requires levels { All (IsOver lines.now) levels.now }
+    requires starts { AreStarts (length lines.now) starts.now }
+    requires levels { All (IsOver lines.now starts.now) levels.now }
+    requires unit { unit < length starts.now }
     requires sofar { sofar ≤ limit }
-    ensures { result ≡ min limit (sofar + bad_from lines.now line.now rank) }
+    ensures { result ≡ min limit (sofar + bad_from lines.now line.now (start_at starts.now unit)) }
 {
     let probe = with_box(line);
     let mut count = sofar;
-    let mut other = rank;
-    while other < lines.len() && count < limit {
-        let next = skip_from(lines, levels, &probe, other);
+    let mut other = unit;
+    while other + 1 < starts.len() && count < limit {
+        let next = skip_from(lines, starts, levels, &probe, other);
         if next > other {
             other = next;
             continue;
         }
-        if is_bad_pair(line, read_line(lines, other)) {
-            count += 1;
-        }
+        let run = run_of(lines, starts, other);
+        count = count_before(lines, line, run.first, run.end, count, limit);
         other += 1;
     }
     count
@@ -65,15 +65,6 @@ fn count_before(lines: &[Line], line: &Line, rank: usize, end: usize, sofar: u64
     count
 }
 
-/// Where the segments end that are counted together, from this rank on.
-fn end_from(lines: &[Line], rank: usize) -> usize
-    requires { rank < length lines.now }
-    ensures more { rank < result }
-    ensures within { result ≤ length lines.now }
-{
-    rank.saturating_add(TOGETHER).min(lines.len())
-}
-
 /// So many, and the pairs of two segments of a run that meet badly; or the limit.
 fn count_inside(lines: &[Line], run: Run, sofar: u64, limit: u64) -> u64
     requires run { run.end ≤ length lines.now }
@@ -94,109 +85,140 @@ fn count_inside(lines: &[Line], run: Run, sofar: u64, limit: u64) -> u64
     count
 }
 
-/// So many, and as many as segments of a run of others meet a segment badly; or the limit.
+/// So many, and as many as segments of a unit meet a segment badly; or the limit.
 fn count_near(
     lines: &[Line],
+    starts: &[usize],
     levels: &[Level],
     line: &Line,
-    others: Run,
+    unit: usize,
     sofar: u64,
     limit: u64,
 ) -> u64
-    requires levels { All (IsOver lines.now) levels.now }
-    requires others { others.first < others.end }
-    requires end { others.end ≤ length lines.now }
+    requires starts { AreStarts (length lines.now) starts.now }
+    requires levels { All (IsOver lines.now starts.now) levels.now }
+    requires unit { unit + 1 < length starts.now }
     requires sofar { sofar ≤ limit }
-    ensures { result ≡ min limit (sofar + (bad_from lines.now line.now others.first - bad_from lines.now line.now others.end)) }
+    ensures { result ≡ min limit (sofar + (bad_from lines.now line.now (start_at starts.now unit) - bad_from lines.now line.now (start_at starts.now (unit + 1)))) }
 {
-    if skip_from(lines, levels, &with_box(line), others.first) < others.end {
-        count_before(lines, line, others.first, others.end, sofar, limit)
-    } else {
-        sofar
+    if skip_from(lines, starts, levels, &with_box(line), unit) > unit {
+        return sofar;
     }
+    let run = run_of(lines, starts, unit);
+    count_before(lines, line, run.first, run.end, sofar, limit)
 }
 
-/// So many, and the pairs of a segment of a run and one of another that meet badly; or the limit.
+/// So many, and the pairs of a segment of a run and one of a unit that meet badly; or the limit.
 fn count_across(
     lines: &[Line],
+    starts: &[usize],
     levels: &[Level],
     run: Run,
-    others: Run,
+    unit: usize,
     sofar: u64,
     limit: u64,
 ) -> u64
-    requires levels { All (IsOver lines.now) levels.now }
+    requires starts { AreStarts (length lines.now) starts.now }
+    requires levels { All (IsOver lines.now starts.now) levels.now }
     requires run { run.end ≤ length lines.now }
-    requires others { others.first < others.end }
-    requires end { others.end ≤ length lines.now }
+    requires unit { unit + 1 < length starts.now }
     requires sofar { sofar ≤ limit }
-    ensures { result ≡ min limit (sofar + (bad_across lines.now run.first (run.end - run.first) others.first - bad_across lines.now run.first (run.end - run.first) others.end)) }
+    ensures { result ≡ min limit (sofar + (bad_across lines.now run.first (run.end - run.first) (start_at starts.now unit) - bad_across lines.now run.first (run.end - run.first) (start_at starts.now (unit + 1)))) }
 {
     let mut count = sofar;
     for rank in run.first..run.end {
-        count = count_near(lines, levels, read_line(lines, rank), others, count, limit);
+        count = count_near(
+            lines,
+            starts,
+            levels,
+            read_line(lines, rank),
+            unit,
+            count,
+            limit,
+        );
     }
     count
 }
 
-/// So many, and the pairs of a segment of a run and one from a rank on that meet badly, each segment of the run by itself; or the limit.
+/// So many, and the pairs of a segment of a run and one of this unit or a later one that meet badly, each segment of the run by itself; or the limit.
 fn count_each(
     lines: &[Line],
+    starts: &[usize],
     levels: &[Level],
     run: Run,
-    rank: usize,
+    unit: usize,
     sofar: u64,
     limit: u64,
 ) -> u64
-    requires levels { All (IsOver lines.now) levels.now }
+    requires starts { AreStarts (length lines.now) starts.now }
+    requires levels { All (IsOver lines.now starts.now) levels.now }
     requires run { run.end ≤ length lines.now }
+    requires unit { unit < length starts.now }
     requires sofar { sofar ≤ limit }
-    ensures { result ≡ min limit (sofar + bad_across lines.now run.first (run.end - run.first) rank) }
+    ensures { result ≡ min limit (sofar + bad_across lines.now run.first (run.end - run.first) (start_at starts.now unit)) }
 {
     let mut count = sofar;
     for own in run.first..run.end {
-        count = count_from(lines, levels, read_line(lines, own), rank, count, limit);
+        count = count_from(
+            lines,
+            starts,
+            levels,
+            read_line(lines, own),
+            unit,
+            count,
+            limit,
+        );
     }
     count
 }
 
-/// So many, and the pairs of a segment of a run and one behind the run that meet badly; or the limit.
-fn count_behind(lines: &[Line], levels: &[Level], run: Run, sofar: u64, limit: u64) -> u64
-    requires levels { All (IsOver lines.now) levels.now }
+/// So many, and the pairs of a segment of a run and one of this unit or a later one that meet badly; or the limit.
+fn count_behind(
+    lines: &[Line],
+    starts: &[usize],
+    levels: &[Level],
+    run: Run,
+    unit: usize,
+    sofar: u64,
+    limit: u64,
+) -> u64
+    requires starts { AreStarts (length lines.now) starts.now }
+    requires levels { All (IsOver lines.now starts.now) levels.now }
     requires run { run.end ≤ length lines.now }
+    requires unit { unit < length starts.now }
     requires sofar { sofar ≤ limit }
-    ensures { result ≡ min limit (sofar + bad_across lines.now run.first (run.end - run.first) run.end) }
+    ensures { result ≡ min limit (sofar + bad_across lines.now run.first (run.end - run.first) (start_at starts.now unit)) }
 {
     let extent = extent_round(lines, run);
     let mut count = sofar;
-    let mut rank = run.end;
-    let mut blocks = 0;
-    while rank < lines.len() && blocks < MOST_BLOCKS {
-        let next = skip_from(lines, levels, &extent, rank);
-        if next > rank {
-            rank = next;
+    let mut other = unit;
+    let mut units = 0;
+    while other + 1 < starts.len() && units < MOST_UNITS {
+        let next = skip_from(lines, starts, levels, &extent, other);
+        if next > other {
+            other = next;
             continue;
         }
-        let end = end_from(lines, rank);
-        count = count_across(lines, levels, run, Run { first: rank, end }, count, limit);
-        rank = end;
-        blocks += 1;
+        count = count_across(lines, starts, levels, run, other, count, limit);
+        other += 1;
+        units += 1;
     }
-    count_each(lines, levels, run, rank, count, limit)
+    count_each(lines, starts, levels, run, other, count, limit)
 }
 
 /// How many pairs of segments meet badly, or the limit, if they are more.
-pub fn count_pairs(lines: &[Line], levels: &[Level], limit: u64) -> u64
-    requires levels { All (IsOver lines.now) levels.now }
+pub fn count_pairs(lines: &[Line], starts: &[usize], levels: &[Level], limit: u64) -> u64
+    requires starts { AreStarts (length lines.now) starts.now }
+    requires levels { All (IsOver lines.now starts.now) levels.now }
     ensures { result ≡ min limit (bad_pairs (map as_segment lines.now)) }
 {
     let mut count = 0;
-    let mut rank = 0;
-    while rank < lines.len() {
-        let end = end_from(lines, rank);
-        count = count_inside(lines, Run { first: rank, end }, count, limit);
-        count = count_behind(lines, levels, Run { first: rank, end }, count, limit);
-        rank = end;
+    let mut unit = 0;
+    while unit + 1 < starts.len() {
+        let run = run_of(lines, starts, unit);
+        count = count_inside(lines, run, count, limit);
+        count = count_behind(lines, starts, levels, run, unit + 1, count, limit);
+        unit += 1;
     }
     count
 }

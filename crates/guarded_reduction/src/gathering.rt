@@ -82,7 +82,7 @@ fn goes_on(lines: &[Line], first: usize, rank: usize) -> bool
 }
 
 /// Where the segments end that stay together with the one of this rank, from there on.
-fn end_together(lines: &[Line], first: usize) -> usize
+pub fn end_together(lines: &[Line], first: usize) -> usize
     requires { first < length lines.now }
     ensures more { first < result }
     ensures within { result ≤ length lines.now }

@@ -1,22 +1,24 @@
-// Blocks of segments, and blocks of blocks.
+// Blocks of segments, one for each unit, and blocks of blocks.
 ghost use Rattle.std.specs.Prelude.{◌≡◌, ◌+◌, ◌<◌, ◌≤◌, ℕ, IfOk, OnOk, length};
 ghost use Rattle.std.specs.List.{All};
 ghost use Rattle.guarded_meaning.specs.Segments.{Segment};
 ghost use Rattle.guarded_reduction.specs.Blocks.{Covers};
-ghost use Rattle.guarded_reduction.specs.Levels.{IsOver, block_at};
+ghost use Rattle.guarded_reduction.specs.Levels.{AreStarts, IsOver, block_at};
 
-use crate::block::{Block, block_of, block_of_both};
-use crate::line::{Line, read_line};
+use crate::block::{Block, block_of_both};
+use crate::line::Line;
+use crate::run::block_round;
+use crate::unit::run_of;
 use owned_values::Memory;
 use std::alloc::Global;
 
-/// A block of the first level has two to this many segments, and one of the next two to this many blocks.
+/// A block of the first level has one unit, and one of the next two to this many blocks.
 const FAN_BITS: u32 = 3;
 
-/// Two to this many segments are more than memory holds.
+/// Two to this many units are more than memory holds.
 const MOST_BITS: u32 = 56;
 
-/// Blocks of segments, one after another, each of two to so many: the last may have fewer.
+/// Blocks of units, one after another, each of two to so many: the last may have fewer.
 #[derive(Drop)]
 pub struct Level {
     pub bits: u32,
@@ -49,29 +51,30 @@ fn add(blocks: &mut Vec<Block>, at: usize, more: &Block) -> Result<(), Memory>
     Ok(())
 }
 
-/// Blocks of eight segments.
-fn first_level(alloc: Global, lines: &[Line]) -> Result<Level, Memory>
-    ensures over { IfOk result (λ level. IsOver lines.now level) }
+/// A block of each unit.
+fn first_level(alloc: Global, lines: &[Line], starts: &[usize]) -> Result<Level, Memory>
+    requires { AreStarts (length lines.now) starts.now }
+    ensures over { IfOk result (λ level. IsOver lines.now starts.now level) }
 {
-    let mut blocks = Vec::with_capacity(alloc, (lines.len() >> FAN_BITS) + 1)?;
-    for rank in 0..lines.len() {
-        add(
-            &mut blocks,
-            rank >> FAN_BITS,
-            &block_of(read_line(lines, rank)),
-        )?;
+    let mut blocks = Vec::with_capacity(alloc, starts.len())?;
+    let mut unit = 0;
+    while unit + 1 < starts.len() {
+        blocks.push(block_round(lines, run_of(lines, starts, unit)))?;
+        unit += 1;
     }
-    Ok(Level {
-        bits: FAN_BITS,
-        blocks,
-    })
+    Ok(Level { bits: 0, blocks })
 }
 
 /// Blocks of eight blocks.
-fn next_level(alloc: Global, lines: &[Line], level: &Level) -> Result<Level, Memory>
-    requires over { IsOver lines.now level.now }
+fn next_level(
+    alloc: Global,
+    lines: &[Line],
+    starts: &[usize],
+    level: &Level,
+) -> Result<Level, Memory>
+    requires over { IsOver lines.now starts.now level.now }
     requires bits { level.now.bits < 56 }
-    ensures over { IfOk result (λ next. IsOver lines.now next) }
+    ensures over { IfOk result (λ next. IsOver lines.now starts.now next) }
     ensures bits { IfOk result (λ next. next.bits ≡ level.now.bits + 3) }
 {
     let mut blocks = Vec::with_capacity(alloc, (level.blocks.len() >> FAN_BITS) + 1)?;
@@ -88,14 +91,15 @@ fn next_level(alloc: Global, lines: &[Line], level: &Level) -> Result<Level, Mem
     })
 }
 
-/// Blocks of segments, blocks of these, and so on until there is one.
-pub fn levels_over(alloc: Global, lines: &[Line]) -> Result<Vec<Level>, Memory>
-    ensures { IfOk result (λ levels. All (IsOver lines.now) levels.items) }
+/// Blocks of units, blocks of these, and so on until there is one.
+pub fn levels_over(alloc: Global, lines: &[Line], starts: &[usize]) -> Result<Vec<Level>, Memory>
+    requires { AreStarts (length lines.now) starts.now }
+    ensures { IfOk result (λ levels. All (IsOver lines.now starts.now) levels.items) }
 {
     let mut levels = Vec::new(alloc);
-    let mut level = first_level(alloc, lines)?;
+    let mut level = first_level(alloc, lines, starts)?;
     while level.blocks.len() > 1 && level.bits < MOST_BITS {
-        let next = next_level(alloc, lines, &level)?;
+        let next = next_level(alloc, lines, starts, &level)?;
         levels.push(level)?;
         level = next;
     }

@@ -11,12 +11,12 @@
 //! to another (`src/kept_rings.rt`). Each look is a search of the index and a step of the heap; how many there are, and how many cells or boxes each goes
 //! through, is not promised. Where no crossing may be made and no ring has to stay, each arc is reduced by itself, as long as no corner of it that goes
 //! meets another arc, and those together of which one does (`src/parts.rt`): `WholeArcs` has the cells of all places, of which none goes, for that.
-//! `crossings_with` counts pairs of segments that meet badly, and gives the first of them. Segments of an arc, one after another, stay together, and
-//! these stretches are halved in the same way. Blocks of eight neighbours have a box round them, and so do eight blocks, and so on; and where all
-//! segments of a block have one end, as those of a star, the others have a box of their own. For eight neighbours at once the later blocks are gone
-//! through, without those whose boxes are apart from theirs, and then for each of the eight without those of which such a box shows that no segment
-//! meets it badly; after many blocks each goes on by itself. How many are left is not promised. The pairs are looked for in the order of the arcs,
-//! among the segments that others meet badly.
+//! `crossings_with` counts pairs of segments that meet badly, and gives the first of them. Up to eight segments of an arc, one after another, stay
+//! together, and these stretches are halved in the same way. A stretch, or a few short ones in that order, is a unit (`src/unit.rt`). Each unit has a
+//! box round it, and so do eight units, eight of these, and so on; and where all segments of such a block have one end, as those of a star, the others
+//! have a box of their own. For the segments of a unit at once the later units are gone through, without the blocks whose boxes are apart from theirs,
+//! and then for each of them without those of which such a box shows that no segment meets it badly; after many units each goes on by itself. How many
+//! are left is not promised. The pairs are looked for in the order of the arcs, among the segments that others meet badly.
 #![tactic(auto)]
 
 mod beside;
@@ -61,6 +61,7 @@ mod skipping;
 mod surroundings;
 mod triangle;
 mod turns;
+mod unit;
 mod waiting_lists;
 mod weighing;
 mod whole_arcs;

@@ -4,7 +4,7 @@ ghost use Rattle.std.specs.List.{All};
 ghost use Rattle.guarded_meaning.specs.Arcs.{crossings, segments};
 ghost use Rattle.guarded_reduction.specs.Crossings.{crossing_pairs};
 ghost use Rattle.guarded_reduction.specs.Gathering.{AreSame};
-ghost use Rattle.guarded_reduction.specs.Levels.{IsOver};
+ghost use Rattle.guarded_reduction.specs.Levels.{AreStarts, IsOver};
 ghost use Rattle.guarded_reduction.specs.Lines.{as_segment, bad_from, line_at, pairs_from};
 
 use crate::counting::{count_from, count_pairs};
@@ -12,6 +12,7 @@ use crate::crossing::{Crossing, pair_of};
 use crate::gathering::{lines_in_order, lines_of};
 use crate::levels::{Level, levels_over};
 use crate::line::{Line, is_bad_pair, read_line};
+use crate::unit::starts_of;
 use geometry::Position;
 use owned_values::{Items, Memory};
 use std::alloc::Global;
@@ -28,11 +29,12 @@ fn pairs_to_give(count: u64, limit: u64, most: usize) -> usize
 }
 
 /// Of all segments none but itself meets this one badly, if the answer is yes.
-fn is_alone(near: &[Line], levels: &[Level], line: &Line) -> bool
-    requires { All (IsOver near.now) levels.now }
+fn is_alone(near: &[Line], starts: &[usize], levels: &[Level], line: &Line) -> bool
+    requires starts { AreStarts (length near.now) starts.now }
+    requires levels { All (IsOver near.now starts.now) levels.now }
     ensures { result ≡ true → bad_from near.now line.now 0 ≤ 1 }
 {
-    count_from(near, levels, line, 0, 0, 2) < 2
+    count_from(near, starts, levels, line, 0, 0, 2) < 2
 }
 
 /// Puts the pairs of the segment of this rank and later ones after the others, up to so many in all.
@@ -64,17 +66,19 @@ fn pairs_in_order(
     alloc: Global,
     lines: &[Line],
     near: &[Line],
+    starts: &[usize],
     levels: &[Level],
     most: usize,
 ) -> Result<Vec<Crossing>, Memory>
     requires near { AreSame (map as_segment lines.now) (map as_segment near.now) }
-    requires levels { All (IsOver near.now) levels.now }
+    requires starts { AreStarts (length near.now) starts.now }
+    requires levels { All (IsOver near.now starts.now) levels.now }
     ensures { IfOk result (λ pairs. pairs.items ≡ take most (crossing_pairs (map as_segment lines.now))) }
 {
     let mut pairs = Vec::new(alloc);
     let mut rank = 0;
     while rank < lines.len() && pairs.len() < most {
-        if !is_alone(near, levels, read_line(lines, rank)) {
+        if !is_alone(near, starts, levels, read_line(lines, rank)) {
             put_pairs(lines, rank, most, &mut pairs)?;
         }
         rank += 1;
@@ -87,18 +91,20 @@ fn first_pairs(
     alloc: Global,
     arcs: &[Items<Position>],
     near: &[Line],
+    starts: &[usize],
     levels: &[Level],
     most: usize,
 ) -> Result<Vec<Crossing>, Memory>
     requires near { AreSame (segments arcs.now) (map as_segment near.now) }
-    requires levels { All (IsOver near.now) levels.now }
+    requires starts { AreStarts (length near.now) starts.now }
+    requires levels { All (IsOver near.now starts.now) levels.now }
     ensures { IfOk result (λ pairs. pairs.items ≡ take most (crossing_pairs (segments arcs.now))) }
 {
     if most == 0 {
         return Ok(Vec::new(alloc));
     }
     let lines = lines_of(alloc, arcs)?;
-    let pairs = pairs_in_order(alloc, &lines, near, levels, most)?;
+    let pairs = pairs_in_order(alloc, &lines, near, starts, levels, most)?;
     Ok(pairs)
 }
 
@@ -114,9 +120,10 @@ pub fn crossings_with(
     ensures found { IfOk result (λ r. r.1.items ≡ take most (crossing_pairs (segments arcs.now))) }
 {
     let lines = lines_in_order(alloc, arcs)?;
-    let levels = levels_over(alloc, &lines)?;
-    let count = count_pairs(&lines, &levels, limit);
+    let starts = starts_of(alloc, &lines)?;
+    let levels = levels_over(alloc, &lines, &starts)?;
+    let count = count_pairs(&lines, &starts, &levels, limit);
     let many = pairs_to_give(count, limit, most);
-    let pairs = first_pairs(alloc, arcs, &lines, &levels, many)?;
+    let pairs = first_pairs(alloc, arcs, &lines, &starts, &levels, many)?;
     Ok((count, pairs))
 }

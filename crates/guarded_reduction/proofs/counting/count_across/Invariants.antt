@@ -1,4 +1,5 @@
 use Rattle.std.proofs.Common.{◌≡◌, ◌+◌, ◌-◌, ◌≤◌, min}
+use Rattle.guarded_reduction.specs.Levels.{start_at}
 use Rattle.guarded_reduction.specs.Lines.{bad_across}
 use Rattle.guarded_reduction.proofs.counting.count_across.Given as goal
 
@@ -6,6 +7,6 @@ use Rattle.guarded_reduction.proofs.counting.count_across.Given as goal
 abbrev pub invariant-loop-rank : goal.invariant-loop-rank
 invariant-loop-rank l = record {
   count : l.count ≤ l.limit;
-  all : min l.limit (l.count + (bad_across l.lines l.rank (l.fn.run.end - l.rank) l.others.first - bad_across l.lines l.rank (l.fn.run.end - l.rank) l.others.end))
-      ≡ min l.limit (l.sofar + (bad_across l.lines l.fn.run.first (l.fn.run.end - l.fn.run.first) l.others.first - bad_across l.lines l.fn.run.first (l.fn.run.end - l.fn.run.first) l.others.end));
+  all : min l.limit (l.count + (bad_across l.lines l.rank (l.fn.run.end - l.rank) (start_at l.starts l.unit) - bad_across l.lines l.rank (l.fn.run.end - l.rank) (start_at l.starts (l.unit + 1))))
+      ≡ min l.limit (l.sofar + (bad_across l.lines l.fn.run.first (l.fn.run.end - l.fn.run.first) (start_at l.starts l.unit) - bad_across l.lines l.fn.run.first (l.fn.run.end - l.fn.run.first) (start_at l.starts (l.unit + 1))));
 }

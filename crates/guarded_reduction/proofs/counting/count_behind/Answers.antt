@@ -1,25 +1,36 @@
-use Rattle.std.proofs.Common.{◌-◌, arith}
+use Rattle.std.proofs.Common.{◌+◌, ◌-◌, arith}
+use Rattle.guarded_reduction.specs.Levels.{start_at}
 use Rattle.guarded_reduction.specs.Lines.{line_at}
 use Rattle.guarded_reduction.proofs.Across.{across_fewer, across_skipped}
+use Rattle.guarded_reduction.proofs.Units.{not_before}
 use Rattle.guarded_reduction.proofs.counting.count_behind.Goals as goal
 
-pub loop-rank-preserved-then-next-rank : goal.loop-rank-preserved-then-next-rank
-loop-rank-preserved-then-next-rank c =
+pub loop-other-preserved-then-next-other : goal.loop-other-preserved-then-next-other
+loop-other-preserved-then-next-other c =
     let ls = c.args.lines.now in
+    let ss = c.args.starts.now in
     let n = c.args.run.end - c.args.run.first in
-    let same = across_skipped ls n c.args.run.first c.loop-rank.rank c.skip_from-next.result c.skip_from-next.ensures.from
+    let next = c.skip_from-next.result in
+    let there = c.skip_from-next.ensures.within in
+    let from = not_before _ ss c.loop-other.other next c.requires.starts c.skip_from-next.ensures.from (omega (arith, there)) in
+    let same = across_skipped ls n c.args.run.first (start_at ss c.loop-other.other) (start_at ss next) from
     (λ i a b. c.skip_from-next.ensures.none (line_at ls i) (c.extent_round-extent.ensures i a (omega (arith, a, b)))) in
     record {
-      count = c.loop-rank.invariant.count;
-      all = omega (arith, same, c.loop-rank.invariant.all);
+      within = omega (arith, there);
+      count = c.loop-other.invariant.count;
+      all = omega (arith, same, c.loop-other.invariant.all);
     }
 
-pub loop-rank-preserved : goal.loop-rank-preserved
-loop-rank-preserved c =
+pub loop-other-preserved : goal.loop-other-preserved
+loop-other-preserved c =
+    let ss = c.args.starts.now in
+    let o = c.loop-other.other in
     let n = c.args.run.end - c.args.run.first in
-    let fewer = across_fewer c.args.lines.now n c.args.run.first c.loop-rank.rank c.end_from-end.result (omega (arith, c.end_from-end.ensures.more)) in
+    let less = c.requires.starts.next o (omega (arith, c.loop-other-test.true)) in
+    let fewer = across_fewer c.args.lines.now n c.args.run.first (start_at ss o) (start_at ss (o + 1)) (omega (arith, less)) in
     let e = c.count_across-count.ensures in
     record {
+      within = omega (arith, c.loop-other-test.true);
       count = omega (arith, e);
-      all = omega (arith, e, fewer, c.loop-rank.invariant.all);
+      all = omega (arith, e, fewer, c.loop-other.invariant.all);
     }

@@ -1,13 +1,15 @@
-use Rattle.std.proofs.Common.{◌≡◌, ◌+◌, ◌-◌, ◌≤◌, length, min}
+use Rattle.std.proofs.Common.{◌≡◌, ◌+◌, ◌-◌, ◌<◌, ◌≤◌, length, min}
+use Rattle.guarded_reduction.specs.Levels.{start_at}
 use Rattle.guarded_reduction.specs.Lines.{bad_across}
 use Rattle.guarded_reduction.proofs.counting.count_behind.Given as goal
 
 -- with those ahead they are all
-abbrev pub invariant-loop-rank : goal.invariant-loop-rank
-invariant-loop-rank l = record {
+abbrev pub invariant-loop-other : goal.invariant-loop-other
+invariant-loop-other l = record {
+  within : l.other < length l.starts;
   count : l.count ≤ l.limit;
-  all : min l.limit (l.count + bad_across l.lines l.run.first (l.run.end - l.run.first) l.rank) ≡ min l.limit (l.sofar + bad_across l.lines l.run.first (l.run.end - l.run.first) l.run.end);
+  all : min l.limit (l.count + bad_across l.lines l.run.first (l.run.end - l.run.first) (start_at l.starts l.other)) ≡ min l.limit (l.sofar + bad_across l.lines l.run.first (l.run.end - l.run.first) (start_at l.starts l.unit));
 }
 
-abbrev pub decreases-loop-rank : goal.decreases-loop-rank
-decreases-loop-rank l = length l.lines - l.rank
+abbrev pub decreases-loop-other : goal.decreases-loop-other
+decreases-loop-other l = length l.starts - l.other

@@ -1,13 +1,14 @@
 use Rattle.std.proofs.Common.{ap, arith}
 use Rattle.guarded_reduction.specs.declared.line.Line.{Line}
+use Rattle.guarded_reduction.specs.Levels.{start_at}
 use Rattle.guarded_reduction.specs.Lines.{bad_from}
 use Rattle.guarded_reduction.proofs.Across.{across_ahead, across_none}
 use Rattle.guarded_reduction.proofs.counting.count_each.Goals as goal
 
 pub loop-own-preserved : goal.loop-own-preserved
 loop-own-preserved c =
-    let next = across_ahead c.args.lines.now c.loop-own.own c.args.run.end c.args.rank c.loop-own-test.true in
-    let same = ap (λ (l : Line). bad_from c.args.lines.now l c.args.rank) c.read_line.ensures in
+    let next = across_ahead c.args.lines.now c.loop-own.own c.args.run.end (start_at c.args.starts.now c.args.unit) c.loop-own-test.true in
+    let same = ap (λ (l : Line). bad_from c.args.lines.now l (start_at c.args.starts.now c.args.unit)) c.read_line.ensures in
     let e = c.count_from-count.ensures in
     record {
       count = omega (arith, e);
@@ -16,5 +17,5 @@ loop-own-preserved c =
 
 pub returns : goal.returns
 returns c =
-    let none = across_none c.args.lines.now c.loop-own.own c.args.run.end c.args.rank (omega (arith, c.loop-own-test.false)) in
+    let none = across_none c.args.lines.now c.loop-own.own c.args.run.end (start_at c.args.starts.now c.args.unit) (omega (arith, c.loop-own-test.false)) in
     omega (arith, c.loop-own.invariant.all, c.loop-own.invariant.count, none)

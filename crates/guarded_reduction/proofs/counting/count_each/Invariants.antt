@@ -1,4 +1,5 @@
 use Rattle.std.proofs.Common.{◌≡◌, ◌+◌, ◌-◌, ◌≤◌, min}
+use Rattle.guarded_reduction.specs.Levels.{start_at}
 use Rattle.guarded_reduction.specs.Lines.{bad_across}
 use Rattle.guarded_reduction.proofs.counting.count_each.Given as goal
 
@@ -6,5 +7,5 @@ use Rattle.guarded_reduction.proofs.counting.count_each.Given as goal
 abbrev pub invariant-loop-own : goal.invariant-loop-own
 invariant-loop-own l = record {
   count : l.count ≤ l.limit;
-  all : min l.limit (l.count + bad_across l.lines l.own (l.fn.run.end - l.own) l.rank) ≡ min l.limit (l.sofar + bad_across l.lines l.fn.run.first (l.fn.run.end - l.fn.run.first) l.rank);
+  all : min l.limit (l.count + bad_across l.lines l.own (l.fn.run.end - l.own) (start_at l.starts l.unit)) ≡ min l.limit (l.sofar + bad_across l.lines l.fn.run.first (l.fn.run.end - l.fn.run.first) (start_at l.starts l.unit));
 }

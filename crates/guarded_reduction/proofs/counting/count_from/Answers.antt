@@ -1,28 +1,37 @@
 use Rattle.std.proofs.Common.{◌+◌, ap, sym, ◌∙◌, min, arith}
-use Rattle.guarded_meaning.specs.Segments.{meets_badly}
-use Rattle.guarded_reduction.specs.declared.line.Line.{Line}
-use Rattle.guarded_reduction.specs.Lines.{as_segment, bad_from}
-use Rattle.guarded_reduction.proofs.Counts.{one}
-use Rattle.guarded_reduction.proofs.Lines.{one_ahead, skipped}
+use Rattle.guarded_reduction.specs.Levels.{start_at}
+use Rattle.guarded_reduction.specs.Lines.{bad_from}
+use Rattle.guarded_reduction.proofs.Lines.{later_fewer, skipped}
+use Rattle.guarded_reduction.proofs.Units.{not_before}
 use Rattle.guarded_reduction.proofs.counting.count_from.Goals as goal
-use Rattle.guarded_reduction.proofs.counting.count_from.Goals.{then-is_bad_pair, else-is_bad_pair}
 
 pub loop-other-preserved-then-next-other : goal.loop-other-preserved-then-next-other
-loop-other-preserved-then-next-other c = record {
-  count = c.loop-other.invariant.count;
-  all = ap (λ n. min c.args.limit (c.loop-other.count + n)) (sym (skipped c.args.lines.now c.args.line.now c.loop-other.other c.skip_from-next.result c.skip_from-next.ensures.from (c.skip_from-next.ensures.none c.args.line.now c.with_box-probe.ensures.among))) ∙ c.loop-other.invariant.all;
-}
+loop-other-preserved-then-next-other c =
+    let ls = c.args.lines.now in
+    let ss = c.args.starts.now in
+    let l = c.args.line.now in
+    let next = c.skip_from-next.result in
+    let there = c.skip_from-next.ensures.within in
+    let from = not_before _ ss c.loop-other.other next c.requires.starts c.skip_from-next.ensures.from (omega (arith, there)) in
+    record {
+      within = omega (arith, there);
+      count = c.loop-other.invariant.count;
+      all = ap (λ n. min c.args.limit (c.loop-other.count + n)) (sym (skipped ls l (start_at ss c.loop-other.other) (start_at ss next) from (c.skip_from-next.ensures.none l c.with_box-probe.ensures.among))) ∙ c.loop-other.invariant.all;
+    }
 
 pub loop-other-preserved : goal.loop-other-preserved
 loop-other-preserved c =
-    let is = c.is_bad_pair.ensures ∙ ap (λ (l : Line). meets_badly (as_segment c.args.line.now) (as_segment l)) c.read_line.ensures in
-    let next = one_ahead c.args.lines.now c.args.line.now c.loop-other.other c.loop-other-test.true in
-    let a = c.loop-other.invariant.all in
-    elim c.if-is_bad_pair.branch [
-      | then-is_bad_pair w ↦
-          let more = next ∙ ap (λ b. one b + bad_from c.args.lines.now c.args.line.now (c.loop-other.other + 1)) (sym is ∙ w.if-is_bad_pair.true) in
-          record { count = omega (arith, w.count-is, c.if-count-limit.true); all = omega (arith, a, more, w.count-is) }
-      | else-is_bad_pair w ↦
-          let more = next ∙ ap (λ b. one b + bad_from c.args.lines.now c.args.line.now (c.loop-other.other + 1)) (sym is ∙ w.if-is_bad_pair.false) in
-          record { count = omega (arith, w.count-is, c.loop-other.invariant.count); all = omega (arith, a, more, w.count-is) }
-    ]
+    let ls = c.args.lines.now in
+    let ss = c.args.starts.now in
+    let l = c.args.line.now in
+    let o = c.loop-other.other in
+    let less = c.requires.starts.next o (omega (arith, c.loop-other-test.true)) in
+    let fewer = later_fewer ls l (start_at ss o) (start_at ss (o + 1)) (omega (arith, less)) in
+    let first = ap (bad_from ls l) c.run_of-run.ensures.first in
+    let end = ap (bad_from ls l) c.run_of-run.ensures.end in
+    let e = c.count_before-count.ensures in
+    record {
+      within = omega (arith, c.loop-other-test.true);
+      count = omega (arith, e);
+      all = omega (arith, c.loop-other.invariant.all, e, first, end, fewer);
+    }

@@ -1,12 +1,18 @@
-use Rattle.std.proofs.Common.{arith}
+use Rattle.std.proofs.Common.{◌+◌, arith}
+use Rattle.guarded_reduction.specs.Levels.{start_at}
 use Rattle.guarded_reduction.proofs.Lines.{later_fewer, skipped}
+use Rattle.guarded_reduction.proofs.Units.{not_before}
 use Rattle.guarded_reduction.proofs.counting.count_near.Goals as goal
 
--- none of the block is left
-pub returns-else-skip_from-others : goal.returns-else-skip_from-others
-returns-else-skip_from-others c =
+-- none of the unit is left
+pub returns-then-skip_from-unit : goal.returns-then-skip_from-unit
+returns-then-skip_from-unit c =
     let ls = c.args.lines.now in
+    let ss = c.args.starts.now in
     let l = c.args.line.now in
-    let e = skipped ls l c.args.others.first c.skip_from.result c.skip_from.ensures.from (c.skip_from.ensures.none l c.with_box.ensures.among) in
-    let f = later_fewer ls l c.args.others.end c.skip_from.result (omega (arith, c.if-skip_from-others.false)) in
+    let next = c.skip_from.result in
+    let there = c.skip_from.ensures.within in
+    let from = not_before _ ss c.args.unit next c.requires.starts c.skip_from.ensures.from (omega (arith, there)) in
+    let e = skipped ls l (start_at ss c.args.unit) (start_at ss next) from (c.skip_from.ensures.none l c.with_box.ensures.among) in
+    let f = later_fewer ls l (start_at ss (c.args.unit + 1)) (start_at ss next) (not_before _ ss (c.args.unit + 1) next c.requires.starts (omega (arith, c.if-skip_from-unit.true)) (omega (arith, there))) in
     omega (arith, e, f, c.requires.sofar)

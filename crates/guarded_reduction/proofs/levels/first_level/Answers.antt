@@ -1,10 +1,15 @@
-use Rattle.std.proofs.Common.{subst}
-use Rattle.guarded_reduction.specs.declared.line.Line.{Line}
-use Rattle.guarded_reduction.specs.Blocks.{Covers}
-use Rattle.guarded_reduction.specs.Lines.{as_segment}
-use Rattle.guarded_reduction.proofs.Covering.{covered_more}
+use Rattle.std.proofs.Common.{◌+◌, List, refl, sym, subst, arith}
+use Rattle.guarded_reduction.specs.declared.block.Block.{Block}
+use Rattle.guarded_reduction.proofs.Units.{AreCovered, covered_more, first_over, none_covered}
 use Rattle.guarded_reduction.proofs.levels.first_level.Goals as goal
 
-pub loop-rank-preserved : goal.loop-rank-preserved
-loop-rank-preserved c = covered_more c.args.lines.now c.loop-rank.blocks.items c.add.new.blocks.items c.loop-rank.rank c.loop-rank.invariant c.in_ok-add.ensures.grows c.in_ok-add.ensures.kept c.in_ok-add.ensures.within
-    (c.in_ok-add.ensures.there _ (subst (λ (l : Line). Covers c.block_of.result (as_segment l)) c.read_line.ensures c.block_of.ensures))
+pub loop-unit-init : goal.loop-unit-init
+loop-unit-init c = subst (λ (bs : List Block). AreCovered c.args.lines.now c.args.starts.now bs 0) (sym c.in_ok-blocks.ensures.items) (none_covered c.args.lines.now c.args.starts.now)
+
+pub loop-unit-preserved : goal.loop-unit-preserved
+loop-unit-preserved c = subst (λ (bs : List Block). AreCovered c.args.lines.now c.args.starts.now bs (c.loop-unit.unit + 1)) (sym c.in_ok-push.ensures.items)
+    (covered_more c.args.lines.now c.args.starts.now c.loop-unit.blocks.items c.block_round.result c.loop-unit.unit c.loop-unit.invariant
+    (λ r a b. c.block_round.ensures r (omega (arith, a, c.run_of.ensures.first)) (omega (arith, b, c.run_of.ensures.end))))
+
+pub returns : goal.returns
+returns c = record { over = first_over c.args.lines.now c.args.starts.now (record { bits = 0; blocks = c.loop-unit.blocks }) c.loop-unit.unit c.loop-unit.invariant (omega (arith, c.loop-unit-test.false)) refl }

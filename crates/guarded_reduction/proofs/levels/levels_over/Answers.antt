@@ -7,9 +7,9 @@ use Rattle.guarded_reduction.proofs.levels.levels_over.Goals as goal
 
 pub loop-alloc-preserved : goal.loop-alloc-preserved
 loop-alloc-preserved c = record {
-  levels = subst (λ (xs : List Level). All (IsOver c.args.lines.now) xs) (sym c.in_ok-push.ensures.items) (All-push (IsOver c.args.lines.now) c.loop-alloc.levels.items c.loop-alloc.level c.loop-alloc.invariant.levels c.loop-alloc.invariant.level);
+  levels = subst (λ (xs : List Level). All (IsOver c.args.lines.now c.args.starts.now) xs) (sym c.in_ok-push.ensures.items) (All-push (IsOver c.args.lines.now c.args.starts.now) c.loop-alloc.levels.items c.loop-alloc.level c.loop-alloc.invariant.levels c.loop-alloc.invariant.level);
   level = c.in_ok-next.ensures.over;
 }
 
 pub returns : goal.returns
-returns c = subst (λ (xs : List Level). All (IsOver c.args.lines.now) xs) (sym c.in_ok-push-2.ensures.items) (All-push (IsOver c.args.lines.now) c.loop-alloc.levels.items c.loop-alloc.level c.loop-alloc.invariant.levels c.loop-alloc.invariant.level)
+returns c = subst (λ (xs : List Level). All (IsOver c.args.lines.now c.args.starts.now) xs) (sym c.in_ok-push-2.ensures.items) (All-push (IsOver c.args.lines.now c.args.starts.now) c.loop-alloc.levels.items c.loop-alloc.level c.loop-alloc.invariant.levels c.loop-alloc.invariant.level)

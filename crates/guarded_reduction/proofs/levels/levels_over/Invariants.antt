@@ -4,7 +4,7 @@ use Rattle.guarded_reduction.specs.Levels.{IsOver}
 use Rattle.guarded_reduction.proofs.levels.levels_over.Given as goal
 
 abbrev pub invariant-loop-alloc : goal.invariant-loop-alloc
-invariant-loop-alloc l = record { levels : All (IsOver l.lines) l.levels.items; level : IsOver l.lines l.level }
+invariant-loop-alloc l = record { levels : All (IsOver l.lines l.starts) l.levels.items; level : IsOver l.lines l.starts l.level }
 
 abbrev pub decreases-loop-alloc : goal.decreases-loop-alloc
 decreases-loop-alloc l = 60 - l.level.bits

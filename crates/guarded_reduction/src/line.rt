@@ -1,5 +1,5 @@
 // Segments of arcs.
-ghost use Rattle.std.specs.Prelude.{◌≡◌, ◌<◌, length};
+ghost use Rattle.std.specs.Prelude.{◌≡◌, ◌<◌, true, false, length};
 ghost use Rattle.geometry.specs.Points.{IsPosition};
 ghost use Rattle.guarded_reduction.specs.Extents.{HoldsPoint};
 ghost use Rattle.guarded_reduction.specs.Lines.{as_segment, line_at};
@@ -7,7 +7,8 @@ ghost use Rattle.guarded_meaning.specs.Segments as spec;
 
 use crate::extent::{Extent, around, joined, meets};
 use crate::meeting::meets_badly;
-use geometry::Position;
+use crate::turns::{is_left, is_right};
+use geometry::{Position, is_same};
 
 /// A segment of an arc.
 #[derive(Clone, Copy, Debug, PartialEq, Eq)]
@@ -42,11 +43,34 @@ pub fn extent_of(line: &Line) -> Extent
     joined(around(line.from), around(line.to))
 }
 
-/// Two segments meet badly. Most pairs that are asked of have boxes that lie apart.
+/// The second segment ends to the left of the first one's line, and begins there, too, or where the first one ends: then they don't meet badly.
+fn lies_left(line: &Line, other: &Line) -> bool
+    ensures { result ≡ true → spec.meets_badly (as_segment line.now) (as_segment other.now) ≡ false }
+{
+    is_left(line.from, line.to, other.to)
+        && (is_same(other.from, line.to) || is_left(line.from, line.to, other.from))
+}
+
+/// The same to the right.
+fn lies_right(line: &Line, other: &Line) -> bool
+    ensures { result ≡ true → spec.meets_badly (as_segment line.now) (as_segment other.now) ≡ false }
+{
+    is_right(line.from, line.to, other.to)
+        && (is_same(other.from, line.to) || is_right(line.from, line.to, other.from))
+}
+
+/// The same on one of the two sides.
+fn lies_aside(line: &Line, other: &Line) -> bool
+    ensures { result ≡ true → spec.meets_badly (as_segment line.now) (as_segment other.now) ≡ false }
+{
+    lies_left(line, other) || lies_right(line, other)
+}
+
+/// Two segments meet badly. Most pairs that are asked of have boxes that lie apart, and most of the others follow one another.
 #[inline(always)]
 pub fn is_bad_pair(line: &Line, other: &Line) -> bool
     ensures { result ≡ spec.meets_badly (as_segment line.now) (as_segment other.now) }
 {
     meets(extent_of(other), extent_of(line))
-        && meets_badly(line.from, line.to, other.from, other.to)
+        && (!lies_aside(line, other) && meets_badly(line.from, line.to, other.from, other.to))
 }

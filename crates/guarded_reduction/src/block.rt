@@ -27,7 +27,7 @@ pub struct Block {
 }
 
 /// The end of one segment, with its other end.
-fn star_of(end: Position, other: Position) -> Star
+pub fn star_of(end: Position, other: Position) -> Star
     ensures from { StarCovers result (record { from = end; to = other }) }
     ensures to { StarCovers result (record { from = other; to = end }) }
 {
@@ -72,7 +72,7 @@ fn others_in(block: &Block, at: Position) -> Option<Extent>
 }
 
 /// The star of one block, with the segments of another, as far as all have its end.
-fn star_with(star: &Star, more: &Block) -> Star
+pub fn star_with(star: &Star, more: &Block) -> Star
     ensures first { (t : Segment) → StarCovers star.now t → StarCovers result t }
     ensures second { (t : Segment) → Covers more.now t → StarCovers result t }
 {

@@ -18,7 +18,7 @@ fn end_of_unit(lines: &[Line], first: usize) -> usize
     ensures within { result ≤ length lines.now }
 {
     let mut end = end_together(lines, first);
-    while end < lines.len() {
+    while end < lines.len() && end - first < MOST_IN_UNIT {
         let next = end_together(lines, end);
         if next - first > MOST_IN_UNIT {
             return end;

@@ -14,7 +14,7 @@ loop-other-preserved-then-next-other c =
     let there = c.skip_from-next.ensures.within in
     let from = not_before _ ss c.loop-other.other next c.requires.starts c.skip_from-next.ensures.from (omega (arith, there)) in
     let same = across_skipped ls n c.args.run.first (start_at ss c.loop-other.other) (start_at ss next) from
-    (λ i a b. c.skip_from-next.ensures.none (line_at ls i) (c.extent_round-extent.ensures i a (omega (arith, a, b)))) in
+    (λ i a b. c.skip_from-next.ensures.none (line_at ls i) (c.extent_round-extent.ensures.ends i a (omega (arith, a, b)))) in
     record {
       within = omega (arith, there);
       count = c.loop-other.invariant.count;

@@ -13,7 +13,7 @@ use owned_values::Memory;
 use std::alloc::Global;
 
 /// A block of the first level has one unit, and one of the next two to this many blocks.
-const FAN_BITS: u32 = 3;
+pub const FAN_BITS: u32 = 2;
 
 /// Two to this many units are more than memory holds.
 const MOST_BITS: u32 = 56;
@@ -65,7 +65,7 @@ fn first_level(alloc: Global, lines: &[Line], starts: &[usize]) -> Result<Level,
     Ok(Level { bits: 0, blocks })
 }
 
-/// Blocks of eight blocks.
+/// Blocks of four blocks.
 fn next_level(
     alloc: Global,
     lines: &[Line],
@@ -75,7 +75,7 @@ fn next_level(
     requires over { IsOver lines.now starts.now level.now }
     requires bits { level.now.bits < 56 }
     ensures over { IfOk result (λ next. IsOver lines.now starts.now next) }
-    ensures bits { IfOk result (λ next. next.bits ≡ level.now.bits + 3) }
+    ensures bits { IfOk result (λ next. next.bits ≡ level.now.bits + 2) }
 {
     let mut blocks = Vec::with_capacity(alloc, (level.blocks.len() >> FAN_BITS) + 1)?;
     for number in 0..level.blocks.len() {

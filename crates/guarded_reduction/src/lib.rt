@@ -13,7 +13,7 @@
 //! meets another arc, and those together of which one does (`src/parts.rt`): `WholeArcs` has the cells of all places, of which none goes, for that.
 //! `crossings_with` counts pairs of segments that meet badly, and gives the first of them. Up to eight segments of an arc, one after another, stay
 //! together, and these stretches are halved in the same way. A stretch, or a few short ones in that order, is a unit (`src/unit.rt`). Each unit has a
-//! box round it, and so do eight units, eight of these, and so on; and where all segments of such a block have one end, as those of a star, the others
+//! box round it, and so do four units, four of these, and so on; and where all segments of such a block have one end, as those of a star, the others
 //! have a box of their own. For the segments of a unit at once the later units are gone through, without the blocks whose boxes are apart from theirs,
 //! and then for each of them without those of which such a box shows that no segment meets it badly; after many units each goes on by itself. How many
 //! are left is not promised. The pairs are looked for in the order of the arcs, among the segments that others meet badly.

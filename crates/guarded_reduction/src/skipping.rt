@@ -4,7 +4,7 @@ ghost use Rattle.std.specs.List.{All};
 ghost use Rattle.guarded_reduction.specs.Levels.{IsOver, NoneBadWithin, start_at};
 ghost use Rattle.guarded_reduction.specs.Lines.{as_segment};
 
-use crate::levels::{Level, read_block};
+use crate::levels::{FAN_BITS, Level, read_block};
 use crate::line::Line;
 use crate::probe::Probe;
 
@@ -26,6 +26,34 @@ fn begins_block(bits: u32, unit: usize) -> bool
     unit % (1 << bits) == 0
 }
 
+/// The unit after the block of a level that begins with this one, if no segment of it meets a probe's badly, as far as it shows; else this unit.
+fn skip_block<P: Probe>(
+    lines: &[Line],
+    starts: &[usize],
+    level: &Level,
+    probe: &P,
+    unit: usize,
+) -> usize
+    requires level { IsOver lines.now starts.now level.now }
+    requires unit { unit + 1 < length starts.now }
+    ensures from { unit ≤ result }
+    ensures within { result + 1 ≤ length starts.now }
+    ensures none { (l : Line) → P.among probe.now (as_segment l) → NoneBadWithin lines.now l (start_at starts.now unit) (start_at starts.now result) }
+{
+    if !begins_block(level.bits, unit) {
+        return unit;
+    }
+    if !probe.is_clear_of(read_block(&level.blocks, unit >> level.bits)) {
+        return unit;
+    }
+    after_block(level.bits, unit).min(starts.len() - 1)
+}
+
+/// So many levels have blocks that begin with a unit, if there are as many. The larger ones are looked at first, so that few are.
+fn levels_at(unit: usize) -> usize {
+    (unit.trailing_zeros() / FAN_BITS) as usize + 1
+}
+
 /// This unit, or the first one after it that may have a segment that meets a probe's badly, as far as the blocks that begin with it show.
 pub fn skip_from<P: Probe>(
     lines: &[Line],
@@ -40,16 +68,13 @@ pub fn skip_from<P: Probe>(
     ensures within { result + 1 ≤ length starts.now }
     ensures none { (l : Line) → P.among probe.now (as_segment l) → NoneBadWithin lines.now l (start_at starts.now unit) (start_at starts.now result) }
 {
-    let last = starts.len() - 1;
-    let mut next = unit;
-    for level in levels {
-        if !begins_block(level.bits, unit) {
+    let mut at = levels_at(unit).min(levels.len());
+    while at > 0 {
+        at -= 1;
+        let next = skip_block(lines, starts, &levels[at], probe, unit);
+        if next > unit {
             return next;
         }
-        if !probe.is_clear_of(read_block(&level.blocks, unit >> level.bits)) {
-            return next;
-        }
-        next = after_block(level.bits, unit).min(last);
     }
-    next
+    unit
 }

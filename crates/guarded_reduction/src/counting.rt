@@ -9,7 +9,7 @@ use crate::levels::Level;
 use crate::line::{Line, is_bad_pair, read_line};
 use crate::probe::with_box;
 use crate::run::{Run, extent_round};
-use crate::skipping::skip_from;
+use crate::skipping::{skip_from, skip_unit};
 use crate::unit::run_of;
 
 /// After so many units that may have something for the segments of one, each of these goes on by itself.
@@ -101,7 +101,7 @@ fn count_near(
     requires sofar { sofar ≤ limit }
     ensures { result ≡ min limit (sofar + (bad_from lines.now line.now (start_at starts.now unit) - bad_from lines.now line.now (start_at starts.now (unit + 1)))) }
 {
-    if skip_from(lines, starts, levels, &with_box(line), unit) > unit {
+    if skip_unit(lines, starts, levels, &with_box(line), unit) > unit {
         return sofar;
     }
     let run = run_of(lines, starts, unit);
@@ -193,7 +193,7 @@ fn count_behind(
     let mut count = sofar;
     let mut other = unit;
     let mut units = 0;
-    while other + 1 < starts.len() && units < MOST_UNITS {
+    while other + 1 < starts.len() && units < MOST_UNITS && count < limit {
         let next = skip_from(lines, starts, levels, &extent, other);
         if next > other {
             other = next;

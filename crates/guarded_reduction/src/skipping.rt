@@ -49,6 +49,26 @@ fn skip_block<P: Probe>(
     after_block(level.bits, unit).min(starts.len() - 1)
 }
 
+/// The next unit, if no segment of this one meets a probe's badly, as far as its own block shows; else this unit.
+pub fn skip_unit<P: Probe>(
+    lines: &[Line],
+    starts: &[usize],
+    levels: &[Level],
+    probe: &P,
+    unit: usize,
+) -> usize
+    requires levels { All (IsOver lines.now starts.now) levels.now }
+    requires unit { unit + 1 < length starts.now }
+    ensures from { unit ≤ result }
+    ensures within { result + 1 ≤ length starts.now }
+    ensures none { (l : Line) → P.among probe.now (as_segment l) → NoneBadWithin lines.now l (start_at starts.now unit) (start_at starts.now result) }
+{
+    if levels.is_empty() {
+        return unit;
+    }
+    skip_block(lines, starts, &levels[0], probe, unit)
+}
+
 /// So many levels have blocks that begin with a unit, if there are as many. The larger ones are looked at first, so that few are.
 fn levels_at(unit: usize) -> usize {
     (unit.trailing_zeros() / FAN_BITS) as usize + 1

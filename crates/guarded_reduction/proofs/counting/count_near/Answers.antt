@@ -5,14 +5,14 @@ use Rattle.guarded_reduction.proofs.Units.{not_before}
 use Rattle.guarded_reduction.proofs.counting.count_near.Goals as goal
 
 -- none of the unit is left
-pub returns-then-skip_from-unit : goal.returns-then-skip_from-unit
-returns-then-skip_from-unit c =
+pub returns-then-skip_unit-unit : goal.returns-then-skip_unit-unit
+returns-then-skip_unit-unit c =
     let ls = c.args.lines.now in
     let ss = c.args.starts.now in
     let l = c.args.line.now in
-    let next = c.skip_from.result in
-    let there = c.skip_from.ensures.within in
-    let from = not_before _ ss c.args.unit next c.requires.starts c.skip_from.ensures.from (omega (arith, there)) in
-    let e = skipped ls l (start_at ss c.args.unit) (start_at ss next) from (c.skip_from.ensures.none l c.with_box.ensures.among) in
-    let f = later_fewer ls l (start_at ss (c.args.unit + 1)) (start_at ss next) (not_before _ ss (c.args.unit + 1) next c.requires.starts (omega (arith, c.if-skip_from-unit.true)) (omega (arith, there))) in
+    let next = c.skip_unit.result in
+    let there = c.skip_unit.ensures.within in
+    let from = not_before _ ss c.args.unit next c.requires.starts c.skip_unit.ensures.from (omega (arith, there)) in
+    let e = skipped ls l (start_at ss c.args.unit) (start_at ss next) from (c.skip_unit.ensures.none l c.with_box.ensures.among) in
+    let f = later_fewer ls l (start_at ss (c.args.unit + 1)) (start_at ss next) (not_before _ ss (c.args.unit + 1) next c.requires.starts (omega (arith, c.if-skip_unit-unit.true)) (omega (arith, there))) in
     omega (arith, e, f, c.requires.sofar)

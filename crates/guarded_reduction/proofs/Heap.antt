@@ -1,10 +1,10 @@
--- What is pushed on the heap.
-use Rattle.std.proofs.Common.{◌≡◌, ◌≢◌, ℕ, ◌+◌, ◌-◌, ◌<◌, ◌≤◌, List, ◌∷◌, length, refl, ap, sym, ◌∙◌, subst, ◌⊎◌, inl, inr, arith}
+-- What is queued.
+use Rattle.std.proofs.Common.{◌≡◌, ◌≢◌, ℕ, ◌+◌, ◌-◌, ◌<◌, ◌≤◌, List, [], ◌∷◌, ◌++◌, length, refl, ap, sym, ◌∙◌, subst, ◌⊎◌, inl, inr, arith}
 use Rattle.std.specs.List.{Contains}
 use Rattle.std.specs.List.Sorted.{IsPermutation}
 use Rattle.std.specs.declared.cmp.Reverse.{Reverse}
 use Rattle.std.proofs.lemmas.Bool.{cases_eq}
-use Rattle.std.proofs.lemmas.List.Sorted.{Contains-permutation, IsPermutation-sym}
+use Rattle.std.proofs.lemmas.List.Sorted.{Contains-permutation, IsPermutation-sym, IsPermutation-to_front}
 use Rattle.effective_area.proofs.HeapLaws.{contains_cases, contains_here, contains_later}
 use Rattle.guarded_reduction.specs.declared.entry.Entry.{Entry}
 use Rattle.guarded_reduction.specs.Entries.{IsDue, IsSound, entry_in, turned}
@@ -35,6 +35,10 @@ pushed t s old new v e perm due is below = record {
 -- nothing is under zero
 pub none_at_zero : (s : Linked) (w : Waiting) → length w.firsts ≡ length s.positions → NoneNext 0 s w
 none_at_zero s w firsts = record { held = λ v h. let l : (entry_in s v).area < 0 = h.under in absurd (omega (arith, l)); firsts = firsts }
+
+-- what `push` of a `Vec` leaves
+pub put_last : (old new : List (Reverse Entry)) (x : Reverse Entry) → new ≡ old ++ (x ∷ []) → IsPermutation (x ∷ old) new
+put_last old new x is = subst (IsPermutation (x ∷ old)) (sym is) (IsPermutation-sym (old ++ (x ∷ [])) (x ∷ old) (IsPermutation-to_front old x))
 
 pub pushed_from : (from t : ℕ) (s : Linked) (old new : List (Reverse Entry)) (v : ℕ) (e : Entry) → IsPermutation (turned e ∷ old) new → IsDue t s v → e ≡ entry_in s v → (IsCorner s v → (entry_in s v).area < area_limit) → PushedFrom from t s old new v
 pushed_from from t s old new v e perm due is below =
@@ -73,7 +77,7 @@ still_sound from t s old new v p h d m = on (p.only d m)
     on (inl k) = h d k
     on (inr k) = k
 
--- those of earlier rounds wait, and the others are on the heap
+-- those of earlier rounds wait, and the others are queued
 pub round_queued : (from t : ℕ) (s : Linked) (items : List (Reverse Entry)) (w : Waiting) (n : ℕ) → NoneNext from s w → length s.positions ≤ n →
     ((v : ℕ) → v < n → IsDue t s v → ((entry_in s v).area < from) ⊎ Contains items (turned (entry_in s v))) → ((d : Entry) → Contains items (turned d) → IsSound t s.positions d) → IsQueued t s items w
 round_queued from t s items w n none m has sound = record { covers = λ v h. on v h (has v (let l : v < length s.positions = h.corner.within in omega (arith, l, m)) h); sound = sound; firsts = none.firsts }
@@ -81,6 +85,18 @@ round_queued from t s items w n none m has sound = record { covers = λ v h. on 
     on : (v : ℕ) → IsDue t s v → ((entry_in s v).area < from) ⊎ Contains items (turned (entry_in s v)) → Contains items (turned (entry_in s v)) ⊎ IsHeld s w v
     on v h (inl a) = inr (none.held v (record { corner = h.corner; under = a; loose = h.loose }))
     on v h (inr k) = inl k
+
+-- in whatever order they are
+pub queued_alike : (t : ℕ) (s : Linked) (items new : List (Reverse Entry)) (w : Waiting) → IsPermutation items new → IsQueued t s items w → IsQueued t s new w
+queued_alike t s items new w perm q = record {
+  covers = λ v h. on v (q.covers v h);
+  sound = λ e h. q.sound e (Contains-permutation new items (turned e) (IsPermutation-sym items new perm) h);
+  firsts = q.firsts;
+}
+  where
+    on : (v : ℕ) → Contains items (turned (entry_in s v)) ⊎ IsHeld s w v → Contains new (turned (entry_in s v)) ⊎ IsHeld s w v
+    on v (inl k) = inl (Contains-permutation items new (turned (entry_in s v)) perm k)
+    on v (inr k) = inr k
 
 -- ---- those that wait are pushed
 

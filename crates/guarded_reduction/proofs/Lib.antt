@@ -28,6 +28,7 @@ pub mod Parting
 pub mod PartLists
 pub mod Placed
 pub mod Queries
+pub mod Queues
 pub mod Queued
 pub mod RingMoves
 pub mod Searches

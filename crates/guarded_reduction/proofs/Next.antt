@@ -39,7 +39,7 @@ use Rattle.guarded_reduction.proofs.Unlinking.{left_is, still_showing}
 
 -- ---- the order of entries
 
-entry_total : IsTotalOrder entry_cmp
+pub entry_total : IsTotalOrder entry_cmp
 entry_total = then_total (on_total (λ e. e.area) nat_cmp_total) (then_total (on_total (λ e. e.at) (then_total (on_total (λ p. p.x) int_cmp_total) (on_total (λ p. p.y) int_cmp_total)))
     (then_total (on_total (λ e. e.place) nat_cmp_total) (then_total (on_total (λ e. e.before) nat_cmp_total) (on_total (λ e. e.after) nat_cmp_total))))
 

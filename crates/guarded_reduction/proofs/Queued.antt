@@ -1,4 +1,4 @@
--- The heap and the waits cover all corners under the threshold while corners are looked at and go.
+-- The queue and the waits cover all corners under the threshold while corners are looked at and go.
 use Rattle.std.proofs.Common.{◌≡◌, ◌≢◌, ℕ, ◌<◌, ◌==◌, true, false, not, ◌&&◌, ◌||◌, List, ◌∷◌, length, slice_index, slice_index_or, slice_set, length-set, get_or-set_same, get_or-set_other, Bool, refl, ap, sym, ◌∙◌, subst, ◌⊎◌, inl, inr, arith}
 use Rattle.std.specs.BinaryHeap.{IsUpperBound}
 use Rattle.std.specs.List.{Contains}
@@ -47,7 +47,7 @@ still_held s old new v k h = record { asked = h.asked; holder = h.holder; within
     on (inl e) = inl e
     on (inr l) = inr (record { blocks = l.blocks; before = k.has (slice_index s.befores h.holder) v l.before; after = k.has (slice_index s.afters h.holder) v l.after })
 
--- ---- an entry is taken off the heap
+-- ---- an entry is taken off the queue
 
 module _ (t : ℕ) (s : Linked) (items new : List (Reverse Entry)) (w : Waiting) (e : Entry) (queued : IsQueued t s items w) (perm : IsPermutation items (turned e ∷ new)) where
   split : (d : Entry) → Contains items (turned d) → (d ≡ e) ⊎ Contains new (turned d)

@@ -20,6 +20,7 @@ pub mod Parts
 pub mod Placed
 pub mod PlacedLists
 pub mod Probes
+pub mod Queues
 pub mod Shown
 pub mod States
 pub mod Tests

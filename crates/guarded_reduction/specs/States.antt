@@ -32,13 +32,13 @@ pub record IsHeld (s : Linked) (w : Waiting) (v : ℕ) : Type 0 where
   pub waits : WaitsOn w holder v
   pub holds : (is_held_by (corner_in s v) holder (point_at s.positions holder) ≡ true) ⊎ HoldsByLink s w v holder
 
--- each corner under the threshold is on the heap, or held
+-- each corner under the threshold is queued, or held
 pub record IsQueued (t : ℕ) (s : Linked) (items : List (Reverse Entry)) (w : Waiting) : Type 0 where
   pub covers : (v : ℕ) → IsDue t s v → Contains items (turned (entry_in s v)) ⊎ IsHeld s w v
   pub sound : (e : Entry) → Contains items (turned e) → IsSound t s.positions e
   pub firsts : length w.firsts ≡ length s.positions
 
--- the entry is of the corner that goes next, if its rings stay: nothing blocks it, where crossings are to be avoided, and those on the heap don't
+-- the entry is of the corner that goes next, if its rings stay: nothing blocks it, where crossings are to be avoided, and those that are queued don't
 -- go before it
 pub record IsNext (t : ℕ) (s : Linked) (items : List (Reverse Entry)) (w : Waiting) (e : Entry) : Type 0 where
   pub due : IsDue t s e.place
@@ -54,21 +54,21 @@ pub record NoneNext (t : ℕ) (s : Linked) (w : Waiting) : Type 0 where
   pub held : (v : ℕ) → IsDue t s v → IsHeld s w v
   pub firsts : length w.firsts ≡ length s.positions
 
--- the corner at the place is on the heap, if it is due, and nothing else is new
+-- the corner at the place is queued, if it is due, and nothing else is new
 pub record Pushed (t : ℕ) (s : Linked) (old new : List (Reverse Entry)) (v : ℕ) : Type 0 where
   pub has : (d : Entry) → Contains old (turned d) → Contains new (turned d)
   pub here : IsDue t s v → Contains new (turned (entry_in s v))
   pub only : (d : Entry) → Contains new (turned d) → Contains old (turned d) ⊎ IsSound t s.positions d
   pub below : IsCorner s v → (entry_in s v).area < area_limit
 
--- the corner at the place is on the heap, if it is due and its area isn't under the first threshold, and nothing else is new
+-- the corner at the place is queued, if it is due and its area isn't under the first threshold, and nothing else is new
 pub record PushedFrom (from t : ℕ) (s : Linked) (old new : List (Reverse Entry)) (v : ℕ) : Type 0 where
   pub has : (d : Entry) → Contains old (turned d) → Contains new (turned d)
   pub here : IsDue t s v → ((entry_in s v).area < from) ⊎ Contains new (turned (entry_in s v))
   pub only : (d : Entry) → Contains new (turned d) → Contains old (turned d) ⊎ IsSound t s.positions d
   pub below : IsCorner s v → (entry_in s v).area < area_limit
 
--- all corners that wait on the place are on the heap, if they are due
+-- all corners that wait on the place are queued, if they are due
 pub record PushedAll (t : ℕ) (s : Linked) (old new : List (Reverse Entry)) (w : Waiting) (h : ℕ) : Type 0 where
   pub has : (d : Entry) → Contains old (turned d) → Contains new (turned d)
   pub here : (v : ℕ) → WaitsOn w h v → IsDue t s v → Contains new (turned (entry_in s v))

@@ -1,14 +1,15 @@
 //! Guarded reduction of all arcs at once, in code: of all corners under a threshold the least goes again and again, where no crossing is made of it,
 //! or where rings keep four positions, or both. It stands on `guarded_meaning`, whose definition it answers, and on `effective_area`, whose cross
 //! product its predicates ask for the side on which a position lies. The layer above uses `reduce_guarded`, and `weights_guarded` for a share of the
-//! positions. Corners are queued on a heap, in rounds by their areas; one that is kept from going without a crossing waits on the place that
-//! keeps it, and is looked at again when that place goes; one with which a ring would become too short never goes, so its place stays for good.
+//! positions. Corners are queued in rounds by their areas: those of a round are sorted once, and those that come later are put on a heap. One that
+//! is kept from going without a crossing waits on the place that keeps it, and is looked at again when that place goes; one with which a ring would
+//! become too short never goes, so its place stays for good.
 //! What keeps a corner is found by an index over positions of which more and more go: it finds one that is left and meets a query, above all a
 //! `Blocked`, that is in a corner's triangle or begins a segment between the ends of its base. Places are looked for in the cells that the corner's box
 //! meets (`src/cell_lists.rt`), until too many lie there; then the index becomes a `PositionIndex`, whose places are halved, and the halves again, once
 //! for all (`src/halving.rt`), and one path of a tree of boxes is gone up for each place that goes. `holding` asks it from the side of the
 //! corner where fewer places lie. `free_law` and `blocked_law` tie it to the guard. Rings are asked by how often their arcs move on from a position
-//! to another (`src/kept_rings.rt`). Each look is a search of the index and a step of the heap; how many there are, and how many cells or boxes each goes
+//! to another (`src/kept_rings.rt`). Each look is a search of the index and a step of the queue; how many there are, and how many cells or boxes each goes
 //! through, is not promised. Where no crossing may be made and no ring has to stay, each arc is reduced by itself, as long as no corner of it that goes
 //! meets another arc, and those together of which one does (`src/parts.rt`): `WholeArcs` has the cells of all places, of which none goes, for that.
 //! `crossings_with` counts pairs of segments that meet badly, and gives the first of them. Up to eight segments of an arc, one after another, stay
@@ -26,6 +27,7 @@ mod box_tree;
 mod cell_index;
 mod cell_lists;
 mod cell_search;
+mod corner_queue;
 mod counting;
 mod crossing;
 mod crowds;

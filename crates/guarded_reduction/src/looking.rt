@@ -1,14 +1,13 @@
 // The corner that goes next.
 ghost use Rattle.std.specs.Prelude.{◌≡◌, ◌⊎◌, ◌<◌, IfOk, OnOk, length, true};
 ghost use Rattle.std.specs.Option.{IfNone, IfSome};
-ghost use Rattle.std.specs.BinaryHeap.{heap_items, heap_len, IsHeap};
 ghost use Rattle.guarded_reduction.specs.Indexes.{Meets};
-ghost use Rattle.guarded_reduction.specs.Entries.{turned_cmp};
 ghost use Rattle.guarded_reduction.specs.Linking.{IsChained};
 ghost use Rattle.guarded_reduction.specs.Moves.{counted_without, keeps_all};
 ghost use Rattle.guarded_reduction.specs.States.{IsFixing, IsHeld, IsNext, IsQueued, NoneNext, blocks};
 ghost use Rattle.guarded_reduction.specs.Waiting.{KeepsWaits};
 
+use crate::corner_queue::CornerQueue;
 use crate::entry::Entry;
 use crate::holding::holder_of;
 use crate::kept_rings::KeptRings;
@@ -18,7 +17,6 @@ use crate::waiting_lists::WaitingLists;
 use owned_values::Memory;
 use std::alloc::Global;
 use std::cmp::Reverse;
-use std::collections::BinaryHeap;
 
 /// The corner at a place waits on what blocks it: on a place in its triangle alone, and where a segment blocks it, on that of its ends that was
 /// found, and on the neighbours of this one.
@@ -47,24 +45,22 @@ fn wait_on(
 /// The corner that goes next, if its rings stay, and if there is one. Those that are blocked come to wait, each once.
 pub fn next_corner(
     alloc: Global,
-    heap: &mut BinaryHeap<Reverse<Entry>>,
+    queue: &mut CornerQueue,
     waiting: &mut WaitingLists,
     places: &mut LinkedPlaces,
     threshold: u128,
 ) -> Result<Option<Entry>, Memory>
-    requires order { IsHeap turned_cmp (heap_items heap.old) }
-    requires queued { IsQueued threshold places.old (heap_items heap.old) waiting.old }
+    requires queued { IsQueued threshold places.old queue.old waiting.old }
     requires chained { IsChained places.old }
-    ensures order { OnOk result (IsHeap turned_cmp (heap_items heap.new)) }
     ensures same { OnOk result (places.new ≡ places.old) }
-    ensures next { IfOk result (λ found. IfSome found (λ e. IsNext threshold places.old (heap_items heap.new) waiting.new e)) }
+    ensures next { IfOk result (λ found. IfSome found (λ e. IsNext threshold places.old queue.new waiting.new e)) }
     ensures none { IfOk result (λ found. IfNone found (NoneNext threshold places.old waiting.new)) }
-    ensures fewer { IfOk result (λ found. IfSome found (λ _. heap_len heap.new < heap_len heap.old)) }
+    ensures fewer { IfOk result (λ found. IfSome found (λ _. length queue.new < length queue.old)) }
 {
     let mut held = places.len();
     let mut last = held;
-    'entries: while let Some(Reverse(entry)) = heap.pop() {
-        // (equal entries come off the heap one after another)
+    'entries: while let Some(Reverse(entry)) = queue.pop() {
+        // (equal entries come off the queue one after another)
         if entry.place == held {
             continue;
         }
@@ -85,25 +81,23 @@ pub fn next_corner(
 /// The corner that goes next, if there is one. The places of those with which not all rings would stay, stay for good.
 pub fn next_going(
     alloc: Global,
-    heap: &mut BinaryHeap<Reverse<Entry>>,
+    queue: &mut CornerQueue,
     waiting: &mut WaitingLists,
     places: &mut LinkedPlaces,
     rings: &mut KeptRings<'_>,
     threshold: u128,
 ) -> Result<Option<Entry>, Memory>
-    requires order { IsHeap turned_cmp (heap_items heap.old) }
-    requires queued { IsQueued threshold places.old (heap_items heap.old) waiting.old }
+    requires queued { IsQueued threshold places.old queue.old waiting.old }
     requires chained { IsChained places.old }
     requires owners { (length rings.old.rings ≡ 0) ⊎ (length rings.old.owners ≡ length places.old.positions) }
-    ensures order { OnOk result (IsHeap turned_cmp (heap_items heap.new)) }
     ensures fixing { OnOk result (IsFixing places.old rings.old places.new) }
-    ensures next { IfOk result (λ found. IfSome found (λ e. IsNext threshold places.new (heap_items heap.new) waiting.new e)) }
+    ensures next { IfOk result (λ found. IfSome found (λ e. IsNext threshold places.new queue.new waiting.new e)) }
     ensures stay { IfOk result (λ found. IfSome found (λ e. keeps_all places.new e.place rings.old ≡ true)) }
     ensures counted { IfOk result (λ found. IfSome found (λ e. rings.new ≡ counted_without places.new e.place rings.old)) }
     ensures none { IfOk result (λ found. IfNone found (NoneNext threshold places.new waiting.new)) }
     ensures same { IfOk result (λ found. IfNone found (rings.new ≡ rings.old)) }
 {
-    'corners: while let Some(entry) = next_corner(alloc, heap, waiting, places, threshold)? {
+    'corners: while let Some(entry) = next_corner(alloc, queue, waiting, places, threshold)? {
         if rings.keeps(places, entry.place) {
             rings.remove(places, entry.place);
             return Ok(Some(entry));

@@ -11,6 +11,7 @@ ghost use Rattle.guarded_meaning.specs.Parts.{StaysApart};
 ghost use Rattle.guarded_reduction.specs.First.{first_linked};
 ghost use Rattle.guarded_reduction.specs.Numbers.{all_kept_indexes, kept_indexes, left_arcs};
 
+use crate::corner_queue::CornerQueue;
 use crate::kept_rings::KeptRings;
 use crate::linked_places::LinkedPlaces;
 use crate::parts::reduce_by_parts;
@@ -21,7 +22,6 @@ use crate::waiting_lists::WaitingLists;
 use geometry::{ArcRef, Position};
 use owned_values::{Items, Memory};
 use std::alloc::Global;
-use std::collections::BinaryHeap;
 
 /// The places go that are reduced at a threshold, as long as no corner that goes meets what lies beside the arcs. Whether none did.
 fn reduce_places<S: Surroundings>(
@@ -45,13 +45,13 @@ fn reduce_places<S: Surroundings>(
     let mut kept = KeptRings::of(alloc, arcs, rings)?;
     let n = places.len();
     let mut waiting = WaitingLists::none(alloc, n)?;
-    let mut heap = BinaryHeap::new(alloc);
+    let mut queue = CornerQueue::new(alloc);
     let mut round = next_threshold(places, 0, threshold);
-    begin_round(&mut heap, &waiting, places, 0, round)?;
+    begin_round(alloc, &mut queue, &waiting, places, 0, round)?;
     'corners: for _step in 0..n {
         let next = next_in_rounds(
             alloc,
-            &mut heap,
+            &mut queue,
             &mut waiting,
             places,
             &mut kept,
@@ -66,7 +66,7 @@ fn reduce_places<S: Surroundings>(
         if !beside.are_clear_of(&places.corner(entry.place), stretch) {
             return Ok(false);
         }
-        take_out(&mut heap, places, &waiting, round, entry)?;
+        take_out(&mut queue, places, &waiting, round, entry)?;
     }
     Ok(true)
 }

@@ -1,12 +1,12 @@
-// Rounds: corners are queued a share of them at a time, those under a lower threshold first, so that the heap stays small.
+// Rounds: corners are queued a share of them at a time, those under a lower threshold first, so that the queue stays short.
 ghost use Rattle.std.specs.Prelude.{◌≡◌, ◌⊎◌, ◌<◌, ◌≤◌, true, IfOk, OnOk, length};
 ghost use Rattle.std.specs.Option.{IfNone, IfSome};
-ghost use Rattle.std.specs.BinaryHeap.{heap_items, IsHeap};
-ghost use Rattle.guarded_reduction.specs.Entries.{AreBelow, turned_cmp};
+ghost use Rattle.guarded_reduction.specs.Entries.{AreBelow};
 ghost use Rattle.guarded_reduction.specs.Linking.{IsChained};
 ghost use Rattle.guarded_reduction.specs.Moves.{counted_without, keeps_all};
 ghost use Rattle.guarded_reduction.specs.States.{IsFixing, IsNext, IsQueued, NoneNext, PushedFrom};
 
+use crate::corner_queue::CornerQueue;
 use crate::entry::Entry;
 use crate::kept_rings::KeptRings;
 use crate::linked_places::LinkedPlaces;
@@ -15,7 +15,6 @@ use crate::waiting_lists::WaitingLists;
 use owned_values::Memory;
 use std::alloc::Global;
 use std::cmp::Reverse;
-use std::collections::BinaryHeap;
 
 /// At so many places corners are looked at to find the threshold of a round.
 const SAMPLES: usize = 512;
@@ -53,51 +52,51 @@ pub fn next_threshold(places: &LinkedPlaces, round: u128, threshold: u128) -> u1
     areas[LEAST].max(least).max(round + 1).min(threshold)
 }
 
-/// Puts the corner at a place on the heap, if there is one that is under the second threshold, and not under the first.
+/// Puts the corner at a place after the others, if there is one that is under the second threshold, and not under the first.
 fn push_from(
-    heap: &mut BinaryHeap<Reverse<Entry>>,
+    corners: &mut Vec<Reverse<Entry>>,
     places: &LinkedPlaces,
     from: u128,
     until: u128,
     place: usize,
 ) -> Result<(), Memory>
-    requires order { IsHeap turned_cmp (heap_items heap.old) }
-    ensures order { OnOk result (IsHeap turned_cmp (heap_items heap.new)) }
-    ensures pushed { OnOk result (PushedFrom from until places.now (heap_items heap.old) (heap_items heap.new) place) }
+    ensures { OnOk result (PushedFrom from until places.now corners.old.items corners.new.items place) }
 {
     let Some(entry) = places.entry(place, until) else {
         return Ok(());
     };
     if entry.area >= from {
-        heap.push(Reverse(entry))?;
+        corners.push(Reverse(entry))?;
     }
     Ok(())
 }
 
-/// Begins a round, where no corner under the threshold of the last one goes any more: the corners under its own are put on the heap, but for those
-/// that wait.
+/// Begins a round, where no corner under the threshold of the last one goes any more: the corners under its own are queued, but for those that
+/// wait.
 pub fn begin_round(
-    heap: &mut BinaryHeap<Reverse<Entry>>,
+    alloc: Global,
+    queue: &mut CornerQueue,
     waiting: &WaitingLists,
     places: &LinkedPlaces,
     from: u128,
     until: u128,
 ) -> Result<(), Memory>
     requires { NoneNext from places.now waiting.now }
-    ensures order { OnOk result (IsHeap turned_cmp (heap_items heap.new)) }
-    ensures queued { OnOk result (IsQueued until places.now (heap_items heap.new) waiting.now) }
+    ensures queued { OnOk result (IsQueued until places.now queue.new waiting.now) }
     ensures below { OnOk result (AreBelow places.now) }
 {
-    heap.clear();
+    let mut corners = queue.emptied(alloc);
     for place in 0..places.len() {
-        push_from(heap, places, from, until, place)?;
+        push_from(&mut corners, places, from, until, place)?;
     }
+    queue.fill(corners);
     Ok(())
 }
 
 /// Begins the round after one that was not the last.
 fn begin_next_round(
-    heap: &mut BinaryHeap<Reverse<Entry>>,
+    alloc: Global,
+    queue: &mut CornerQueue,
     waiting: &WaitingLists,
     places: &LinkedPlaces,
     round: &mut u128,
@@ -105,47 +104,44 @@ fn begin_next_round(
 ) -> Result<(), Memory>
     requires none { NoneNext round.old places.now waiting.now }
     requires more { round.old < threshold }
-    ensures order { OnOk result (IsHeap turned_cmp (heap_items heap.new)) }
-    ensures queued { OnOk result (IsQueued round.new places.now (heap_items heap.new) waiting.now) }
+    ensures queued { OnOk result (IsQueued round.new places.now queue.new waiting.now) }
     ensures above { OnOk result (round.old < round.new) }
     ensures within { OnOk result (round.new ≤ threshold) }
 {
     let from = *round;
     let until = next_threshold(places, from, threshold);
-    begin_round(heap, waiting, places, from, until)?;
+    begin_round(alloc, queue, waiting, places, from, until)?;
     *round = until;
     Ok(())
 }
 
-/// The corner that goes next, if there is one. Where the heap has none any more, the next round begins.
+/// The corner that goes next, if there is one. Where none is queued any more, the next round begins.
 pub fn next_in_rounds(
     alloc: Global,
-    heap: &mut BinaryHeap<Reverse<Entry>>,
+    queue: &mut CornerQueue,
     waiting: &mut WaitingLists,
     places: &mut LinkedPlaces,
     rings: &mut KeptRings<'_>,
     round: &mut u128,
     threshold: u128,
 ) -> Result<Option<Entry>, Memory>
-    requires order { IsHeap turned_cmp (heap_items heap.old) }
-    requires queued { IsQueued round.old places.old (heap_items heap.old) waiting.old }
+    requires queued { IsQueued round.old places.old queue.old waiting.old }
     requires round { round.old ≤ threshold }
     requires chained { IsChained places.old }
     requires owners { (length rings.old.rings ≡ 0) ⊎ (length rings.old.owners ≡ length places.old.positions) }
-    ensures order { OnOk result (IsHeap turned_cmp (heap_items heap.new)) }
     ensures round { OnOk result (round.new ≤ threshold) }
     ensures fixing { OnOk result (IsFixing places.old rings.old places.new) }
-    ensures next { IfOk result (λ found. IfSome found (λ e. IsNext round.new places.new (heap_items heap.new) waiting.new e)) }
+    ensures next { IfOk result (λ found. IfSome found (λ e. IsNext round.new places.new queue.new waiting.new e)) }
     ensures stay { IfOk result (λ found. IfSome found (λ e. keeps_all places.new e.place rings.old ≡ true)) }
     ensures counted { IfOk result (λ found. IfSome found (λ e. rings.new ≡ counted_without places.new e.place rings.old)) }
     ensures none { IfOk result (λ found. IfNone found (NoneNext threshold places.new waiting.new)) }
 {
     'rounds: while *round < threshold {
-        if let Some(entry) = next_going(alloc, heap, waiting, places, rings, *round)? {
+        if let Some(entry) = next_going(alloc, queue, waiting, places, rings, *round)? {
             return Ok(Some(entry));
         }
-        begin_next_round(heap, waiting, places, round, threshold)?;
+        begin_next_round(alloc, queue, waiting, places, round, threshold)?;
     }
-    let last = next_going(alloc, heap, waiting, places, rings, *round)?;
+    let last = next_going(alloc, queue, waiting, places, rings, *round)?;
     Ok(last)
 }

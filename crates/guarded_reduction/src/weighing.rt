@@ -8,6 +8,7 @@ ghost use Rattle.guarded_meaning.specs.Weights.{interior_weights};
 ghost use Rattle.guarded_reduction.specs.First.{first_linked};
 ghost use Rattle.guarded_reduction.specs.Weighing.{AreWeights, all_inner_levels, inner_levels, level_at};
 
+use crate::corner_queue::CornerQueue;
 use crate::kept_rings::KeptRings;
 use crate::linked_places::LinkedPlaces;
 use crate::pushing::take_out;
@@ -16,7 +17,6 @@ use crate::waiting_lists::WaitingLists;
 use geometry::{AREA_LIMIT, ArcRef, Position};
 use owned_values::{Items, Memory};
 use std::alloc::Global;
-use std::collections::BinaryHeap;
 
 /// The greater of two numbers.
 fn greater(x: u128, y: u128) -> u128
@@ -45,14 +45,14 @@ fn weigh_places(
     let mut kept = KeptRings::of(alloc, arcs, rings)?;
     let n = places.len();
     let mut waiting = WaitingLists::none(alloc, n)?;
-    let mut heap = BinaryHeap::new(alloc);
+    let mut queue = CornerQueue::new(alloc);
     let mut round = next_threshold(places, 0, AREA_LIMIT);
-    begin_round(&mut heap, &waiting, places, 0, round)?;
+    begin_round(alloc, &mut queue, &waiting, places, 0, round)?;
     let mut level = 0u128;
     'corners: for _step in 0..n {
         let next = next_in_rounds(
             alloc,
-            &mut heap,
+            &mut queue,
             &mut waiting,
             places,
             &mut kept,
@@ -65,7 +65,7 @@ fn weigh_places(
         };
         level = greater(level, entry.area);
         levels[entry.place] = level;
-        take_out(&mut heap, places, &waiting, round, entry)?;
+        take_out(&mut queue, places, &waiting, round, entry)?;
     }
     Ok(())
 }

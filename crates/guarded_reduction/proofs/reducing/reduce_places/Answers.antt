@@ -1,5 +1,4 @@
 use Rattle.std.proofs.Common.{◌≡◌, ◌+◌, ◌-◌, suc, ap, sym, subst, ◌∙◌, arith}
-use Rattle.std.specs.BinaryHeap.{heap_items}
 use Rattle.guarded_meaning.specs.Elimination.{eliminate_arcs, remaining_arcs}
 use Rattle.guarded_meaning.specs.Guards.{guarded_by}
 use Rattle.guarded_reduction.specs.Keeping.{IsKeeping}
@@ -15,7 +14,6 @@ use Rattle.guarded_reduction.proofs.reducing.reduce_places.Goals as goal
 
 pub corners-init : goal.corners-init
 corners-init g c = record {
-  order = c.in_ok-begin_round.ensures.order;
   queued = c.in_ok-begin_round.ensures.queued;
   round = c.next_threshold-round.ensures.within;
   showing = subst (IsShowing c.args.arcs.now) (sym c.requires.first) (first_showing c.args.places.now.no_crossings c.args.arcs.now);
@@ -50,23 +48,22 @@ corners-preserved g c =
     (rw c.in-Some.is at c.in_ok-next.ensures.stay) (rw c.in-Some.is at c.in_ok-next.ensures.counted) in
     let steps : c.len-n.result - c.corners._step ≡ suc (c.len-n.result - (c.corners._step + 1)) = omega (arith, c.corners-test.true) in
     record {
-      order = c.in_ok-take_out.ensures.order;
       queued = c.in_ok-take_out.ensures.queued;
       round = c.in_ok-next.ensures.round;
       showing = subst (IsShowing arcs) (sym c.in_ok-take_out.ensures.places)
-          (showing_next b rings arcs c.next_in_rounds.new.round s f.showing (f.flag ∙ c.corners.invariant.flag) f.keeping.fixed (heap_items c.next_in_rounds.new.heap) c.next_in_rounds.new.waiting c.in-Some.entry n on.stay c.law.ensures);
+          (showing_next b rings arcs c.next_in_rounds.new.round s f.showing (f.flag ∙ c.corners.invariant.flag) f.keeping.fixed c.next_in_rounds.new.queue c.next_in_rounds.new.waiting c.in-Some.entry n on.stay c.law.ensures);
       flag = ap (λ (x : Linked). x.no_crossings) c.in_ok-take_out.ensures.places ∙ f.flag ∙ c.corners.invariant.flag;
       keeping = subst (λ (x : Linked). IsKeeping arcs rings x c.next_in_rounds.new.rings) (sym c.in_ok-take_out.ensures.places) on.keeping;
       rest = ap (λ (x : Linked). eliminate_arcs (guarded_by b rings) (c.len-n.result - (c.corners._step + 1)) c.args.threshold (left_arcs arcs x.left)) c.in_ok-take_out.ensures.places
           ∙ one_step (guarded_by b rings) (c.len-n.result - c.corners._step) (c.len-n.result - (c.corners._step + 1)) c.args.threshold (left_arcs arcs s.left)
           (left_arcs arcs (unlinked c.in-Some.entry.place s).left) (remaining_arcs (guarded_by b rings) c.args.threshold arcs) steps
-          (goes_next b rings arcs c.next_in_rounds.new.round s f.showing (f.flag ∙ c.corners.invariant.flag) f.keeping.fixed (heap_items c.next_in_rounds.new.heap) c.next_in_rounds.new.waiting c.in-Some.entry n on.stay c.args.threshold c.in_ok-next.ensures.round c.law.ensures)
+          (goes_next b rings arcs c.next_in_rounds.new.round s f.showing (f.flag ∙ c.corners.invariant.flag) f.keeping.fixed c.next_in_rounds.new.queue c.next_in_rounds.new.waiting c.in-Some.entry n on.stay c.args.threshold c.in_ok-next.ensures.round c.law.ensures)
           (ap (λ bs. eliminate_arcs (guarded_by b rings) (c.len-n.result - c.corners._step) c.args.threshold (left_arcs arcs bs)) f.left ∙ c.corners.invariant.rest);
       apart = λ asked none.
           let others = g.S.Surroundings.others c.args.beside.now in
           subst (λ (x : Linked). GoesOnApart others c.args.threshold (c.len-n.result - (c.corners._step + 1)) arcs (left_arcs arcs x.left)) (sym c.in_ok-take_out.ensures.places)
           (more_apart others c.args.threshold (c.len-n.result - c.corners._step) (c.len-n.result - (c.corners._step + 1)) arcs (left_arcs arcs s.left) (left_arcs arcs (unlinked c.in-Some.entry.place s).left) steps
-          (one_apart b rings arcs c.next_in_rounds.new.round s f.showing (f.flag ∙ c.corners.invariant.flag) f.keeping.fixed (heap_items c.next_in_rounds.new.heap) c.next_in_rounds.new.waiting c.in-Some.entry n on.stay c.law.ensures c.args.threshold c.in_ok-next.ensures.round
+          (one_apart b rings arcs c.next_in_rounds.new.round s f.showing (f.flag ∙ c.corners.invariant.flag) f.keeping.fixed c.next_in_rounds.new.queue c.next_in_rounds.new.waiting c.in-Some.entry n on.stay c.law.ensures c.args.threshold c.in_ok-next.ensures.round
           asked none others (c.len-n.result - (c.corners._step + 1)) (subst (KeepsClear others) c.corner.ensures (c.are_clear_of.ensures.clear c.if-not-are_clear_of.false)))
           (subst (λ bs. GoesOnApart others c.args.threshold (c.len-n.result - c.corners._step) arcs (left_arcs arcs bs)) (sym f.left) (c.corners.invariant.apart asked none)));
     }

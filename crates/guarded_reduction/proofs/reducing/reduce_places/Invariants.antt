@@ -1,8 +1,6 @@
 use Rattle.std.proofs.Common.{◌≡◌, ◌-◌, ◌≤◌, [], true}
-use Rattle.std.specs.BinaryHeap.{heap_items, IsHeap}
 use Rattle.guarded_meaning.specs.Elimination.{eliminate_arcs, remaining_arcs}
 use Rattle.guarded_meaning.specs.Guards.{guarded_by}
-use Rattle.guarded_reduction.specs.Entries.{turned_cmp}
 use Rattle.guarded_reduction.specs.Keeping.{IsKeeping}
 use Rattle.guarded_reduction.specs.Linking.{IsShowing}
 use Rattle.guarded_reduction.specs.Numbers.{left_arcs}
@@ -13,8 +11,7 @@ use Rattle.guarded_reduction.proofs.reducing.reduce_places.Given as goal
 -- what is left is reduced to the same
 abbrev pub invariant-corners : goal.invariant-corners
 invariant-corners g l = record {
-  order : IsHeap turned_cmp (heap_items l.heap);
-  queued : IsQueued l.round l.places (heap_items l.heap) l.waiting;
+  queued : IsQueued l.round l.places l.queue l.waiting;
   round : l.round ≤ l.threshold;
   showing : IsShowing l.arcs l.places;
   flag : l.places.no_crossings ≡ l.fn.places.no_crossings;

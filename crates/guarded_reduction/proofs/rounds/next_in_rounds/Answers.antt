@@ -30,7 +30,6 @@ returns-in-Some-clause-fixing c = fixed_more c.args.places.now c.rounds.places c
 
 pub rounds-preserved : goal.rounds-preserved
 rounds-preserved c = record {
-  order = c.in_ok-begin_next_round.ensures.order;
   queued = c.in_ok-begin_next_round.ensures.queued;
   fixing = fixed_more c.args.places.now c.rounds.places c.next_going.new.places c.args.rings.now c.rounds.invariant.fixing
       (subst (λ (g : Counted). IsFixing c.rounds.places g c.next_going.new.places) c.rounds.invariant.rings c.in_ok-entry.ensures.fixing);

@@ -1,13 +1,10 @@
 use Rattle.std.specs.Prelude.{◌≡◌, ◌-◌, ◌≤◌}
-use Rattle.std.specs.BinaryHeap.{heap_items, IsHeap}
-use Rattle.guarded_reduction.specs.Entries.{turned_cmp}
 use Rattle.guarded_reduction.specs.States.{IsFixing, IsQueued}
 use Rattle.guarded_reduction.proofs.rounds.next_in_rounds.Given as goal
 
 abbrev pub invariant-rounds : goal.invariant-rounds
 invariant-rounds l = record {
-  order : IsHeap turned_cmp (heap_items l.heap);
-  queued : IsQueued l.round l.places (heap_items l.heap) l.waiting;
+  queued : IsQueued l.round l.places l.queue l.waiting;
   fixing : IsFixing l.fn.places l.fn.rings l.places;
   rings : l.rings ≡ l.fn.rings;
   round : l.round ≤ l.threshold;

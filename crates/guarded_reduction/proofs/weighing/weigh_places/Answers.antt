@@ -1,5 +1,4 @@
 use Rattle.std.proofs.Common.{◌≡◌, ℕ, ◌+◌, ◌-◌, ◌<◌, suc, ap, length, length-set, slice_set, sym, subst, ◌∙◌, arith}
-use Rattle.std.specs.BinaryHeap.{heap_items}
 use Rattle.guarded_meaning.specs.Guards.{guarded_by}
 use Rattle.guarded_reduction.specs.Keeping.{IsKeeping}
 use Rattle.guarded_reduction.specs.Linking.{IsShowing, Linked, unlinked}
@@ -15,7 +14,6 @@ use Rattle.guarded_reduction.proofs.weighing.weigh_places.Goals as goal
 
 pub corners-init : goal.corners-init
 corners-init c = record {
-  order = c.in_ok-begin_round.ensures.order;
   queued = c.in_ok-begin_round.ensures.queued;
   round = c.next_threshold-round.ensures.within;
   showing = subst (IsShowing c.args.arcs.now) (sym c.requires.first) (first_showing c.args.places.now.no_crossings c.args.arcs.now);
@@ -55,13 +53,12 @@ corners-preserved c =
     let steps : c.len-n.result - c.corners._step ≡ suc (c.len-n.result - (c.corners._step + 1)) = omega (arith, c.corners-test.true) in
     let within : c.in-Some.entry.place < length s.left = omega (arith, n.due.corner.within, c.law.ensures.left) in
     let inside : c.in-Some.entry.place < length c.corners.levels = omega (arith, n.due.corner.within, many) in
-    let gone = one_gone b rings arcs s f.showing flag f.keeping.fixed below c.next_in_rounds.new.round (heap_items c.next_in_rounds.new.heap) c.next_in_rounds.new.waiting c.in-Some.entry c.law.ensures n g.stay in
+    let gone = one_gone b rings arcs s f.showing flag f.keeping.fixed below c.next_in_rounds.new.round c.next_in_rounds.new.queue c.next_in_rounds.new.waiting c.in-Some.entry c.law.ensures n g.stay in
     record {
-      order = c.in_ok-take_out.ensures.order;
       queued = c.in_ok-take_out.ensures.queued;
       round = c.in_ok-next.ensures.round;
       showing = subst (IsShowing arcs) (sym c.in_ok-take_out.ensures.places)
-          (showing_next b rings arcs c.next_in_rounds.new.round s f.showing flag f.keeping.fixed (heap_items c.next_in_rounds.new.heap) c.next_in_rounds.new.waiting c.in-Some.entry n g.stay c.law.ensures);
+          (showing_next b rings arcs c.next_in_rounds.new.round s f.showing flag f.keeping.fixed c.next_in_rounds.new.queue c.next_in_rounds.new.waiting c.in-Some.entry n g.stay c.law.ensures);
       flag = ap (λ (x : Linked). x.no_crossings) c.in_ok-take_out.ensures.places ∙ flag;
       keeping = subst (λ (x : Linked). IsKeeping arcs rings x c.next_in_rounds.new.rings) (sym c.in_ok-take_out.ensures.places) g.keeping;
       below = c.in_ok-take_out.ensures.below below;

@@ -1,8 +1,7 @@
 use Rattle.std.proofs.Common.{◌≡◌, ◌-◌, ◌≤◌, length}
-use Rattle.std.specs.BinaryHeap.{heap_items, IsHeap}
 use Rattle.geometry.specs.Units.{area_limit}
 use Rattle.guarded_meaning.specs.Guards.{guarded_by}
-use Rattle.guarded_reduction.specs.Entries.{AreBelow, turned_cmp}
+use Rattle.guarded_reduction.specs.Entries.{AreBelow}
 use Rattle.guarded_reduction.specs.Keeping.{IsKeeping}
 use Rattle.guarded_reduction.specs.Linking.{IsShowing}
 use Rattle.guarded_reduction.specs.States.{IsQueued}
@@ -12,8 +11,7 @@ use Rattle.guarded_reduction.proofs.weighing.weigh_places.Given as goal
 -- what is gone has its weight, and what is left gets it in the steps that are ahead
 abbrev pub invariant-corners : goal.invariant-corners
 invariant-corners l = record {
-  order : IsHeap turned_cmp (heap_items l.heap);
-  queued : IsQueued l.round l.places (heap_items l.heap) l.waiting;
+  queued : IsQueued l.round l.places l.queue l.waiting;
   round : l.round ≤ area_limit;
   showing : IsShowing l.arcs l.places;
   flag : l.places.no_crossings ≡ l.fn.places.no_crossings;

@@ -1,6 +1,6 @@
 -- Lists of places by cells.
-use Rattle.std.proofs.Common.{◌≡◌, ◌≢◌, ℕ, zero, suc, ℤ, ◌+◌, ◌-◌, ◌*◌, ◌/◌, ◌^◌, ◌<◌, ◌≤◌, ◌≤ℤ◌, Bool, true, false, List, [], ◌∷◌, ◌++◌, length, replicate, slice_index, slice_set, length-append, length-set, get_or-set_same, get_or-set_other, ◌&&◌, unsigned_abs, pos, ◌-ℤ◌, refl, ap, sym, subst, ◌∙◌, ◌⊎◌, inl, inr, arith}
-use Rattle.std.proofs.Math.Nat.{div-le_self, div-mul-le_self}
+use Rattle.std.proofs.Common.{◌≡◌, ◌≢◌, ℕ, ℤ, ◌+◌, ◌-◌, ◌/◌, ◌^◌, ◌<◌, ◌≤◌, ◌≤ℤ◌, Bool, true, false, List, [], ◌∷◌, ◌++◌, length, replicate, slice_index, slice_set, length-append, get_or-set_same, get_or-set_other, ◌&&◌, unsigned_abs, ◌-ℤ◌, refl, ap, sym, subst, ◌∙◌, ◌⊎◌, inl, inr, arith}
+use Rattle.std.proofs.Math.Nat.{div-mul-le_self}
 use Rattle.std.proofs.lemmas.Bool.{cases_Bool, cases_eq, cases_lt}
 use Rattle.std.proofs.lemmas.List.{get_or-replicate, length-replicate, get_or_append_left, get_or_past, get_or_push}
 use Rattle.std.proofs.lemmas.Nat.{le-div, pow_pos}
@@ -8,7 +8,6 @@ use Rattle.geometry.specs.Points.{Point}
 use Rattle.guarded_reduction.specs.declared.cell_lists.Grid.{Grid}
 use Rattle.guarded_reduction.specs.declared.extent.Extent.{Extent}
 use Rattle.guarded_reduction.specs.Cells.{AreChained, IsGrid, IsOn, NoneMeetsInRow, NoneMeetsInRows, NoneMeetsOn, cell_along, least, list_at, list_of}
-use Rattle.guarded_reduction.specs.Extents.{HoldsPoint}
 use Rattle.guarded_reduction.specs.Indexes.{NoneMeets, is_left_at, point_at}
 use Rattle.guarded_reduction.specs.Tests.{Reaches, Test}
 

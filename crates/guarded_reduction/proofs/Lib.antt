@@ -32,6 +32,7 @@ pub mod Queues
 pub mod Queued
 pub mod RingMoves
 pub mod Searches
+pub mod Short
 pub mod Showing
 pub mod Sided
 pub mod Starts

@@ -21,6 +21,7 @@ pub mod Placed
 pub mod PlacedLists
 pub mod Probes
 pub mod Queues
+pub mod Short
 pub mod Shown
 pub mod States
 pub mod Tests

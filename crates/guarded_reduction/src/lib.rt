@@ -57,6 +57,7 @@ mod ring_moves;
 mod rounds;
 mod run;
 mod searching;
+mod short_arc;
 mod shown_places;
 mod sides;
 mod skipping;

@@ -10,6 +10,7 @@ ghost use Rattle.guarded_reduction.specs.Parts.{AreAlone, MarksMore, PutsAlone};
 
 use crate::extent::{Extent, around, empty_extent, joined, meets};
 use crate::reducing::reduce_beside;
+use crate::short_arc::reduced_short;
 use crate::surroundings::OtherArcs;
 use crate::whole_arcs::WholeArcs;
 use geometry::Position;
@@ -19,6 +20,9 @@ use std::{mem, slice};
 
 /// So many boxes are compared at most for each position, to find the arcs that may meet those that don't keep clear of others.
 const MOST_BOXES: usize = 32;
+
+/// An arc is short that has so many positions at most.
+const MOST_SHORT: usize = 64;
 
 /// Of one arc the numbers of the positions that stay, where no corner that goes meets an arc that isn't marked.
 fn reduced_alone(
@@ -34,6 +38,10 @@ fn reduced_alone(
     ensures kept { IfOk result (λ found. IfSome found (λ kept. kept.items ∷ [] ≡ reduce_arcs (guarded_by true []) threshold arc.now)) }
 {
     let beside = OtherArcs::of(whole, inside);
+    let positions = arc[0].as_slice();
+    if positions.len() <= MOST_SHORT {
+        return reduced_short(alloc, positions, threshold, &beside);
+    }
     let Some(mut kept) = reduce_beside(alloc, arc, true, &[], threshold, &beside)? else {
         return Ok(None);
     };

@@ -1,4 +1,4 @@
-use Rattle.std.proofs.Common.{◌≡◌, FitsSigned, of_z, to_z, w64, arith}
+use Rattle.std.proofs.Common.{w64, arith}
 use Rattle.std.proofs.lemmas.Int.{ints, to_z-of_z}
 use Rattle.guarded_reduction.proofs.Cells.{cell_mono}
 use Rattle.guarded_reduction.proofs.cell_lists.cell_along.Goals as goal

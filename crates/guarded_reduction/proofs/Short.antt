@@ -1,0 +1,329 @@
+-- An arc that is reduced by itself, of which some indexes are left.
+use Rattle.std.proofs.Common.{◌≡◌, ℕ, zero, suc, ◌+◌, ◌<◌, ◌≤◌, ◌==◌, Bool, true, false, not, ◌&&◌, ◌||◌, nat_lt, List, [], ◌∷◌, All, length, map, drop, get_or, eqb, Option, Some, None, refl, ap, sym, ◌∙◌, subst, ◌⊎◌, inl, inr, arith, add-one, drop-cons, length-drop}
+use Rattle.std.specs.List.{AllByRecursion, filter, list_all, range_with_len}
+use Rattle.std.proofs.lemmas.Bool.{and_parts, and_from, both_ways, false_from_ne_true}
+use Rattle.std.proofs.lemmas.List.Elements.{All-filter}
+use Rattle.geometry.specs.Lists.{In, joined}
+use Rattle.geometry.specs.Points.{Point}
+use Rattle.geometry.specs.Rings.{same}
+use Rattle.elimination_meaning.specs.Elimination.{Vertex, numbered}
+use Rattle.effective_area.specs.Vertices.{vertex_at, vertices}
+use Rattle.effective_area.proofs.Scan.{all_inside, all_vertices, indexes_of, without_vertices}
+use Rattle.guarded_meaning.specs.Arcs.{ArcCorner, HasOwnIndexes, all_corners, all_neighbours, arc_corner_at, is_pair_of, left_by, segment_of}
+use Rattle.guarded_meaning.specs.Elimination.{eliminate_arcs, goes, goes_before, next_arcs, reduce_arcs, remaining_arcs}
+use Rattle.guarded_meaning.specs.Guards.{guarded_by, has_empty_triangle, has_open_base, is_free, keeps_rings}
+use Rattle.guarded_meaning.specs.Parts.{GoesFirst, IsClearOf, StaysApart}
+use Rattle.guarded_meaning.specs.Segments.{segment, same_ends}
+use Rattle.guarded_meaning.specs.Triangles.{is_clear}
+use Rattle.guarded_meaning.proofs.First.{next_law, no_next_law}
+use Rattle.guarded_meaning.proofs.OneFirst.{first_is_one}
+use Rattle.guarded_meaning.proofs.Order.{goes_order}
+use Rattle.guarded_meaning.proofs.Removal.{all_numbered_own, own_indexes_left}
+use Rattle.guarded_reduction.specs.declared.short_arc.Candidate.{Candidate}
+use Rattle.guarded_reduction.specs.Short.{IsBest, IsNotBefore, corner_of, goes_ahead, is_sooner, only_arc, opens}
+use Rattle.guarded_reduction.specs.Tests.{is_held_by}
+use Rattle.guarded_reduction.proofs.Next.{all_steps, no_step, one_step}
+use Rattle.guarded_reduction.proofs.Parting.{GoesOnApart, KeepsClear, all_apart, more_apart, none_apart}
+
+from : (is : List ℕ) (k : ℕ) → k < length is → drop k is ≡ get_or is k 0 ∷ drop (k + 1) is
+from is k h = rw (add-one, drop-cons is k 0) refl
+
+-- what a negated test says
+pub closes : (b r : Bool) → r ≡ not b → r ≡ true → b ≡ false
+closes false r e f = refl
+closes true r e f = absurd cc
+
+pub opened : (b r : Bool) → r ≡ not b → r ≡ false → b ≡ true
+opened true r e f = refl
+opened false r e f = absurd cc
+
+-- ---- the triangle
+
+not_both : (a b : Bool) → (a || b) ≡ not (not a && not b)
+not_both false b = sym (twice b)
+  where
+    twice : (b : Bool) → not (not b) ≡ b
+    twice false = refl
+    twice true = refl
+not_both true b = refl
+
+module _ (ps : List Point) (c : Candidate) where
+  abbrev IsEmpty : List ℕ → Bool
+  IsEmpty is = has_empty_triangle (only_arc ps is) (corner_of c)
+
+  abbrev held : ℕ → Bool
+  held i = is_held_by c.corner i (vertex_at ps i).point
+
+  empty_step : (i : ℕ) (js : List ℕ) → IsEmpty (i ∷ js) ≡ (not (held i) && IsEmpty js)
+  unfolding is_held_by
+  empty_step i js = ap (λ b. b && IsEmpty js) (not_both (i == c.corner.place) (is_clear c.corner.before c.corner.at c.corner.after (vertex_at ps i).point))
+
+  empty_at : (is : List ℕ) (k : ℕ) → k < length is → IsEmpty (drop k is) ≡ (not (held (get_or is k 0)) && IsEmpty (drop (k + 1) is))
+  empty_at is k h = ap IsEmpty (from is k h) ∙ empty_step (get_or is k 0) (drop (k + 1) is)
+
+  pub empty_on : (is : List ℕ) (k : ℕ) (b : Bool) → k < length is → held (get_or is k 0) ≡ false → b ≡ IsEmpty (drop k is) → b ≡ IsEmpty (drop (k + 1) is)
+  empty_on is k b h e f = f ∙ empty_at is k h ∙ ap (λ x. not x && IsEmpty (drop (k + 1) is)) e
+
+  pub not_empty : (is : List ℕ) (k : ℕ) (b : Bool) → k < length is → held (get_or is k 0) ≡ true → b ≡ IsEmpty (drop k is) → false ≡ b
+  not_empty is k b h e f = sym (f ∙ empty_at is k h ∙ ap (λ x. not x && IsEmpty (drop (k + 1) is)) e)
+
+  pub empty_end : (is : List ℕ) (k : ℕ) (b : Bool) → length is ≤ k → b ≡ IsEmpty (drop k is) → true ≡ b
+  empty_end is k b h f = sym (f ∙ ap IsEmpty (drop_all is k h))
+    where
+      drop_all : (xs : List ℕ) (n : ℕ) → length xs ≤ n → drop n xs ≡ []
+      drop_all [] zero l = refl
+      drop_all [] (suc n) l = refl
+      drop_all (x ∷ xs) zero l = absurd (omega (arith, l))
+      drop_all (x ∷ xs) (suc n) l = drop_all xs n (omega (arith, l))
+
+  -- ---- the base
+
+  abbrev IsOpen : List ℕ → Bool
+  IsOpen is = has_open_base (only_arc ps is) (corner_of c)
+
+  abbrev open_at : ℕ → ℕ → Bool
+  open_at i j = opens (corner_of c) (vertex_at ps i) (vertex_at ps j)
+
+  more_open : (a b r : Bool) → b ≡ true → (a || (b && r)) ≡ (a || r)
+  more_open a true r e = refl
+  more_open a false r e = absurd cc
+
+  less_open : (a b r : Bool) → a ≡ false → b ≡ false → (a || (b && r)) ≡ false
+  less_open false false r d e = refl
+  less_open true b r d e = absurd cc
+  less_open a true r d e = absurd cc
+
+  two : (is : List ℕ) (k : ℕ) → k + 1 < length is → drop k is ≡ get_or is k 0 ∷ (get_or is (k + 1) 0 ∷ drop (k + 1 + 1) is)
+  two is k h = from is k (omega (arith, h)) ∙ ap (λ l. get_or is k 0 ∷ l) (from is (k + 1) h)
+
+  abbrev rest_open : List ℕ → Bool
+  rest_open is = list_all (λ n. is_pair_of (corner_of c) n || not (same_ends (segment (corner_of c).before (corner_of c).after) (segment_of n))) (all_neighbours 0 (only_arc ps is))
+
+  pub open_on : (is : List ℕ) (k : ℕ) (b : Bool) → k + 1 < length is → open_at (get_or is k 0) (get_or is (k + 1) 0) ≡ true → b ≡ IsOpen (drop k is) → b ≡ IsOpen (drop (k + 1) is)
+  open_on is k b h e f =
+      f ∙ ap IsOpen (two is k h) ∙ more_open (same c.corner.before c.corner.after) (open_at (get_or is k 0) (get_or is (k + 1) 0)) (rest_open (get_or is (k + 1) 0 ∷ drop (k + 1 + 1) is)) e
+      ∙ sym (ap IsOpen (from is (k + 1) h))
+
+  pub not_open : (is : List ℕ) (k : ℕ) (b : Bool) → k + 1 < length is → same c.corner.before c.corner.after ≡ false → open_at (get_or is k 0) (get_or is (k + 1) 0) ≡ false → b ≡ IsOpen (drop k is) → false ≡ b
+  not_open is k b h d e f =
+      sym (f ∙ ap IsOpen (two is k h) ∙ less_open (same c.corner.before c.corner.after) (open_at (get_or is k 0) (get_or is (k + 1) 0)) (rest_open (get_or is (k + 1) 0 ∷ drop (k + 1 + 1) is)) d e)
+
+  open_one : (a : Bool) → (a || true) ≡ true
+  open_one true = refl
+  open_one false = refl
+
+  pub open_end : (is : List ℕ) (k : ℕ) (b : Bool) → length is ≤ k + 1 → b ≡ IsOpen (drop k is) → true ≡ b
+  open_end is k b h f = sym (f ∙ short (drop k is) (let l = length-drop k is in omega (arith, l, h)))
+    where
+      short : (xs : List ℕ) → length xs ≤ 1 → IsOpen xs ≡ true
+      short [] l = open_one (same c.corner.before c.corner.after)
+      short (x ∷ []) l = open_one (same c.corner.before c.corner.after)
+      short (x ∷ (y ∷ xs)) l = absurd (omega (arith, l))
+
+-- ---- the first corner
+
+not_itself : (c : ArcCorner) → goes_before c c ≡ false
+not_itself c = grind (arith, goes_order.one_way)
+
+not_before : (b c d : ArcCorner) → goes_before d b ≡ false → goes_before c b ≡ true → goes_before d c ≡ false
+not_before b c d h k = grind (arith, goes_order.chain, goes_order.one_way)
+
+and_true : (a b : Bool) → (a && (b && true)) ≡ (a && b)
+and_true a b = grind arith
+
+module _ (n : Bool) (t : ℕ) (arcs : List (List Vertex)) where
+  abbrev may : Candidate → Bool
+  may c = not n || is_free arcs (corner_of c)
+
+  goes_so : (c : Candidate) → goes (guarded_by n []) t arcs (corner_of c) ≡ (nat_lt c.area t && may c)
+  unfolding keeps_rings
+  goes_so c = and_true (nat_lt c.area t) (may c)
+
+  sooner_goes : (best : Option Candidate) (c : Candidate) → is_sooner n t arcs best c ≡ true → (goes (guarded_by n []) t arcs (corner_of c) ≡ true) × (goes_ahead best c ≡ true)
+  sooner_goes best c h =
+      let a = and_parts (nat_lt c.area t) (goes_ahead best c && may c) h in
+      let b = and_parts (goes_ahead best c) (may c) a.1 in
+      (goes_so c ∙ and_from (nat_lt c.area t) (may c) a.0 b.1, b.0)
+
+  goes_later : (best : Option Candidate) (c : Candidate) → is_sooner n t arcs best c ≡ false → goes (guarded_by n []) t arcs (corner_of c) ≡ true → IsNotBefore (corner_of c) best
+  goes_later best c h g = on best h
+    where
+      parts : (nat_lt c.area t ≡ true) × (may c ≡ true)
+      parts = and_parts (nat_lt c.area t) (may c) (sym (goes_so c) ∙ g)
+
+      on : (b : Option Candidate) → is_sooner n t arcs b c ≡ false → IsNotBefore (corner_of c) b
+      on None k = absurd (both_ways (is_sooner n t arcs None c) k (and_from (nat_lt c.area t) (true && may c) parts.0 parts.1))
+      on (Some b) k = false_from_ne_true (goes_before (corner_of c) (corner_of b)) (λ e. both_ways (is_sooner n t arcs (Some b) c) k
+          (and_from (nat_lt c.area t) (goes_before (corner_of c) (corner_of b) && may c) parts.0 (and_from (goes_before (corner_of c) (corner_of b)) (may c) e parts.1)))
+
+  pub not_sooner : (best : Option Candidate) (c : Candidate) (rest : List ArcCorner) → is_sooner n t arcs best c ≡ false → IsBest n t arcs best (corner_of c ∷ rest) → IsBest n t arcs best rest
+  not_sooner best c rest h b = record {
+    covers = λ d m g. on d g (b.covers d m g);
+    within = λ d m. b.within d (inr m);
+    among = b.among;
+    passes = b.passes;
+  }
+    where
+      on : (d : ArcCorner) → goes (guarded_by n []) t arcs d ≡ true → In d (corner_of c ∷ rest) ⊎ IsNotBefore d best → In d rest ⊎ IsNotBefore d best
+      on d g (inr n) = inr n
+      on d g (inl (inr m)) = inl m
+      on d g (inl (inl e)) = inr (subst (λ x. IsNotBefore x best) (sym e) (goes_later best c h (subst (λ x. goes (guarded_by n []) t arcs x ≡ true) e g)))
+
+  pub sooner : (best : Option Candidate) (c : Candidate) (rest : List ArcCorner) → is_sooner n t arcs best c ≡ true → IsBest n t arcs best (corner_of c ∷ rest) → IsBest n t arcs (Some c) rest
+  sooner best c rest h b = record {
+    covers = λ d m g. on d (b.covers d m g);
+    within = λ d m. b.within d (inr m);
+    among = b.within (corner_of c) (inl refl);
+    passes = (sooner_goes best c h).0;
+  }
+    where
+      past : (o : Option Candidate) → goes_ahead o c ≡ true → (d : ArcCorner) → IsNotBefore d o → goes_before d (corner_of c) ≡ false
+      past None e d n = absurd n
+      past (Some o) e d n = not_before (corner_of o) (corner_of c) d n e
+
+      on : (d : ArcCorner) → In d (corner_of c ∷ rest) ⊎ IsNotBefore d best → In d rest ⊎ IsNotBefore d (Some c)
+      on d (inr n) = inr (past best (sooner_goes best c h).1 d n)
+      on d (inl (inr m)) = inl m
+      on d (inl (inl e)) = inr (subst (λ x. goes_before x (corner_of c) ≡ false) (sym e) (not_itself (corner_of c)))
+
+-- ---- the corners, one after another
+
+module _ (n : Bool) (ps : List Point) where
+  abbrev pub corners_of : List ℕ → List ArcCorner
+  corners_of is = all_corners 0 (only_arc ps is)
+
+  three : (is : List ℕ) (k : ℕ) → k + 2 < length is → drop k is ≡ get_or is k 0 ∷ (get_or is (k + 1) 0 ∷ (get_or is (k + 2) 0 ∷ drop (k + 2 + 1) is))
+  three is k h =
+      let e : drop (k + 1 + 1) is ≡ drop (k + 2) is = ap (λ n. drop n is) (omega arith) in
+      from is k (omega (arith, h)) ∙ ap (λ l. get_or is k 0 ∷ l) (from is (k + 1) (omega (arith, h)) ∙ ap (λ l. get_or is (k + 1) 0 ∷ l) (e ∙ from is (k + 2) h))
+
+  last_two : (is : List ℕ) (k : ℕ) → k + 2 < length is → drop (k + 1) is ≡ get_or is (k + 1) 0 ∷ (get_or is (k + 2) 0 ∷ drop (k + 2 + 1) is)
+  last_two is k h =
+      let e : drop (k + 1 + 1) is ≡ drop (k + 2) is = ap (λ n. drop n is) (omega arith) in
+      from is (k + 1) (omega (arith, h)) ∙ ap (λ l. get_or is (k + 1) 0 ∷ l) (e ∙ from is (k + 2) h)
+
+  next_corners : (is : List ℕ) (k : ℕ) (c : ArcCorner) → k + 2 < length is → c ≡ arc_corner_at 0 (vertex_at ps (get_or is k 0)) (vertex_at ps (get_or is (k + 1) 0)) (vertex_at ps (get_or is (k + 2) 0)) →
+      corners_of (drop k is) ≡ c ∷ corners_of (drop (k + 1) is)
+  next_corners is k c h e = ap corners_of (three is k h) ∙ ap (λ d. d ∷ corners_of (get_or is (k + 1) 0 ∷ (get_or is (k + 2) 0 ∷ drop (k + 2 + 1) is))) (sym e) ∙ ap (λ l. c ∷ corners_of l) (sym (last_two is k h))
+
+  abbrev pub IsBestFrom : ℕ → List ℕ → ℕ → Option Candidate → Type 0
+  IsBestFrom t is k best = IsBest n t (only_arc ps is) best (corners_of (drop k is))
+
+  pub best_first : (t : ℕ) (is : List ℕ) → IsBestFrom t is 0 None
+  best_first t is = record { covers = λ d m g. inl m; within = λ d m. m; among = tt; passes = tt }
+
+  pub best_same : (t : ℕ) (is : List ℕ) (k : ℕ) (best : Option Candidate) (c : Candidate) → k + 2 < length is →
+      corner_of c ≡ arc_corner_at 0 (vertex_at ps (get_or is k 0)) (vertex_at ps (get_or is (k + 1) 0)) (vertex_at ps (get_or is (k + 2) 0)) →
+      is_sooner n t (only_arc ps is) best c ≡ false → IsBestFrom t is k best → IsBestFrom t is (k + 1) best
+  best_same t is k best c h e s b = not_sooner n t (only_arc ps is) best c (corners_of (drop (k + 1) is)) s (subst (IsBest n t (only_arc ps is) best) (next_corners is k (corner_of c) h e) b)
+
+  pub best_new : (t : ℕ) (is : List ℕ) (k : ℕ) (best : Option Candidate) (c : Candidate) → k + 2 < length is →
+      corner_of c ≡ arc_corner_at 0 (vertex_at ps (get_or is k 0)) (vertex_at ps (get_or is (k + 1) 0)) (vertex_at ps (get_or is (k + 2) 0)) →
+      is_sooner n t (only_arc ps is) best c ≡ true → IsBestFrom t is k best → IsBestFrom t is (k + 1) (Some c)
+  best_new t is k best c h e s b = sooner n t (only_arc ps is) best c (corners_of (drop (k + 1) is)) s (subst (IsBest n t (only_arc ps is) best) (next_corners is k (corner_of c) h e) b)
+
+  pub best_of_all : (t : ℕ) (is : List ℕ) (k : ℕ) (best : Option Candidate) → length is ≤ k + 2 → IsBestFrom t is k best → IsBest n t (only_arc ps is) best []
+  best_of_all t is k best h b = subst (IsBest n t (only_arc ps is) best) (short (drop k is) (let l = length-drop k is in omega (arith, l, h))) b
+    where
+      short : (xs : List ℕ) → length xs ≤ 2 → corners_of xs ≡ []
+      short [] l = refl
+      short (x ∷ []) l = refl
+      short (x ∷ (y ∷ [])) l = refl
+      short (x ∷ (y ∷ (z ∷ xs))) l = absurd (omega (arith, l))
+
+-- what goes without a crossing goes where any may be made
+free_goes : (t : ℕ) (arcs : List (List Vertex)) (d : ArcCorner) → goes (guarded_by true []) t arcs d ≡ true → goes (guarded_by false []) t arcs d ≡ true
+unfolding keeps_rings
+free_goes t arcs d g = and_from (nat_lt d.corner.area t) true (and_parts (nat_lt d.corner.area t) (is_free arcs d && true) g).0 refl
+
+-- the first of all corners, where it goes without a crossing, and where there is none
+pub first_free : (t : ℕ) (arcs : List (List Vertex)) (c : Candidate) → IsBest false t arcs (Some c) [] → is_free arcs (corner_of c) ≡ true → IsBest true t arcs (Some c) []
+first_free t arcs c b f = record {
+  covers = λ d m g. b.covers d m (free_goes t arcs d g);
+  within = b.within;
+  among = b.among;
+  passes = goes_so true t arcs c ∙ and_from (nat_lt c.area t) (is_free arcs (corner_of c)) (and_parts (nat_lt c.area t) true (sym (goes_so false t arcs c) ∙ b.passes)).0 f;
+}
+
+pub none_free : (t : ℕ) (arcs : List (List Vertex)) → IsBest false t arcs None [] → IsBest true t arcs None []
+none_free t arcs b = record { covers = λ d m g. b.covers d m (free_goes t arcs d g); within = b.within; among = tt; passes = tt }
+
+-- ---- corner after corner
+
+-- of the arc these indexes are left, and so many corners go at most
+pub record IsLeft (others : List (List Point)) (t n : ℕ) (ps : List Point) (is : List ℕ) : Type 0 where
+  pub inside : All (λ i. i < length ps) is
+  pub own : AllByRecursion HasOwnIndexes (only_arc ps is)
+  pub rest : eliminate_arcs (guarded_by true []) n t (only_arc ps is) ≡ remaining_arcs (guarded_by true []) t (ps ∷ [])
+  pub apart : GoesOnApart others t n (ps ∷ []) (only_arc ps is)
+
+module _ (others : List (List Point)) (t : ℕ) (ps : List Point) where
+  abbrev pub IsReduced : List ℕ → Type 0
+  IsReduced is = (is ∷ [] ≡ reduce_arcs (guarded_by true []) t (ps ∷ [])) × StaysApart others t (length (joined (ps ∷ []))) (map (numbered 0) (ps ∷ []))
+
+  whole : (is : List ℕ) → is ≡ range_with_len 0 (length ps) → only_arc ps is ≡ map (numbered 0) (ps ∷ [])
+  whole is e = ap (λ l. l ∷ []) (ap (vertices ps) e ∙ all_vertices ps)
+
+  size : (n : ℕ) → n ≡ length ps → n ≡ length (joined (ps ∷ []))
+  size n e = e ∙ sym (length-append_nil ps)
+    where
+      length-append_nil : (xs : List Point) → length (joined (xs ∷ [])) ≡ length xs
+      length-append_nil [] = refl
+      length-append_nil (x ∷ xs) = ap suc (length-append_nil xs)
+
+  pub left_first : (n : ℕ) (is : List ℕ) → n ≡ length ps → is ≡ range_with_len 0 (length ps) → IsLeft others t n ps is
+  left_first n is e f = record {
+    inside = subst (λ (l : List ℕ). All (λ i. i < length ps) l) (sym f) (all_inside (length ps));
+    own = subst (AllByRecursion HasOwnIndexes) (sym (whole is f)) (all_numbered_own (ps ∷ []));
+    rest = ap (λ k. eliminate_arcs (guarded_by true []) k t (only_arc ps is)) (size n e) ∙ ap (eliminate_arcs (guarded_by true []) (length (joined (ps ∷ []))) t) (whole is f);
+    apart = λ s. subst (λ k. StaysApart others t k (map (numbered 0) (ps ∷ []))) (size n e) (subst (StaysApart others t n) (whole is f) s);
+  }
+
+  module _ (n : ℕ) (is : List ℕ) (l : IsLeft others t n ps is) where
+    abbrev now : List (List Vertex)
+    now = only_arc ps is
+
+    goes_first : (c : Candidate) → IsBest true t now (Some c) [] → GoesFirst t now (corner_of c)
+    goes_first c b = record { among = b.among; passes = b.passes; none_before = λ d m g. on d (b.covers d m g) }
+      where
+        on : (d : ArcCorner) → In d [] ⊎ IsNotBefore d (Some c) → goes_before d (corner_of c) ≡ false
+        on d (inl m) = elim m [ ]
+        on d (inr h) = h
+
+    leaves : (c : Candidate) (js : List ℕ) → js ≡ filter (λ i. not (eqb i c.corner.place)) is → left_by now (corner_of c) ≡ only_arc ps js
+    leaves c js e = ap (λ vs. vs ∷ []) (without_vertices ps c.corner.place is ∙ sym (ap (vertices ps) e))
+
+    pub left_next : (m : ℕ) (c : Candidate) (js : List ℕ) → n ≡ suc m → IsBest true t now (Some c) [] → KeepsClear others c.corner → js ≡ filter (λ i. not (eqb i c.corner.place)) is → IsLeft others t m ps js
+    left_next m c js e b clear f =
+        let g : GoesFirst t now (corner_of c) = goes_first c b in
+        record {
+          inside = subst (λ (l : List ℕ). All (λ i. i < length ps) l) (sym f) (All-filter (λ i. not (eqb i c.corner.place)) (λ i. i < length ps) is l.inside);
+          own = subst (AllByRecursion HasOwnIndexes) (leaves c js f) (own_indexes_left 0 c.corner.place now l.own);
+          rest = one_step (guarded_by true []) n m t now (only_arc ps js) (remaining_arcs (guarded_by true []) t (ps ∷ [])) e
+              (next_law (guarded_by true []) t now (corner_of c) g.among g.passes g.none_before ∙ ap Some (leaves c js f)) l.rest;
+          apart = more_apart others t n m (ps ∷ []) now (only_arc ps js) e (λ s d h. subst (λ (x : ArcCorner). IsClearOf others x × StaysApart others t m (left_by now x)) (first_is_one t now (corner_of c) d l.own g h)
+              (clear (corner_of c) refl refl refl, subst (StaysApart others t m) (sym (leaves c js f)) s)) l.apart;
+        }
+
+    reduced : now ≡ remaining_arcs (guarded_by true []) t (ps ∷ []) → is ∷ [] ≡ reduce_arcs (guarded_by true []) t (ps ∷ [])
+    unfolding reduce_arcs
+    reduced e = sym (ap (λ js. js ∷ []) (indexes_of ps is)) ∙ ap (map (map (λ v. v.index))) e
+
+    none_goes : IsBest true t now None [] → next_arcs (guarded_by true []) t now ≡ None
+    none_goes b = no_next_law (guarded_by true []) t now (λ d m. false_from_ne_true (goes (guarded_by true []) t now d) (λ g. on d (b.covers d m g)))
+      where
+        on : (d : ArcCorner) → In d [] ⊎ IsNotBefore d None → ⊥
+        on d (inl m) = elim m [ ]
+        on d (inr h) = h
+
+    pub left_none : IsBest true t now None [] → IsReduced is
+    left_none b = (reduced (no_step (guarded_by true []) n t now (remaining_arcs (guarded_by true []) t (ps ∷ [])) (none_goes b) l.rest), l.apart (none_apart others t n now (none_goes b)))
+
+    pub left_all : n ≡ 0 → IsReduced is
+    left_all e = (reduced (all_steps (guarded_by true []) n t now (remaining_arcs (guarded_by true []) t (ps ∷ [])) e l.rest), all_apart others t n (ps ∷ []) now e l.apart)
+
+-- the only one of a list
+pub only_of : {X : Type 0} (xs : List X) (x : X) → length xs ≡ 1 → x ≡ get_or xs 0 x → xs ≡ x ∷ []
+only_of [] x h e = absurd (omega (arith, h))
+only_of (y ∷ []) x h e = ap (λ z. z ∷ []) (sym e)
+only_of (y ∷ (z ∷ zs)) x h e = absurd (omega (arith, h))

@@ -1,0 +1,252 @@
+// A short arc that is reduced by itself, straight from the definition.
+ghost use Rattle.std.specs.Prelude.{◌≡◌, ◌&&◌, [], ◌∷◌, ◌==◌, ◌<◌, All, IfOk, length, map, nat_lt, not, true};
+ghost use Rattle.std.specs.List.{filter, range_with_len};
+ghost use Rattle.std.specs.Option.{IfSome};
+ghost use Rattle.elimination_meaning.specs.Elimination.{numbered};
+ghost use Rattle.effective_area.specs.Vertices.{vertex_at, vertices};
+ghost use Rattle.geometry.specs.Lists.{joined};
+ghost use Rattle.guarded_meaning.specs.Arcs.{arc_corner_at};
+ghost use Rattle.guarded_meaning.specs.Elimination as meaning;
+ghost use Rattle.guarded_meaning.specs.Elimination.{reduce_arcs};
+ghost use Rattle.guarded_meaning.specs.Guards as guards;
+ghost use Rattle.guarded_meaning.specs.Guards.{guarded_by};
+ghost use Rattle.guarded_meaning.specs.Parts.{StaysApart};
+ghost use Rattle.guarded_reduction.specs.Tests as spec;
+ghost use Rattle.guarded_reduction.specs.Tests.{Reaches};
+ghost use Rattle.guarded_reduction.specs.Short.{IsBest, corner_of, goes_ahead, is_sooner, only_arc, opens};
+
+use crate::extent::{Extent, around, meets};
+use crate::meeting::same_ends;
+use crate::query::{Corner, is_held_by, reach_of};
+use crate::surroundings::Surroundings;
+use effective_area::cross;
+use geometry::{Position, is_same};
+use owned_values::Memory;
+use std::alloc::Global;
+
+/// A corner that may go, with twice the area of its triangle, and how many places its neighbours are apart.
+#[derive(Clone, Copy, Debug, PartialEq, Eq)]
+pub struct Candidate {
+    pub area: u128,
+    pub corner: Corner,
+    pub stretch: usize,
+}
+
+/// All indexes below a number.
+fn all_indexes(alloc: Global, n: usize) -> Result<Vec<usize>, Memory>
+    ensures { IfOk result (λ all. all.items ≡ range_with_len 0 n) }
+{
+    let mut all = Vec::with_capacity(alloc, n)?;
+    for i in 0..n {
+        all.push(i)?;
+    }
+    Ok(all)
+}
+
+/// The position of an index.
+fn position_at(arc: &[Position], index: usize) -> Position
+    requires { index < length arc.now }
+    ensures { result ≡ (vertex_at arc.now index).point }
+{
+    arc[index]
+}
+
+/// The corner at an index between two others.
+#[tactic(auto, unfolding(geometry::specs::Areas::twice_area))]
+fn candidate_at(arc: &[Position], before: usize, place: usize, after: usize) -> Candidate
+    requires before { before < length arc.now }
+    requires place { place < length arc.now }
+    requires after { after < length arc.now }
+    ensures { corner_of result ≡ arc_corner_at 0 (vertex_at arc.now before) (vertex_at arc.now place) (vertex_at arc.now after) }
+{
+    let first = position_at(arc, before);
+    let at = position_at(arc, place);
+    let last = position_at(arc, after);
+    Candidate {
+        area: cross(first, at, last).unsigned_abs(),
+        corner: Corner {
+            before: first,
+            at,
+            after: last,
+            place,
+        },
+        stretch: after.wrapping_sub(before),
+    }
+}
+
+/// The first goes before the second.
+#[tactic(auto, unfolding(guarded_meaning::specs::Elimination::goes_before))]
+fn goes_before(one: &Candidate, other: &Candidate) -> bool
+    ensures { result ≡ meaning.goes_before (corner_of one.now) (corner_of other.now) }
+{
+    let areas = one.area.cmp(&other.area);
+    if areas.is_ne() {
+        return areas.is_lt();
+    }
+    let positions = one.corner.at.cmp(&other.corner.at);
+    if positions.is_ne() {
+        return positions.is_lt();
+    }
+    one.corner.place < other.corner.place
+}
+
+/// There is none before it yet.
+fn is_ahead(best: &Option<Candidate>, candidate: &Candidate) -> bool
+    ensures { result ≡ goes_ahead best.now candidate.now }
+{
+    match best {
+        None => true,
+        Some(best) => goes_before(candidate, best),
+    }
+}
+
+/// An index at this position holds the corner, round which there is this box.
+fn is_in_triangle(candidate: &Candidate, reach: Extent, index: usize, at: Position) -> bool
+    requires { Reaches reach (spec.is_held_by candidate.now.corner) }
+    ensures { result ≡ spec.is_held_by candidate.now.corner index at }
+{
+    meets(around(at), reach) && is_held_by(&candidate.corner, index, at)
+}
+
+/// Nothing of what is left is in the corner's triangle, but at the positions before and after it.
+fn has_empty_triangle(arc: &[Position], left: &[usize], candidate: &Candidate) -> bool
+    requires { All (λ i. i < length arc.now) left.now }
+    ensures { result ≡ guards.has_empty_triangle (only_arc arc.now left.now) (corner_of candidate.now) }
+{
+    let reach = reach_of(&candidate.corner);
+    'left: for k in 0..left.len() {
+        let index = left[k];
+        let at = position_at(arc, index);
+        if is_in_triangle(candidate, reach, index, at) {
+            return false;
+        }
+    }
+    true
+}
+
+/// The segment between two indexes, of which none is the corner's own, joins the positions before and after it.
+fn joins(arc: &[Position], from: usize, to: usize, candidate: &Candidate) -> bool
+    requires from { from < length arc.now }
+    requires to { to < length arc.now }
+    ensures { result ≡ not (opens (corner_of candidate.now) (vertex_at arc.now from) (vertex_at arc.now to)) }
+{
+    let Corner {
+        before,
+        at: _,
+        after,
+        place,
+    } = &candidate.corner;
+    !(from == *place || to == *place)
+        && same_ends(
+            *before,
+            *after,
+            position_at(arc, from),
+            position_at(arc, to),
+        )
+}
+
+/// The positions before and after the corner are one, or nothing of what is left joins them.
+fn has_open_base(arc: &[Position], left: &[usize], candidate: &Candidate) -> bool
+    requires { All (λ i. i < length arc.now) left.now }
+    ensures { result ≡ guards.has_open_base (only_arc arc.now left.now) (corner_of candidate.now) }
+{
+    if is_same(candidate.corner.before, candidate.corner.after) {
+        return true;
+    }
+    'pairs: for k in 0..left.len().saturating_sub(1) {
+        if joins(arc, left[k], left[k + 1], candidate) {
+            return false;
+        }
+    }
+    true
+}
+
+/// The corner can go without a crossing.
+#[tactic(auto, unfolding(guarded_meaning::specs::Guards::is_free))]
+fn is_free(arc: &[Position], left: &[usize], candidate: &Candidate) -> bool
+    requires { All (λ i. i < length arc.now) left.now }
+    ensures { result ≡ guards.is_free (only_arc arc.now left.now) (corner_of candidate.now) }
+{
+    has_empty_triangle(arc, left, candidate) && has_open_base(arc, left, candidate)
+}
+
+/// The corner goes, as far as crossings are looked for, and the one that was found before doesn't go before it.
+fn goes_sooner(
+    arc: &[Position],
+    left: &[usize],
+    no_crossings: bool,
+    threshold: u128,
+    best: &Option<Candidate>,
+    candidate: &Candidate,
+) -> bool
+    requires { All (λ i. i < length arc.now) left.now }
+    ensures { result ≡ is_sooner no_crossings threshold (only_arc arc.now left.now) best.now candidate.now }
+{
+    candidate.area < threshold
+        && (is_ahead(best, candidate) && (!no_crossings || is_free(arc, left, candidate)))
+}
+
+/// The corner that goes first of what is left, if one goes, where no crossing may be made, or where any may.
+fn first_candidate(
+    arc: &[Position],
+    left: &[usize],
+    no_crossings: bool,
+    threshold: u128,
+) -> Option<Candidate>
+    requires { All (λ i. i < length arc.now) left.now }
+    ensures { IsBest no_crossings threshold (only_arc arc.now left.now) result [] }
+{
+    let mut best: Option<Candidate> = None;
+    'corners: for k in 0..left.len().saturating_sub(2) {
+        let candidate = candidate_at(arc, left[k], left[k + 1], left[k + 2]);
+        if goes_sooner(arc, left, no_crossings, threshold, &best, &candidate) {
+            best = Some(candidate);
+        }
+    }
+    best
+}
+
+/// The corner that goes first of what is left without a crossing, if one goes. Mostly it is the first of all.
+fn next_candidate(arc: &[Position], left: &[usize], threshold: u128) -> Option<Candidate>
+    requires { All (λ i. i < length arc.now) left.now }
+    ensures { IsBest true threshold (only_arc arc.now left.now) result [] }
+{
+    let Some(found) = first_candidate(arc, left, false, threshold) else {
+        return None;
+    };
+    if is_free(arc, left, &found) {
+        return Some(found);
+    }
+    first_candidate(arc, left, true, threshold)
+}
+
+/// Takes an index out.
+fn take_out(left: &mut Vec<usize>, index: usize)
+    ensures { left.new.items ≡ filter (λ i. not (i == index)) left.old.items }
+{
+    left.retain(move |i| !(*i == index));
+}
+
+/// Of an arc the indexes that stay, where no corner goes that would make a crossing, and none that goes meets what lies beside it. Each time all corners
+/// that are left are looked at, which suits short arcs: nothing has to be made ready for it.
+pub fn reduced_short<S: Surroundings>(
+    alloc: Global,
+    arc: &[Position],
+    threshold: u128,
+    beside: &S,
+) -> Result<Option<Vec<usize>>, Memory>
+    ensures apart { IfOk result (λ found. IfSome found (λ _. StaysApart (S.others beside.now) threshold (length (joined (arc.now ∷ []))) (map (numbered 0) (arc.now ∷ [])))) }
+    ensures kept { IfOk result (λ found. IfSome found (λ kept. kept.items ∷ [] ≡ reduce_arcs (guarded_by true []) threshold (arc.now ∷ []))) }
+{
+    let mut left = all_indexes(alloc, arc.len())?;
+    'corners: for _step in 0..arc.len() {
+        let Some(found) = next_candidate(arc, left.as_slice(), threshold) else {
+            return Ok(Some(left));
+        };
+        if !beside.are_clear_of(&found.corner, found.stretch) {
+            return Ok(None);
+        }
+        take_out(&mut left, found.corner.place);
+    }
+    Ok(Some(left))
+}

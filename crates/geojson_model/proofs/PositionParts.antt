@@ -1,5 +1,5 @@
 -- A position by its elements.
-use Rattle.std.proofs.Common.{◌≡◌, ◌≢◌, ℕ, ◌-◌, ◌<◌, ◌≤◌, Bool, true, false, not, cond, List, [], ◌∷◌, length, Option, Some, None, Result, Ok, Err, refl, sym, ap, subst, ◌∙◌, arith}
+use Rattle.std.proofs.Common.{◌≡◌, ◌≢◌, ℕ, ◌-◌, ◌<◌, ◌≤◌, Bool, true, false, not, List, [], ◌∷◌, length, Option, Some, None, Result, Ok, Err, refl, sym, ap, subst, ◌∙◌, arith}
 use Rattle.std.specs.Prelude.{ℤ, ◌&&◌, nat_lt}
 use Rattle.std.proofs.lemmas.Bool.Decides.{nat_tests}
 use Rattle.std.specs.Borrow.{Bor}
@@ -9,11 +9,10 @@ use Rattle.json_value.proofs.KindsOf.{array_of-array, number_of-number}
 use Rattle.json_value.specs.declared.json.Json.TheOpen.{Json-F}
 use Rattle.json_value.specs.declared.json.Json.TheViews.{out-Json}
 use Rattle.json_value.specs.Kinds.{array_of, number_in, number_of}
-use Rattle.json_value.specs.Grammar.{is_space}
-use Rattle.json_value.specs.Reading.{Parse, skip, after_word, list_after, list_at, value_at}
+use Rattle.json_value.specs.Reading.{Parse, skip, list_after, list_at, value_at}
 use Rattle.std.specs.Str.{is_utf8}
 use Rattle.unit_scanning.specs.declared.units.Units.{Units}
-use Rattle.unit_scanning.specs.Numbers.{IsUnits, ends as units_end}
+use Rattle.unit_scanning.specs.Numbers.{IsUnits}
 use Rattle.json_reading.specs.declared.fault.Fault.{Fault}
 use Rattle.json_reading.specs.Gives.{Fails}
 use Rattle.decimal_text.specs.declared.num_text.Scaled.{Scaled}
@@ -31,8 +30,8 @@ use Rattle.json_cursor.specs.declared.stop.Stop.TheVariants as stop
 use Rattle.json_cursor.specs.Kinds.{kind_in, kind_of}
 use Rattle.json_cursor.specs.declared.kinds.Kind.TheVariants.{Number}
 use Rattle.json_cursor.specs.Answers.{Reads, Stops, Answers, stop_of}
-use Rattle.geojson_model.specs.Positions.{ArePair, ArePlainPair, second_position}
-use Rattle.json_cursor.proofs.Openings.{first_byte}
+use Rattle.unit_scanning.specs.Pairs.{ArePlainPair, ArePlainUnits}
+use Rattle.geojson_model.specs.Positions.{ArePair, second_position}
 use Rattle.json_cursor.proofs.Steps.{made, unmade, made_reads, made_stops, part_stops, found_stops}
 use Rattle.json_cursor.proofs.Lists.{no_element, ends, goes_on, breaks, first_stops, some_listed}
 
@@ -225,47 +224,22 @@ module _ (exact : Bool) (c : Counts) (prefix : Option (Json × List ℕ)) where
 
 -- ---- two numbers that are read as most are written
 
-no_mark : (b : ℕ) (bs : List ℕ) → is_space b ≡ false → skip (b ∷ bs) ≡ b ∷ bs
-unfolding skip
-no_mark b bs h = rw h refl
-
-ends_by : (m b : ℕ) (bs rest : List ℕ) → ((ms : List ℕ) → units_end (m ∷ ms) ≡ true) → (space : Bool) → is_space b ≡ space → cond space (skip bs) (b ∷ bs) ≡ m ∷ rest → units_end (b ∷ bs) ≡ true
-ends_by m b bs rest ends true is h = rw is refl
-ends_by m b bs rest ends false is h = let same : b ≡ m = cc in ap (λ z. units_end (z ∷ bs)) same ∙ ends bs
-
-ends_before : (m : ℕ) (bs rest : List ℕ) → ((ms : List ℕ) → units_end (m ∷ ms) ≡ true) → skip bs ≡ m ∷ rest → units_end bs ≡ true
-unfolding skip
-ends_before m [] rest ends h = refl
-ends_before m (b ∷ bs) rest ends h = ends_by m b bs rest ends (is_space b) refl h
-
-module _ (bytes after more following rest : List ℕ) (x y : ℤ) (first : units_end after ≡ true → IsUnits (skip bytes) x true after) (comma : Some more ≡ after_word (44 ∷ []) after) (second : units_end following ≡ true → IsUnits (skip more) y true following) where
-  pair_before : units_end following ≡ true → ArePair bytes (record { value = x; exact = true }) (record { value = y; exact = true }) following
-  pair_before ends =
-      let then : after ≡ 44 ∷ more = first_byte 44 after more comma in
-      record { after = after; first = first (ap units_end then); more = more; comma = ap skip then ∙ no_mark 44 more refl; second = second ends }
-
-  pub plain_pair_closes : Some rest ≡ after_word (93 ∷ []) (skip following) → ArePlainPair bytes x y false rest
-  plain_pair_closes h =
-      let last : skip following ≡ 93 ∷ rest = first_byte 93 (skip following) rest h in
-      record { following = following; pair = pair_before (ends_before 93 following rest (λ ms. refl) last); mark = last }
-
-  pub plain_pair_goes_on : Some rest ≡ after_word (44 ∷ []) (skip following) → ArePlainPair bytes x y true rest
-  plain_pair_goes_on h =
-      let next : skip following ≡ 44 ∷ rest = first_byte 44 (skip following) rest h in
-      record { following = following; pair = pair_before (ends_before 44 following rest (λ ms. refl) next); mark = next }
+-- as they are read however they are written
+pair_of : (bs : List ℕ) (x y : ℤ) (more : Bool) (rest : List ℕ) (p : ArePlainPair ArePlainUnits bs x y more rest) → ArePair bs (record { value = x; exact = true }) (record { value = y; exact = true }) p.following
+pair_of bs x y more rest p = record { after = p.after; first = p.first; more = p.further; comma = p.comma; second = p.second }
 
 never_refused : (exact : Bool) → (exact && not true) ≡ false
 never_refused true = refl
 never_refused false = refl
 
 module _ (exact : Bool) (d n : ℕ) (bs : List ℕ) (many : 2 ≤ n) (c : Counts) (x y : ℤ) (rest : List ℕ) where
-  pub plain_reads : ArePlainPair bs x y false rest → Reads (elements_position exact) (list_at 93 (value_at is_utf8 d) n bs) (record { x = x; y = y }) rest c c
-  plain_reads p = pair_ends exact d n bs many c (record { value = x; exact = true }) (record { value = y; exact = true }) p.following p.pair (never_refused exact) (never_refused exact) rest p.mark
+  pub plain_reads : ArePlainPair ArePlainUnits bs x y false rest → Reads (elements_position exact) (list_at 93 (value_at is_utf8 d) n bs) (record { x = x; y = y }) rest c c
+  plain_reads p = pair_ends exact d n bs many c (record { value = x; exact = true }) (record { value = y; exact = true }) p.following (pair_of bs x y false rest p) (never_refused exact) (never_refused exact) rest p.mark
 
-  module _ (p : ArePlainPair bs x y true rest) where
+  module _ (p : ArePlainPair ArePlainUnits bs x y true rest) where
     pub plain_goes_on : (ws : List Json) (end : List ℕ) → list_at 93 (value_at is_utf8 d) (n - 2) rest ≡ Some (ws, end)
         → Reads (elements_position exact) (list_at 93 (value_at is_utf8 d) n bs) (record { x = x; y = y }) end c (count_extra true c)
-    plain_goes_on ws end h = pair_goes_on exact d n bs many c (record { value = x; exact = true }) (record { value = y; exact = true }) p.following p.pair (never_refused exact) (never_refused exact) rest p.mark ws end h
+    plain_goes_on ws end h = pair_goes_on exact d n bs many c (record { value = x; exact = true }) (record { value = y; exact = true }) p.following (pair_of bs x y true rest p) (never_refused exact) (never_refused exact) rest p.mark ws end h
 
     pub plain_text_stops : (fault : Fault) → Fails fault (list_at 93 (value_at is_utf8 d) (n - 2) rest) → Stops (elements_position exact) (list_at 93 (value_at is_utf8 d) n bs) c (stop_of fault)
-    plain_text_stops fault h = pair_text_stops exact d n bs many c (record { value = x; exact = true }) (record { value = y; exact = true }) p.following p.pair (never_refused exact) (never_refused exact) rest p.mark fault h
+    plain_text_stops fault h = pair_text_stops exact d n bs many c (record { value = x; exact = true }) (record { value = y; exact = true }) p.following (pair_of bs x y true rest p) (never_refused exact) (never_refused exact) rest p.mark fault h

@@ -1,5 +1,5 @@
 -- The parts of a position.
-use Rattle.std.specs.Prelude.{◌≡◌, ℕ, ℤ, Bool, true, if◌then◌else◌, nat_lt, List, [], ◌∷◌, length, Ok}
+use Rattle.std.specs.Prelude.{◌≡◌, ℕ, ℤ, Bool, nat_lt, List, [], ◌∷◌, length, Ok}
 use Rattle.json_value.specs.Reading.{skip}
 use Rattle.unit_scanning.specs.declared.units.Units.{Units}
 use Rattle.unit_scanning.specs.Numbers.{IsUnits}
@@ -24,10 +24,3 @@ pub record ArePair (bytes : List ℕ) (x y : Units) (rest : List ℕ) : Type 0 w
   pub more : List ℕ
   pub comma : skip after ≡ 44 ∷ more
   pub second : IsUnits (skip more) y.value y.exact rest
-
--- two numbers that aren't rounded stand so, a comma (44) after them where more elements follow, or else the bracket that closes (93), and this
--- follows it
-pub record ArePlainPair (bytes : List ℕ) (x y : ℤ) (more : Bool) (rest : List ℕ) : Type 0 where
-  pub following : List ℕ
-  pub pair : ArePair bytes (record { value = x; exact = true }) (record { value = y; exact = true }) following
-  pub mark : skip following ≡ (if more then 44 else 93) ∷ rest

@@ -5,15 +5,15 @@ ghost use Rattle.json_cursor.specs.Answers.{Answers};
 ghost use Rattle.json_cursor.specs.Arrays.{prefix_elements, prefix_value};
 ghost use Rattle.geometry.specs.Units.{input_limit};
 ghost use Rattle.json_cursor.specs.Folds.{one};
-ghost use Rattle.geojson_model.specs.Positions.{ArePair, ArePlainPair, second_position};
+ghost use Rattle.geojson_model.specs.Positions.{ArePair, second_position};
 
 use crate::coordinates::{coordinate_at, is_refused};
 use geojson_meaning::GeoFaultKind;
 use geojson_types::{Counts, Position};
-use json_cursor::{Element, Mark, Opening, Stop, after_byte, after_elements, mark_at, opening_at};
+use json_cursor::{Element, Mark, Opening, Stop, after_elements, mark_at, opening_at};
 use json_reading::{after_value, skip};
 use std::alloc::Global;
-use unit_scanning::{Units, long_units_at, plain_units_at};
+use unit_scanning::{Units, long_units_at, units_pair_at};
 
 /// The position whose second coordinate and further elements stand after the comma, and what follows its bracket.
 #[inline(always)]
@@ -146,25 +146,6 @@ fn two_numbers_at<'a>(
     }
 }
 
-/// Two numbers of few digits with a comma between them, as most positions are written: the numbers, none of them rounded, whether more
-/// elements follow, and what follows the comma or the bracket after them.
-#[inline(always)]
-fn plain_pair_at(bytes: &[u8]) -> Option<(i64, i64, bool, &[u8])>
-    ensures pair { IfSome result (λ p. ArePlainPair bytes.now p.0 p.1 p.2 p.3.now) }
-    ensures first { IfSome result (λ p. unsigned_abs p.0 ≤ input_limit) }
-    ensures second { IfSome result (λ p. unsigned_abs p.1 ≤ input_limit) }
-{
-    let (x, after) = plain_units_at(skip(bytes))?;
-    let more = after_byte(b',', after)?;
-    let (y, following) = plain_units_at(skip(more))?;
-    let mark = skip(following);
-    if let Some(rest) = after_byte(b']', mark) {
-        return Some((x, y, false, rest));
-    }
-    let rest = after_byte(b',', mark)?;
-    Some((x, y, true, rest))
-}
-
 /// The position whose elements stand after the bracket, and what follows it.
 #[inline(always)]
 pub(crate) fn numbers_at<'a>(
@@ -180,7 +161,7 @@ pub(crate) fn numbers_at<'a>(
     if turns < 2 {
         return two_numbers_at(alloc, depth_left, turns, inside, exact, counts);
     }
-    let Some((x, y, goes_on, rest)) = plain_pair_at(inside) else {
+    let Some((x, y, goes_on, rest)) = units_pair_at(inside) else {
         return two_numbers_at(alloc, depth_left, turns, inside, exact, counts);
     };
     if goes_on {

@@ -1,6 +1,6 @@
 -- Pairs of numbers by their elements.
-use Rattle.std.proofs.Common.{◌≡◌, ℕ, ◌-◌, ◌<◌, ◌≤◌, true, false, List, [], ◌∷◌, length, Option, Some, None, Result, Ok, Err, refl, sym, subst, ap, ◌∙◌, arith}
-use Rattle.std.specs.Prelude.{nat_lt}
+use Rattle.std.proofs.Common.{◌≡◌, ℕ, ◌-◌, ◌<◌, ◌≤◌, true, false, List, [], ◌∷◌, length, Option, Some, None, Result, Ok, Err, refl, ap, ◌∙◌, arith}
+use Rattle.std.specs.Prelude.{ℤ, Bool, nat_lt}
 use Rattle.std.proofs.lemmas.Bool.Decides.{nat_tests}
 use Rattle.std.specs.Borrow.{Bor}
 use Rattle.json_value.specs.declared.json.Json.{Json}
@@ -21,8 +21,9 @@ use Rattle.json_cursor.proofs.Steps.{made, made_reads, made_stops, part_stops, f
 use Rattle.json_cursor.proofs.Lists.{ends, goes_on, breaks, first_stops, some_listed}
 use Rattle.topojson_decoder.specs.declared.numbers.Scale.{Scale}
 use Rattle.topojson_decoder.specs.declared.pairs.Pair.{Pair}
-use Rattle.topojson_decoder.specs.Numbers.{number}
-use Rattle.topojson_decoder.specs.Pairs.{ArePair, second, both, pair}
+use Rattle.unit_scanning.specs.Pairs.{ArePlainPair}
+use Rattle.topojson_decoder.specs.Numbers.{IsPlainNumber, number}
+use Rattle.topojson_decoder.specs.Pairs.{second, both, pair, plain_pair}
 
 -- ---- the second element and those after it, in some turns
 
@@ -90,9 +91,23 @@ module _ (scale : Scale) (item : Parse Json) (n : ℕ) (bs : List ℕ) (some : 0
       by_second (Ok p) h = second_reads p.0 p.1.now h
       by_second (Err s) h = made_stops (λ xs. r.value ∷ xs) (both scale) (second scale x) (list_at 93 item n bs) (list_at 93 item (n - 1) more) is_made c c (λ ws end k. then_second ws) s h
 
+-- ---- numbers of another kind
+
+pub plain_pair_of : (some other : List ℕ → ℤ → List ℕ → Type 0) → ((bs : List ℕ) (value : ℤ) (rest : List ℕ) → some bs value rest → other bs value rest)
+    → (bytes : List ℕ) (x y : ℤ) (more : Bool) (rest : List ℕ) → ArePlainPair some bytes x y more rest → ArePlainPair other bytes x y more rest
+plain_pair_of some other law bytes x y more rest p = record {
+  after = p.after;
+  first = law _ x p.after p.first;
+  further = p.further;
+  comma = p.comma;
+  following = p.following;
+  second = law _ y p.following p.second;
+  mark = p.mark;
+}
+
 -- ---- both elements, written as most are
 
-module _ (scale : Scale) (d n : ℕ) (bs : List ℕ) (long : 2 ≤ n) (c : Counts) (x y : Units) (after : List ℕ) (p : ArePair scale bs x y after) where
+module _ (scale : Scale) (d n : ℕ) (bs : List ℕ) (long : 2 ≤ n) (c : Counts) (x y : ℤ) (rest : List ℕ) where
   some : 0 < n
   some = omega (arith, long)
 
@@ -102,28 +117,20 @@ module _ (scale : Scale) (d n : ℕ) (bs : List ℕ) (long : 2 ≤ n) (c : Count
   less : n - 1 - 1 ≡ n - 2
   less = omega (arith, long)
 
-  pair_reads : (q : Pair) (end : List ℕ) → Reads (second scale (Some x)) (list_at 93 (prefix_value d) (n - 1) p.more) q end c c → Reads (both scale) (list_at 93 (prefix_value d) n bs) q end c c
-  pair_reads = second_reads scale (prefix_value d) n bs some c (Some x) p.after (p.first d c) p.more p.comma
+  abbrev plain : ℤ → Option Units
+  plain value = Some (record { value = value; exact = true })
 
-  pair_stops : (s : Stop TopoFault) → Stops (second scale (Some x)) (list_at 93 (prefix_value d) (n - 1) p.more) c s → Stops (both scale) (list_at 93 (prefix_value d) n bs) c s
-  pair_stops s h = by_second scale (prefix_value d) n bs some c (Some x) p.after (p.first d c) p.more p.comma (Err s) h
+  plain_reads : (m : Bool) (p : ArePlainPair (IsPlainNumber scale) bs x y m rest) (q : Pair) (end : List ℕ) → Reads (second scale (plain x)) (list_at 93 (prefix_value d) (n - 1) p.further) q end c c → Reads (both scale) (list_at 93 (prefix_value d) n bs) q end c c
+  plain_reads m p = second_reads scale (prefix_value d) n bs some c (plain x) p.after (p.first d c) p.further p.comma
 
-  pub pair_ends : (end : List ℕ) → skip after ≡ 93 ∷ end → Reads (both scale) (list_at 93 (prefix_value d) n bs) (record { x = Some x; y = Some y; more = false }) end c c
-  pair_ends end h = pair_reads (record { x = Some x; y = Some y; more = false }) end (second_ends scale (Some x) (prefix_value d) (n - 1) p.more more c (Some y) after (p.second d c) end h)
+  pub plain_ends : ArePlainPair (IsPlainNumber scale) bs x y false rest → Reads (both scale) (list_at 93 (prefix_value d) n bs) (plain_pair x y false) rest c c
+  plain_ends p = plain_reads false p (plain_pair x y false) rest (second_ends scale (plain x) (prefix_value d) (n - 1) p.further more c (plain y) p.following (p.second d c) rest p.mark)
 
-  pub pair_breaks : ((next : Parse (List Json)) (v : Json) → list_after 93 next v (skip after) ≡ None) → list_at 93 (prefix_value d) n bs ≡ None
-  pair_breaks h = pair_stops stop.NoValue (second_breaks scale (Some x) (prefix_value d) (n - 1) p.more more c (Some y) after (p.second d c) h)
-
-  module _ (others : List ℕ) (comma : skip after ≡ 44 ∷ others) where
-    pub pair_goes_on : (ws : List Json) (end : List ℕ) → list_at 93 (prefix_value d) (n - 2) others ≡ Some (ws, end) → Reads (both scale) (list_at 93 (prefix_value d) n bs) (record { x = Some x; y = Some y; more = true }) end c c
-    pair_goes_on ws end h =
-        pair_reads (record { x = Some x; y = Some y; more = true }) end
-        (second_goes_on scale (Some x) (prefix_value d) (n - 1) p.more more c (Some y) after (p.second d c) others comma ws end (ap (λ m. list_at 93 (prefix_value d) m others) less ∙ h))
-
-    pub pair_text_stops : (fault : Fault) → Fails fault (list_at 93 (prefix_value d) (n - 2) others) → Stops (both scale) (list_at 93 (prefix_value d) n bs) c (stop_of fault)
-    pair_text_stops fault h =
-        pair_stops (stop_of fault)
-        (second_text_stops scale (Some x) (prefix_value d) (n - 1) p.more more c (Some y) after (p.second d c) others comma fault (subst (λ m. Fails fault (list_at 93 (prefix_value d) m others)) (sym less) h))
+  pub plain_goes_on : ArePlainPair (IsPlainNumber scale) bs x y true rest → (ws : List Json) (end : List ℕ) → list_at 93 (prefix_value d) (n - 2) rest ≡ Some (ws, end)
+      → Reads (both scale) (list_at 93 (prefix_value d) n bs) (plain_pair x y true) end c c
+  plain_goes_on p ws end h =
+      plain_reads true p (plain_pair x y true) end
+      (second_goes_on scale (plain x) (prefix_value d) (n - 1) p.further more c (plain y) p.following (p.second d c) rest p.mark ws end (ap (λ m. list_at 93 (prefix_value d) m rest) less ∙ h))
 
 -- ---- the array of a pair
 

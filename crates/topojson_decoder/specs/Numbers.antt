@@ -1,5 +1,5 @@
 -- Numbers at a scale.
-use Rattle.std.specs.Prelude.{ℕ, List, Option, Some, None, Result, Ok, Err}
+use Rattle.std.specs.Prelude.{ℕ, ℤ, true, List, Option, Some, None, Result, Ok, Err}
 use Rattle.decimal_text.specs.declared.num_text.Scaled.{Scaled}
 use Rattle.decimal_text.specs.declared.num_text.Range.{Range as OutOfRange}
 use Rattle.decimal_text.specs.Scaling.{scaled_of}
@@ -37,6 +37,6 @@ scale_limit (scale.Whole bound) = bound
 abbrev pub number : Scale → Json → Reader (Option Units)
 number s = scaled_at (scale_places s) (scale_limit s)
 
--- this number at this scale stands at the front, however deep arrays and objects may nest, and then the rest
-abbrev pub IsNumber : Scale → List ℕ → Units → List ℕ → Type 0
-IsNumber s bytes u rest = (d : ℕ) (c : Counts) → Reads (number s) (prefix_value d bytes) (Some u) rest c c
+-- this number at this scale stands at the front, none of it rounded, however deep arrays and objects may nest, and then the rest
+abbrev pub IsPlainNumber : Scale → List ℕ → ℤ → List ℕ → Type 0
+IsPlainNumber s bytes value rest = (d : ℕ) (c : Counts) → Reads (number s) (prefix_value d bytes) (Some (record { value = value; exact = true })) rest c c

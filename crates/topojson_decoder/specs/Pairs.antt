@@ -1,14 +1,13 @@
 -- The numbers of a position or a cell (TopoJSON 1.0, section 2.1.1).
-use Rattle.std.specs.Prelude.{◌≡◌, nat_lt, ℕ, Option, List, [], ◌∷◌, length}
+use Rattle.std.specs.Prelude.{nat_lt, ℤ, Bool, true, Option, Some, List, [], ◌∷◌, length}
 use Rattle.json_value.specs.declared.json.Json.{Json}
-use Rattle.json_value.specs.Reading.{skip}
 use Rattle.topojson_meaning.specs.declared.fault.TopoFault.TheVariants.{WrongKind}
 use Rattle.topojson_meaning.specs.Reader.{Reader, ◌>>=◌, give, fail}
 use Rattle.unit_scanning.specs.declared.units.Units.{Units}
 use Rattle.json_cursor.specs.Arrays.{array_by}
 use Rattle.topojson_decoder.specs.declared.numbers.Scale.{Scale}
 use Rattle.topojson_decoder.specs.declared.pairs.Pair.{Pair}
-use Rattle.topojson_decoder.specs.Numbers.{IsNumber, number}
+use Rattle.topojson_decoder.specs.Numbers.{number}
 
 -- the second, after this first; elements after it are not looked at
 abbrev pub second : Scale → Option Units → List Json → Reader Pair
@@ -28,10 +27,6 @@ both scale (v ∷ vs) = do
 abbrev pub pair : Scale → Json → Reader Pair
 pair scale = array_by WrongKind (both scale)
 
--- two numbers stand after white space, with a comma (44) between them, and this follows them
-pub record ArePair (scale : Scale) (bytes : List ℕ) (x y : Units) (rest : List ℕ) : Type 0 where
-  pub after : List ℕ
-  pub first : IsNumber scale (skip bytes) x after
-  pub more : List ℕ
-  pub comma : skip after ≡ 44 ∷ more
-  pub second : IsNumber scale (skip more) y rest
+-- the pair of these numbers, of which none is rounded
+abbrev pub plain_pair : ℤ → ℤ → Bool → Pair
+plain_pair x y more = record { x = Some (record { value = x; exact = true }); y = Some (record { value = y; exact = true }); more = more }

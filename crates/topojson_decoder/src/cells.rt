@@ -8,7 +8,7 @@ ghost use Rattle.topojson_meaning.specs.Arcs as spec;
 ghost use Rattle.topojson_decoder.specs.Cells.{cell_from, whole};
 
 use crate::numbers::Scale;
-use crate::pairs::pair_at;
+use crate::pairs::{pair_at, plain_pair_at};
 use geojson_types::Counts;
 use json_cursor::Stop;
 use std::alloc::Global;
@@ -19,9 +19,10 @@ use unit_scanning::Units;
 /// How far from zero a difference may be.
 const DIFFERENCE_LIMIT: u64 = 4_294_967_296;
 
-/// The position at the front, and what follows it.
-#[inline(always)]
-pub(crate) fn position_at<'a>(
+/// The position at the front, however it is written, and what follows it.
+#[cold]
+#[inline(never)]
+fn any_position_at<'a>(
     alloc: Global,
     depth_left: u32,
     bytes: &'a [u8],
@@ -44,6 +45,23 @@ pub(crate) fn position_at<'a>(
             Ok((Cell::at(x.value, y.value), rest))
         }
     }
+}
+
+/// The position at the front, and what follows it.
+#[inline(always)]
+pub(crate) fn position_at<'a>(
+    alloc: Global,
+    depth_left: u32,
+    bytes: &'a [u8],
+    counts: &mut Counts,
+) -> Result<(Cell, &'a [u8]), Stop<TopoFault>>
+    ensures { Answers (λ p. p) spec.position (prefix_value depth_left bytes.now) counts.old counts.new result }
+{
+    let Some((x, y, more, rest)) = plain_pair_at(alloc, depth_left, Scale::Units, bytes) else {
+        return any_position_at(alloc, depth_left, bytes, counts);
+    };
+    counts.count_extra(more);
+    Ok((Cell::at(x, y), rest))
 }
 
 /// The number of a cell, which must be whole and in range.
@@ -73,10 +91,11 @@ fn grid_cell(transform: &Transform, before: Cell, difference: Cell) -> Result<Ce
     }
 }
 
-/// The cell at the front, which stands as its difference from this one, and what follows it: the numbers of the difference are no farther
-/// from zero than the bound.
-#[inline(always)]
-fn cell_within<'a>(
+/// The cell at the front, however it is written, which stands as its difference from this one, and what follows it: the numbers of the
+/// difference are no farther from zero than the bound.
+#[cold]
+#[inline(never)]
+fn any_cell_within<'a>(
     alloc: Global,
     depth_left: u32,
     transform: &Transform,
@@ -104,6 +123,34 @@ fn cell_within<'a>(
                     Ok((cell, rest))
                 }
             }
+        }
+    }
+}
+
+/// The cell at the front, which stands as its difference from this one, and what follows it: the numbers of the difference are no farther
+/// from zero than the bound.
+#[inline(always)]
+fn cell_within<'a>(
+    alloc: Global,
+    depth_left: u32,
+    transform: &Transform,
+    bound: u64,
+    before: Cell,
+    bytes: &'a [u8],
+    counts: &mut Counts,
+) -> Result<(Cell, &'a [u8]), Stop<TopoFault>>
+    requires { bound ≤ 2 ^ 32 }
+    ensures { Answers (λ c. c) (spec.cell transform.now bound before) (prefix_value depth_left bytes.now) counts.old counts.new result }
+{
+    let scale = Scale::Whole(bound);
+    let Some((x, y, more, rest)) = plain_pair_at(alloc, depth_left, scale, bytes) else {
+        return any_cell_within(alloc, depth_left, transform, bound, before, bytes, counts);
+    };
+    match grid_cell(transform, before, Cell::at(x, y)) {
+        Err(fault) => Err(Stop::Fault(fault)),
+        Ok(cell) => {
+            counts.count_extra(more);
+            Ok((cell, rest))
         }
     }
 }

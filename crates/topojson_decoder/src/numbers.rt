@@ -3,14 +3,14 @@ ghost use Rattle.std.specs.Prelude.{◌≡◌, ◌≤◌, ◌<◌, ◌^◌, IfOk
 ghost use Rattle.geojson_types.specs.declared.counts.Counts.{Counts};
 ghost use Rattle.json_cursor.specs.Answers.{Answers};
 ghost use Rattle.json_cursor.specs.Arrays.{prefix_value};
-ghost use Rattle.topojson_decoder.specs.Numbers.{IsNumber, scale_limit, scaled_at, number};
+ghost use Rattle.topojson_decoder.specs.Numbers.{scale_limit, scaled_at, number};
 
 use geojson_types::{PLACES, POSITION_LIMIT};
 use json_cursor::{Kind, Stop, kind_at};
 use json_reading::value_at;
 use std::alloc::Global;
 use topojson_meaning::TopoFault;
-use unit_scanning::{Units, units_at, whole_number_at};
+use unit_scanning::{Units, long_units_at, whole_number_at};
 
 /// At how many decimals a number is taken, and how far from zero it may be.
 #[derive(Clone, Copy, Debug, PartialEq, Eq)]
@@ -61,7 +61,7 @@ fn value_number_at<'a>(
 
 /// The bound itself, or as far as whole numbers are read without their text.
 #[inline(always)]
-fn textless_bound(bound: u64) -> u64
+pub(crate) fn textless_bound(bound: u64) -> u64
     ensures within { result ≤ bound }
     ensures small { result ≤ 10 ^ 18 }
 {
@@ -72,28 +72,7 @@ fn textless_bound(bound: u64) -> u64
     }
 }
 
-/// The number at the front at this scale, and what follows it, where it is written as most are: without an exponent, in few digits, and
-/// whole where whole numbers are wanted.
-#[inline(always)]
-pub(crate) fn usual_number_at(scale: Scale, bytes: &[u8]) -> Option<(Units, &[u8])>
-    requires { scale_limit scale < 2 ^ 63 }
-    ensures reads { IfSome result (λ x. IsNumber scale bytes.now x.0 x.1.now) }
-    ensures within { IfSome result (λ x. unsigned_abs x.0.value ≤ scale_limit scale) }
-{
-    match scale {
-        Scale::Units => {
-            let (units, rest) = units_at(bytes)?;
-            Some((units, rest))
-        }
-        Scale::Whole(bound) => {
-            let (value, rest) = whole_number_at(textless_bound(bound), bytes)?;
-            Some((Units { value, exact: true }, rest))
-        }
-    }
-}
-
 /// The number at the front at this scale, if it is within the limit, and what follows it.
-#[inline(always)]
 pub(crate) fn number_at<'a>(
     alloc: Global,
     depth_left: u32,
@@ -104,11 +83,14 @@ pub(crate) fn number_at<'a>(
     ensures answers { (counts : Counts) → Answers (λ x. x) (number scale) (prefix_value depth_left bytes.now) counts counts result }
     ensures within { IfOk result (λ x. IfSome x.0 (λ u. unsigned_abs u.value ≤ scale_limit scale)) }
 {
-    match usual_number_at(scale, bytes) {
-        Some((units, rest)) => Ok((Some(units), rest)),
-        None => match scale {
-            Scale::Units => value_number_at(alloc, depth_left, PLACES, POSITION_LIMIT, bytes),
-            Scale::Whole(bound) => value_number_at(alloc, depth_left, 0, bound, bytes),
+    match scale {
+        Scale::Units => match long_units_at(bytes) {
+            Some((units, rest)) => Ok((Some(units), rest)),
+            None => value_number_at(alloc, depth_left, PLACES, POSITION_LIMIT, bytes),
+        },
+        Scale::Whole(bound) => match whole_number_at(textless_bound(bound), bytes) {
+            Some((value, rest)) => Ok((Some(Units { value, exact: true }), rest)),
+            None => value_number_at(alloc, depth_left, 0, bound, bytes),
         },
     }
 }

@@ -1,17 +1,18 @@
 // The two numbers of a position or a cell.
 ghost use Rattle.std.specs.Prelude.{◌≡◌, ◌≤◌, ◌<◌, ◌^◌, IfOk, IfSome, length, unsigned_abs};
 ghost use Rattle.geojson_types.specs.declared.counts.Counts.{Counts};
-ghost use Rattle.json_cursor.specs.Answers.{Answers};
+ghost use Rattle.json_cursor.specs.Answers.{Answers, Reads};
 ghost use Rattle.json_cursor.specs.Arrays.{prefix_elements, prefix_value};
-ghost use Rattle.topojson_decoder.specs.Numbers.{scale_limit};
-ghost use Rattle.topojson_decoder.specs.Pairs.{ArePair, both, pair, second};
+ghost use Rattle.unit_scanning.specs.Pairs.{ArePlainPair};
+ghost use Rattle.topojson_decoder.specs.Numbers.{IsPlainNumber, scale_limit};
+ghost use Rattle.topojson_decoder.specs.Pairs.{both, pair, plain_pair, second};
 
-use crate::numbers::{Scale, number_at, usual_number_at};
+use crate::numbers::{Scale, number_at, textless_bound};
 use json_cursor::{Mark, Opening, Stop, after_elements, mark_at, opening_at};
 use json_reading::skip;
 use std::alloc::Global;
 use topojson_meaning::TopoFault;
-use unit_scanning::Units;
+use unit_scanning::{Units, units_pair_at, whole_pair_at};
 
 /// Two numbers, each if it is in range, and whether elements stand after them.
 #[derive(Clone, Copy, Debug, PartialEq, Eq)]
@@ -22,7 +23,6 @@ pub(crate) struct Pair {
 }
 
 /// The pair whose second number and further elements stand after the comma, and what follows its bracket.
-#[inline(always)]
 fn second_at<'a>(
     alloc: Global,
     depth_left: u32,
@@ -55,10 +55,8 @@ fn second_at<'a>(
     }
 }
 
-/// The pair whose elements stand after the bracket, however they are written and whatever their fault is, and what follows it.
-#[cold]
-#[inline(never)]
-fn any_both_at<'a>(
+/// The pair whose elements stand after the bracket, and what follows it.
+fn both_at<'a>(
     alloc: Global,
     depth_left: u32,
     scale: Scale,
@@ -86,68 +84,59 @@ fn any_both_at<'a>(
     }
 }
 
-/// Two numbers with a comma between them, as most are written, and what follows them.
+/// Two numbers with a comma between them, as most are written, none of them rounded; whether more elements follow, and what follows the
+/// comma or the bracket after them.
 #[inline(always)]
-fn usual_both_at(scale: Scale, inside: &[u8]) -> Option<(Units, Units, &[u8])>
+fn plain_numbers_at(scale: Scale, inside: &[u8]) -> Option<(i64, i64, bool, &[u8])>
     requires { scale_limit scale < 2 ^ 63 }
-    ensures pair { IfSome result (λ p. ArePair scale inside.now p.0 p.1 p.2.now) }
-    ensures x { IfSome result (λ p. unsigned_abs p.0.value ≤ scale_limit scale) }
-    ensures y { IfSome result (λ p. unsigned_abs p.1.value ≤ scale_limit scale) }
+    ensures pair { IfSome result (λ p. ArePlainPair (IsPlainNumber scale) inside.now p.0 p.1 p.2 p.3.now) }
+    ensures x { IfSome result (λ p. unsigned_abs p.0 ≤ scale_limit scale) }
+    ensures y { IfSome result (λ p. unsigned_abs p.1 ≤ scale_limit scale) }
 {
-    let (x, after) = usual_number_at(scale, skip(inside))?;
-    let (mark, more) = mark_at(after);
-    let Mark::Comma = mark else {
-        return None;
-    };
-    let (y, rest) = usual_number_at(scale, skip(more))?;
-    Some((x, y, rest))
+    match scale {
+        Scale::Units => {
+            let (x, y, more, rest) = units_pair_at(inside)?;
+            Some((x, y, more, rest))
+        }
+        Scale::Whole(bound) => {
+            let (x, y, more, rest) = whole_pair_at(textless_bound(bound), inside)?;
+            Some((x, y, more, rest))
+        }
+    }
 }
 
-/// The pair whose elements stand after the bracket, and what follows it.
+/// The pair that the array at the front begins with, where it is written as most are, none of its numbers rounded: whether elements stand after
+/// them, and what follows the array.
 #[inline(always)]
-fn both_at<'a>(
+pub(crate) fn plain_pair_at<'a>(
     alloc: Global,
     depth_left: u32,
     scale: Scale,
-    turns: usize,
-    inside: &'a [u8],
-) -> Result<(Pair, &'a [u8]), Stop<TopoFault>>
+    bytes: &'a [u8],
+) -> Option<(i64, i64, bool, &'a [u8])>
     requires { scale_limit scale < 2 ^ 63 }
-    ensures answers { (counts : Counts) → Answers (λ p. p) (both scale) (prefix_elements depth_left turns inside.now) counts counts result }
-    ensures x { IfOk result (λ p. IfSome p.0.x (λ u. unsigned_abs u.value ≤ scale_limit scale)) }
-    ensures y { IfOk result (λ p. IfSome p.0.y (λ u. unsigned_abs u.value ≤ scale_limit scale)) }
+    ensures reads { IfSome result (λ p. (counts : Counts) → Reads (pair scale) (prefix_value depth_left bytes.now) (plain_pair p.0 p.1 p.2) p.3.now counts counts) }
+    ensures x { IfSome result (λ p. unsigned_abs p.0 ≤ scale_limit scale) }
+    ensures y { IfSome result (λ p. unsigned_abs p.1 ≤ scale_limit scale) }
 {
-    if turns < 2 {
-        return any_both_at(alloc, depth_left, scale, turns, inside);
-    }
-    let Some((x, y, after)) = usual_both_at(scale, inside) else {
-        return any_both_at(alloc, depth_left, scale, turns, inside);
+    let (opening, inside) = opening_at(depth_left, bytes);
+    let Opening::Filled(below) = opening else {
+        return None;
     };
-    let (mark, more) = mark_at(after);
-    match mark {
-        Mark::Neither => Err(Stop::NoValue),
-        Mark::Close => {
-            let pair = Pair {
-                x: Some(x),
-                y: Some(y),
-                more: false,
-            };
-            Ok((pair, more))
-        }
-        Mark::Comma => {
-            let end = after_elements(alloc, depth_left, turns - 2, more)?;
-            let pair = Pair {
-                x: Some(x),
-                y: Some(y),
-                more: true,
-            };
-            Ok((pair, end))
-        }
+    if inside.len() < 2 {
+        return None;
     }
+    let (x, y, more, rest) = plain_numbers_at(scale, inside)?;
+    if !more {
+        return Some((x, y, false, rest));
+    }
+    let Ok(end) = after_elements(alloc, below, inside.len() - 2, rest) else {
+        return None;
+    };
+    Some((x, y, true, end))
 }
 
-/// The pair that the array at the front begins with, and what follows it.
-#[inline(always)]
+/// The pair that the array at the front begins with, however it is written, and what follows it.
 pub(crate) fn pair_at<'a>(
     alloc: Global,
     depth_left: u32,

@@ -13,8 +13,11 @@ use owned_values::Memory;
 use std::alloc::Global;
 use std::marker::Model;
 
-/// So many cells and places are gone through at most before boxes take the place of cells.
+/// So many cells and places are gone through at most in a quick search.
 const MOST: usize = 1000;
+
+/// So many in a slow one, of which there is one for each `MOST` places before boxes take the place of cells.
+const MOST_SLOW: usize = 16 * MOST;
 
 #[derive(Drop)]
 pub enum Places {
@@ -27,10 +30,11 @@ pub enum Places {
 }
 
 /// Positions by the numbers of their places, of which some are left, with an index over these, or without one where nothing is looked for. The index is
-/// one of cells, until a box is to be looked through in whose cells too many places lie, and then one of boxes.
+/// one of cells, until boxes are to be looked through in whose cells too many places lie, and then one of boxes. So many of these may still be slow.
 #[derive(Drop)]
 pub struct ShownPlaces {
     places: Places,
+    slow: usize,
 }
 
 impl Model for ShownPlaces {
@@ -50,13 +54,14 @@ impl ShownPlaces {
         requires { length positions.items < 2 ^ 60 }
         ensures { IfOk result (λ x. x ≡ all_placed indexed positions.items) }
     {
+        let slow = positions.len() / MOST;
         let places = if indexed {
             Places::Celled(CellIndex::of(alloc, positions)?)
         } else {
             let left = vec![in alloc; true; positions.len()]?;
             Places::Listed { positions, left }
         };
-        Ok(ShownPlaces { places })
+        Ok(ShownPlaces { places, slow })
     }
 
     /// The positions of all places, also of those that are gone.
@@ -118,17 +123,23 @@ impl ShownPlaces {
         }
     }
 
-    /// Readies the index for a search through this box: one of boxes takes the place of one of cells where too many places lie in these.
+    /// Readies the index for a search through this box: one of boxes takes the place of one of cells where too many places lie in these, or where that
+    /// has been slow too often.
     pub fn ready(&mut self, alloc: Global, within: &Extent) -> Result<(), Memory>
         ensures { self.new ≡ self.old }
     {
         let Places::Celled(cells) = &self.places else {
             return Ok(());
         };
-        if !cells.is_quick(within, MOST) {
-            let boxes = cells.in_boxes(alloc)?;
-            self.places = Places::Boxed(boxes);
+        if cells.is_quick(within, MOST) {
+            return Ok(());
         }
+        if self.slow > 0 && cells.is_quick(within, MOST_SLOW) {
+            self.slow -= 1;
+            return Ok(());
+        }
+        let boxes = cells.in_boxes(alloc)?;
+        self.places = Places::Boxed(boxes);
         Ok(())
     }
 

@@ -121,14 +121,15 @@ fn bits_for(positions: &[Position]) -> u32
     usual_step(positions).max(1).ilog2().min(62)
 }
 
-/// How many lists there are for so many places in so many cells: a power of two, and one for few places.
+/// How many lists there are for so many places in so many cells: a power of two, more than the cells, so that few of these share one; and one for few
+/// places.
 fn lists_for(places: usize, cells: usize) -> usize
     ensures { 0 < result }
 {
     if places <= FEW {
         1
     } else {
-        1usize << cells.max(1).ilog2().min(32)
+        1usize << (cells.max(1).ilog2() + 1).min(32)
     }
 }
 

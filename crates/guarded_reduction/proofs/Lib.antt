@@ -20,6 +20,7 @@ pub mod KeptIndexes
 pub mod Lines
 pub mod Moves
 pub mod Next
+pub mod SideBySide
 pub mod NotFree
 pub mod Numbers
 pub mod Orders

@@ -37,7 +37,7 @@ has_within (ps ∷ arcs) (suc k) i h = has_within arcs k i h
 
 -- ---- links
 
-links_many : (neighbour : Neighbour) (o : ℕ) (arcs : List (List Point)) → length (links_of neighbour o arcs) ≡ length (joined arcs)
+pub links_many : (neighbour : Neighbour) (o : ℕ) (arcs : List (List Point)) → length (links_of neighbour o arcs) ≡ length (joined arcs)
 links_many neighbour o [] = refl
 links_many neighbour o (ps ∷ arcs) =
     length-append (arc_links neighbour o (length ps)) (links_of neighbour (o + length ps) arcs) ∙ ap (λ n. n + length (links_of neighbour (o + length ps) arcs)) (length-map-range_with_len (λ i. o + neighbour (length ps) i) 0 (length ps))

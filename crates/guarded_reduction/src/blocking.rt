@@ -1,19 +1,20 @@
 // What joins two positions, and what keeps a corner from going.
 ghost use Rattle.std.specs.Prelude.{◌≡◌, slice_index_or};
 ghost use Rattle.guarded_reduction.specs.Blocking.{is_blocked_by, is_joined_at, joins_ends, leads_on};
+ghost use Rattle.guarded_reduction.specs.SideBySide.{afters_in, befores_in};
 
 use crate::extent::{Extent, around, is_point};
+use crate::neighbours::{Neighbours, after_or, before_or};
 use crate::query::{Corner, Query, is_held_by, reach_of};
 use crate::searching::position_of;
 use crate::sides::is_aside;
 use geometry::{Position, is_same};
 
-/// The neighbours of places: the place before each, and the one after it; where there is none, the place itself.
+/// The positions of places, and their neighbours.
 #[derive(Drop)]
 pub struct Links<'a> {
     pub positions: &'a [Position],
-    pub befores: &'a [usize],
-    pub afters: &'a [usize],
+    pub neighbours: &'a [Neighbours],
 }
 
 /// Two positions, and a place. A segment between the positions, of which the place is no end, joins them.
@@ -46,14 +47,14 @@ fn leads(j: &Joined, place: usize) -> bool
 }
 
 impl Query for Joined<'_> {
-    ghost test = { λ j. is_joined_at j.links.now.positions.now j.links.now.befores.now j.links.now.afters.now j.from j.to j.place };
+    ghost test = { λ j. is_joined_at j.links.now.positions.now (befores_in j.links.now.neighbours.now) (afters_in j.links.now.neighbours.now) j.from j.to j.place };
 
     #[tactic(auto, unfolding(crate::specs::Blocking::is_joined_at))]
     fn is_met_by(&self, place: usize, at: Position) -> bool {
         is_same(self.from, at)
             && (place != self.place
-                && (leads(self, number_or(self.links.befores, place, self.place))
-                    || leads(self, number_or(self.links.afters, place, self.place))))
+                && (leads(self, before_or(self.links.neighbours, place, self.place))
+                    || leads(self, after_or(self.links.neighbours, place, self.place))))
     }
 
     fn reach(&self) -> Extent {
@@ -76,7 +77,7 @@ pub struct Blocked<'a> {
 /// The place is at the position before the corner, and joins it with the one after it.
 #[tactic(auto, unfolding(crate::specs::Blocking::joins_ends))]
 fn joins(b: &Blocked, place: usize, at: Position) -> bool
-    ensures { result ≡ joins_ends b.now.links.now.positions.now b.now.links.now.befores.now b.now.links.now.afters.now b.now.corner place at }
+    ensures { result ≡ joins_ends b.now.links.now.positions.now (befores_in b.now.links.now.neighbours.now) (afters_in b.now.links.now.neighbours.now) b.now.corner place at }
 {
     let Corner {
         before,
@@ -94,7 +95,7 @@ fn joins(b: &Blocked, place: usize, at: Position) -> bool
 }
 
 impl Query for Blocked<'_> {
-    ghost test = { λ b. is_blocked_by b.links.now.positions.now b.links.now.befores.now b.links.now.afters.now b.corner };
+    ghost test = { λ b. is_blocked_by b.links.now.positions.now (befores_in b.links.now.neighbours.now) (afters_in b.links.now.neighbours.now) b.corner };
 
     #[tactic(auto, unfolding(crate::specs::Blocking::is_blocked_by))]
     fn is_met_by(&self, place: usize, at: Position) -> bool {

@@ -12,6 +12,7 @@ ghost use Rattle.guarded_reduction.specs.Moves.{lost_at};
 use crate::blocking::{Blocked, Links};
 use crate::entry::Entry;
 use crate::flattening::{afters_of, all_positions, befores_of};
+use crate::neighbours::{Neighbours, neighbours_of, set_after, set_before, side_by_side};
 use crate::query::{Corner, Query, reach_of};
 use crate::ring_moves::step;
 use crate::searching::position_of;
@@ -27,19 +28,19 @@ use std::marker::Model;
 #[derive(Drop)]
 pub struct LinkedPlaces {
     places: ShownPlaces,
-    befores: Vec<usize>,
-    afters: Vec<usize>,
+    neighbours: Vec<Neighbours>,
     fixed: Vec<bool>,
 }
 
 impl Model for LinkedPlaces {
     ghost use Rattle.guarded_reduction.specs.Linking.{IsWhole, Linked};
+    ghost use Rattle.guarded_reduction.specs.SideBySide.{afters_in, befores_in};
 
     ghost Value = { Linked };
 
-    ghost view = { λ p. record { positions = p.places.positions; left = p.places.left; befores = p.befores.items; afters = p.afters.items; no_crossings = p.places.indexed; fixed = p.fixed.items } };
+    ghost view = { λ p. record { positions = p.places.positions; left = p.places.left; befores = befores_in p.neighbours.items; afters = afters_in p.neighbours.items; no_crossings = p.places.indexed; fixed = p.fixed.items } };
 
-    ghost invariant = { λ p. IsWhole (record { positions = p.places.positions; left = p.places.left; befores = p.befores.items; afters = p.afters.items; no_crossings = p.places.indexed; fixed = p.fixed.items }) };
+    ghost invariant = { λ p. IsWhole (record { positions = p.places.positions; left = p.places.left; befores = befores_in p.neighbours.items; afters = afters_in p.neighbours.items; no_crossings = p.places.indexed; fixed = p.fixed.items }) };
 }
 
 impl LinkedPlaces {
@@ -56,10 +57,10 @@ impl LinkedPlaces {
         let places = ShownPlaces::of(alloc, positions, no_crossings)?;
         let befores = befores_of(alloc, arcs)?;
         let afters = afters_of(alloc, arcs)?;
+        let neighbours = side_by_side(alloc, &befores, &afters)?;
         Ok(LinkedPlaces {
             places,
-            befores,
-            afters,
+            neighbours,
             fixed,
         })
     }
@@ -68,7 +69,7 @@ impl LinkedPlaces {
     pub fn law(&self)
         ensures { IsWholeLinked self.now }
     {
-        let _ = &self.befores;
+        let _ = &self.neighbours;
     }
 
     /// How many places there are, with those that are gone.
@@ -109,7 +110,7 @@ impl LinkedPlaces {
         ensures value { result ≡ slice_index self.now.befores place }
         ensures within { result < length self.now.positions }
     {
-        self.befores[place]
+        neighbours_of(&self.neighbours, place).before as usize
     }
 
     /// The place after a place.
@@ -118,7 +119,7 @@ impl LinkedPlaces {
         ensures value { result ≡ slice_index self.now.afters place }
         ensures within { result < length self.now.positions }
     {
-        self.afters[place]
+        neighbours_of(&self.neighbours, place).after as usize
     }
 
     /// The corner at a place between two others.
@@ -221,8 +222,7 @@ impl LinkedPlaces {
         let place = corner.place;
         let links = Links {
             positions: self.places.positions(),
-            befores: self.befores.as_slice(),
-            afters: self.afters.as_slice(),
+            neighbours: self.neighbours.as_slice(),
         };
         let blocked = Blocked {
             corner,
@@ -256,8 +256,7 @@ impl LinkedPlaces {
         }
         let links = Links {
             positions: self.places.positions(),
-            befores: self.befores.as_slice(),
-            afters: self.afters.as_slice(),
+            neighbours: self.neighbours.as_slice(),
         };
         let blocked = Blocked {
             corner: *corner,
@@ -290,10 +289,9 @@ impl LinkedPlaces {
         requires { place < length self.old.positions }
         ensures { self.new ≡ unlinked place self.old }
     {
-        let before = self.before(place);
-        let after = self.after(place);
+        let Neighbours { before, after } = neighbours_of(&self.neighbours, place);
         self.places.remove(place);
-        self.befores[after] = before;
-        self.afters[before] = after;
+        set_before(&mut self.neighbours, after as usize, before);
+        set_after(&mut self.neighbours, before as usize, after);
     }
 }

@@ -22,6 +22,7 @@ pub mod Moves
 pub mod Next
 pub mod SideBySide
 pub mod NotFree
+pub mod Noted
 pub mod Numbers
 pub mod Orders
 pub mod OtherSide

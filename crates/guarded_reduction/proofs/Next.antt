@@ -90,7 +90,7 @@ first_of_two a b i j h = on (cases_lt a b)
         over (inr k) = inr (omega (arith, k, l))
 
 -- a corner doesn't go before one of a lesser area
-not_before_less : (d c : ArcCorner) → c.corner.area < d.corner.area → goes_before d c ≡ false
+pub not_before_less : (d c : ArcCorner) → c.corner.area < d.corner.area → goes_before d c ≡ false
 unfolding goes_before
 not_before_less d c h = greater_cmp d.corner.area c.corner.area (ordering_then (point_cmp d.corner.point c.corner.point) (ordering_then (nat_cmp d.arc c.arc) (nat_cmp d.corner.index c.corner.index))) h
 

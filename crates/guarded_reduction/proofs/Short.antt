@@ -1,5 +1,6 @@
 -- An arc that is reduced by itself, of which some indexes are left.
 use Rattle.std.proofs.Common.{◌≡◌, ℕ, zero, suc, ◌+◌, ◌<◌, ◌≤◌, ◌==◌, Bool, true, false, not, ◌&&◌, ◌||◌, nat_lt, List, [], ◌∷◌, All, length, map, drop, get_or, eqb, Option, Some, None, refl, ap, sym, ◌∙◌, subst, ◌⊎◌, inl, inr, arith, add-one, drop-cons, length-drop}
+use Rattle.std.specs.Option.{IfNone, IfSome, is_some}
 use Rattle.std.specs.List.{AllByRecursion, filter, list_all, range_with_len}
 use Rattle.std.proofs.lemmas.Bool.{and_parts, and_from, both_ways, false_from_ne_true}
 use Rattle.std.proofs.lemmas.List.Elements.{All-filter}
@@ -20,9 +21,9 @@ use Rattle.guarded_meaning.proofs.OneFirst.{first_is_one}
 use Rattle.guarded_meaning.proofs.Order.{goes_order}
 use Rattle.guarded_meaning.proofs.Removal.{all_numbered_own, own_indexes_left}
 use Rattle.guarded_reduction.specs.declared.short_arc.Candidate.{Candidate}
-use Rattle.guarded_reduction.specs.Short.{IsBest, IsNotBefore, corner_of, goes_ahead, is_sooner, only_arc, opens}
+use Rattle.guarded_reduction.specs.Short.{IsBest, IsNotBefore, corner_of, corner_of_left, goes_ahead, is_sooner, only_arc, opens}
 use Rattle.guarded_reduction.specs.Tests.{is_held_by}
-use Rattle.guarded_reduction.proofs.Next.{all_steps, no_step, one_step}
+use Rattle.guarded_reduction.proofs.Next.{all_steps, no_step, not_before_less, one_step}
 use Rattle.guarded_reduction.proofs.Parting.{GoesOnApart, KeepsClear, all_apart, more_apart, none_apart}
 
 from : (is : List ℕ) (k : ℕ) → k < length is → drop k is ≡ get_or is k 0 ∷ drop (k + 1) is
@@ -128,6 +129,19 @@ not_itself c = grind (arith, goes_order.one_way)
 not_before : (b c d : ArcCorner) → goes_before d b ≡ false → goes_before c b ≡ true → goes_before d c ≡ false
 not_before b c d h k = grind (arith, goes_order.chain, goes_order.one_way)
 
+-- a corner of a greater area doesn't go before another
+pub over_best : (t : ℕ) (b c : Candidate) → b.area < c.area → (nat_lt c.area t && goes_before (corner_of c) (corner_of b)) ≡ false
+over_best t b c h = ap (λ x. nat_lt c.area t && x) (not_before_less (corner_of c) (corner_of b) h) ∙ neither (nat_lt c.area t)
+  where
+    neither : (a : Bool) → (a && false) ≡ false
+    neither true = refl
+    neither false = refl
+
+pub over_sooner : (a b m : Bool) → (a && b) ≡ false → (a && (b && m)) ≡ false
+over_sooner false b m h = refl
+over_sooner true false m h = refl
+over_sooner true true m h = absurd cc
+
 and_true : (a b : Bool) → (a && (b && true)) ≡ (a && b)
 and_true a b = grind arith
 
@@ -221,6 +235,24 @@ module _ (n : Bool) (ps : List Point) where
       corner_of c ≡ arc_corner_at 0 (vertex_at ps (get_or is k 0)) (vertex_at ps (get_or is (k + 1) 0)) (vertex_at ps (get_or is (k + 2) 0)) →
       is_sooner n t (only_arc ps is) best c ≡ true → IsBestFrom t is k best → IsBestFrom t is (k + 1) (Some c)
   best_new t is k best c h e s b = sooner n t (only_arc ps is) best c (corners_of (drop (k + 1) is)) s (subst (IsBest n t (only_arc ps is) best) (next_corners is k (corner_of c) h e) b)
+
+  abbrev pub IsSoonerAt : ℕ → List ℕ → ℕ → Option Candidate → Option Candidate → Type 0
+  IsSoonerAt t is k best o = IfSome o (λ c. corner_of c ≡ corner_of_left ps is k) × IfSome o (λ c. is_sooner n t (only_arc ps is) best c ≡ true)
+      × IfNone o ((c : Candidate) → corner_of c ≡ corner_of_left ps is k → is_sooner n t (only_arc ps is) best c ≡ false)
+
+  pub best_found : (t : ℕ) (is : List ℕ) (k : ℕ) (best o : Option Candidate) → k + 2 < length is → IsSoonerAt t is k best o → is_some o ≡ true → IsBestFrom t is k best → IsBestFrom t is (k + 1) o
+  best_found t is k best None h s f b = absurd cc
+  best_found t is k best (Some c) h s f b = best_new t is k best c h s.0 s.1 b
+
+  pub best_kept : (t : ℕ) (is : List ℕ) (k : ℕ) (best o : Option Candidate) → k + 2 < length is → IsSoonerAt t is k best o → is_some o ≡ false → IsBestFrom t is k best → IsBestFrom t is (k + 1) best
+  best_kept t is k best (Some c) h s f b = absurd cc
+  best_kept t is k best None h s f b = best_same t is k best one h refl (s.2 one refl) b
+    where
+      there : ArcCorner
+      there = corner_of_left ps is k
+
+      one : Candidate
+      one = record { area = there.corner.area; corner = record { before = there.before; at = there.corner.point; after = there.after; place = there.corner.index }; stretch = 0 }
 
   pub best_of_all : (t : ℕ) (is : List ℕ) (k : ℕ) (best : Option Candidate) → length is ≤ k + 2 → IsBestFrom t is k best → IsBest n t (only_arc ps is) best []
   best_of_all t is k best h b = subst (IsBest n t (only_arc ps is) best) (short (drop k is) (let l = length-drop k is in omega (arith, l, h))) b

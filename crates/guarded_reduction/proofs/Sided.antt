@@ -25,7 +25,7 @@ not_flat : (l : Bool) (a b q : Point) → Off l a b q → cross a b q ≡ pos 0 
 not_flat true a b q h e = omega (arith, ints, h, e)
 not_flat false a b q h e = omega (arith, ints, h, e)
 
-flat_first : (a b : Point) → cross a b a ≡ pos 0
+pub flat_first : (a b : Point) → cross a b a ≡ pos 0
 flat_first a b = omega (arith, ints, cross_is a b a)
 
 flat_second : (a b : Point) → cross a b b ≡ pos 0

@@ -14,6 +14,7 @@ pub mod Levels
 pub mod Lines
 pub mod Linking
 pub mod Moves
+pub mod Noted
 pub mod SideBySide
 pub mod Numbers
 pub mod Orders

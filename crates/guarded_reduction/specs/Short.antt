@@ -1,11 +1,11 @@
 -- An arc that is reduced by itself, of which some indexes are left.
-use Rattle.std.specs.Prelude.{◌≡◌, ◌⊎◌, ℕ, Bool, true, false, not, ◌&&◌, ◌||◌, nat_lt, List, [], ◌∷◌, Option, None, Some}
+use Rattle.std.specs.Prelude.{◌≡◌, ◌⊎◌, ℕ, ◌+◌, slice_index, Bool, true, false, not, ◌&&◌, ◌||◌, nat_lt, List, [], ◌∷◌, Option, None, Some}
 use Rattle.std.specs.Option.{IfSome}
-use Rattle.effective_area.specs.Vertices.{vertices}
+use Rattle.effective_area.specs.Vertices.{vertex_at, vertices}
 use Rattle.elimination_meaning.specs.Elimination.{Vertex}
 use Rattle.geometry.specs.Lists.{In}
 use Rattle.geometry.specs.Points.{Point}
-use Rattle.guarded_meaning.specs.Arcs.{ArcCorner, all_corners, is_pair_of, neighbours_at, segment_of}
+use Rattle.guarded_meaning.specs.Arcs.{ArcCorner, all_corners, arc_corner_at, is_pair_of, neighbours_at, segment_of}
 use Rattle.guarded_meaning.specs.Elimination.{goes, goes_before}
 use Rattle.guarded_meaning.specs.Guards.{guarded_by, is_free}
 use Rattle.guarded_meaning.specs.Segments.{segment, same_ends}
@@ -18,6 +18,10 @@ corner_of c = record { arc = 0; before = c.corner.before; corner = record { area
 -- the one arc, of which these indexes are left
 abbrev pub only_arc : List Point → List ℕ → List (List Vertex)
 only_arc ps is = vertices ps is ∷ []
+
+-- the corner after the first k of what is left
+abbrev pub corner_of_left : List Point → List ℕ → ℕ → ArcCorner
+corner_of_left ps is k = arc_corner_at 0 (vertex_at ps (slice_index is k)) (vertex_at ps (slice_index is (k + 1))) (vertex_at ps (slice_index is (k + 2)))
 
 -- two vertices, one after the other, are the corner's own pair, or don't join the positions before and after it
 abbrev pub opens : ArcCorner → Vertex → Vertex → Bool

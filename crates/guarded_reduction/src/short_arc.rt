@@ -1,7 +1,7 @@
 // A short arc that is reduced by itself, straight from the definition.
-ghost use Rattle.std.specs.Prelude.{◌≡◌, ◌&&◌, [], ◌∷◌, ◌==◌, ◌<◌, All, IfOk, length, map, nat_lt, not, true};
+ghost use Rattle.std.specs.Prelude.{◌≡◌, ◌&&◌, ◌+◌, [], ◌∷◌, ◌==◌, ◌<◌, All, IfOk, false, length, map, nat_lt, not, true};
 ghost use Rattle.std.specs.List.{filter, range_with_len};
-ghost use Rattle.std.specs.Option.{IfSome};
+ghost use Rattle.std.specs.Option.{IfNone, IfSome};
 ghost use Rattle.elimination_meaning.specs.Elimination.{numbered};
 ghost use Rattle.effective_area.specs.Vertices.{vertex_at, vertices};
 ghost use Rattle.geometry.specs.Lists.{joined};
@@ -13,13 +13,14 @@ ghost use Rattle.guarded_meaning.specs.Guards.{guarded_by};
 ghost use Rattle.guarded_meaning.specs.Parts.{StaysApart};
 ghost use Rattle.guarded_reduction.specs.Tests as spec;
 ghost use Rattle.guarded_reduction.specs.Tests.{Reaches};
-ghost use Rattle.guarded_reduction.specs.Short.{IsBest, corner_of, goes_ahead, is_sooner, only_arc, opens};
+ghost use Rattle.guarded_reduction.specs.Noted.{AreNoted, area_between};
+ghost use Rattle.guarded_reduction.specs.Short.{IsBest, corner_of, corner_of_left, goes_ahead, is_sooner, only_arc, opens};
 
 use crate::extent::{Extent, around, meets};
 use crate::meeting::same_ends;
+use crate::noted_areas::{Noted, first_notes, noted_area};
 use crate::query::{Corner, is_held_by, reach_of};
 use crate::surroundings::Surroundings;
-use effective_area::cross;
 use geometry::{Position, is_same};
 use owned_values::Memory;
 use std::alloc::Global;
@@ -51,23 +52,26 @@ fn position_at(arc: &[Position], index: usize) -> Position
     arc[index]
 }
 
-/// The corner at an index between two others.
-#[tactic(auto, unfolding(geometry::specs::Areas::twice_area))]
-fn candidate_at(arc: &[Position], before: usize, place: usize, after: usize) -> Candidate
+/// The corner at an index between two others, of which twice the area is known.
+fn candidate_at(
+    arc: &[Position],
+    area: u128,
+    before: usize,
+    place: usize,
+    after: usize,
+) -> Candidate
     requires before { before < length arc.now }
     requires place { place < length arc.now }
     requires after { after < length arc.now }
+    requires area { area ≡ area_between arc.now before place after }
     ensures { corner_of result ≡ arc_corner_at 0 (vertex_at arc.now before) (vertex_at arc.now place) (vertex_at arc.now after) }
 {
-    let first = position_at(arc, before);
-    let at = position_at(arc, place);
-    let last = position_at(arc, after);
     Candidate {
-        area: cross(first, at, last).unsigned_abs(),
+        area,
         corner: Corner {
-            before: first,
-            at,
-            after: last,
+            before: position_at(arc, before),
+            at: position_at(arc, place),
+            after: position_at(arc, after),
             place,
         },
         stretch: after.wrapping_sub(before),
@@ -186,38 +190,89 @@ fn goes_sooner(
         && (is_ahead(best, candidate) && (!no_crossings || is_free(arc, left, candidate)))
 }
 
+/// A corner of this area doesn't go before the one that was found, or isn't under the threshold, if the answer is yes.
+fn is_over(area: u128, threshold: u128, best: &Option<Candidate>) -> bool
+    ensures { result ≡ true → (c : Candidate) → c.area ≡ area → (nat_lt c.area threshold && goes_ahead best.now c) ≡ false }
+{
+    match best {
+        None => area >= threshold,
+        Some(best) => area > best.area,
+    }
+}
+
+/// The corner at an index of what is left, if it goes before the one that was found.
+fn sooner_at(
+    arc: &[Position],
+    left: &[usize],
+    notes: &mut Vec<Noted>,
+    no_crossings: bool,
+    threshold: u128,
+    best: &Option<Candidate>,
+    k: usize,
+) -> Option<Candidate>
+    requires inside { All (λ i. i < length arc.now) left.now }
+    requires noted { AreNoted arc.now notes.old.items }
+    requires within { k + 2 < length left.now }
+    ensures noted { AreNoted arc.now notes.new.items }
+    ensures some { IfSome result (λ c. corner_of c ≡ corner_of_left arc.now left.now k) }
+    ensures sooner { IfSome result (λ c. is_sooner no_crossings threshold (only_arc arc.now left.now) best.now c ≡ true) }
+    ensures none { IfNone result ((c : Candidate) → corner_of c ≡ corner_of_left arc.now left.now k → is_sooner no_crossings threshold (only_arc arc.now left.now) best.now c ≡ false) }
+{
+    let (before, place, after) = (left[k], left[k + 1], left[k + 2]);
+    let area = noted_area(arc, notes, before, place, after);
+    if is_over(area, threshold, best) {
+        return None;
+    }
+    let candidate = candidate_at(arc, area, before, place, after);
+    if goes_sooner(arc, left, no_crossings, threshold, best, &candidate) {
+        Some(candidate)
+    } else {
+        None
+    }
+}
+
 /// The corner that goes first of what is left, if one goes, where no crossing may be made, or where any may.
 fn first_candidate(
     arc: &[Position],
     left: &[usize],
+    notes: &mut Vec<Noted>,
     no_crossings: bool,
     threshold: u128,
 ) -> Option<Candidate>
-    requires { All (λ i. i < length arc.now) left.now }
-    ensures { IsBest no_crossings threshold (only_arc arc.now left.now) result [] }
+    requires inside { All (λ i. i < length arc.now) left.now }
+    requires noted { AreNoted arc.now notes.old.items }
+    ensures noted { AreNoted arc.now notes.new.items }
+    ensures first { IsBest no_crossings threshold (only_arc arc.now left.now) result [] }
 {
     let mut best: Option<Candidate> = None;
     'corners: for k in 0..left.len().saturating_sub(2) {
-        let candidate = candidate_at(arc, left[k], left[k + 1], left[k + 2]);
-        if goes_sooner(arc, left, no_crossings, threshold, &best, &candidate) {
-            best = Some(candidate);
+        let sooner = sooner_at(arc, left, notes, no_crossings, threshold, &best, k);
+        if sooner.is_some() {
+            best = sooner;
         }
     }
     best
 }
 
 /// The corner that goes first of what is left without a crossing, if one goes. Mostly it is the first of all.
-fn next_candidate(arc: &[Position], left: &[usize], threshold: u128) -> Option<Candidate>
-    requires { All (λ i. i < length arc.now) left.now }
-    ensures { IsBest true threshold (only_arc arc.now left.now) result [] }
+fn next_candidate(
+    arc: &[Position],
+    left: &[usize],
+    notes: &mut Vec<Noted>,
+    threshold: u128,
+) -> Option<Candidate>
+    requires inside { All (λ i. i < length arc.now) left.now }
+    requires noted { AreNoted arc.now notes.old.items }
+    ensures noted { AreNoted arc.now notes.new.items }
+    ensures first { IsBest true threshold (only_arc arc.now left.now) result [] }
 {
-    let Some(found) = first_candidate(arc, left, false, threshold) else {
+    let Some(found) = first_candidate(arc, left, notes, false, threshold) else {
         return None;
     };
     if is_free(arc, left, &found) {
         return Some(found);
     }
-    first_candidate(arc, left, true, threshold)
+    first_candidate(arc, left, notes, true, threshold)
 }
 
 /// Takes an index out.
@@ -239,8 +294,9 @@ pub fn reduced_short<S: Surroundings>(
     ensures kept { IfOk result (λ found. IfSome found (λ kept. kept.items ∷ [] ≡ reduce_arcs (guarded_by true []) threshold (arc.now ∷ []))) }
 {
     let mut left = all_indexes(alloc, arc.len())?;
+    let mut notes = first_notes(alloc, arc)?;
     'corners: for _step in 0..arc.len() {
-        let Some(found) = next_candidate(arc, left.as_slice(), threshold) else {
+        let Some(found) = next_candidate(arc, left.as_slice(), &mut notes, threshold) else {
             return Ok(Some(left));
         };
         if !beside.are_clear_of(&found.corner, found.stretch) {

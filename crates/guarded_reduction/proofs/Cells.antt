@@ -6,8 +6,9 @@ use Rattle.std.proofs.lemmas.List.{get_or-replicate, length-replicate, get_or_ap
 use Rattle.std.proofs.lemmas.Nat.{le-div, pow_pos}
 use Rattle.geometry.specs.Points.{Point}
 use Rattle.guarded_reduction.specs.declared.cell_lists.Grid.{Grid}
+use Rattle.guarded_reduction.specs.declared.cell_search.CellRange.{CellRange}
 use Rattle.guarded_reduction.specs.declared.extent.Extent.{Extent}
-use Rattle.guarded_reduction.specs.Cells.{AreChained, IsGrid, IsOn, NoneMeetsInRow, NoneMeetsInRows, NoneMeetsOn, cell_along, least, list_at, list_of}
+use Rattle.guarded_reduction.specs.Cells.{AreCellsOf, AreChained, IsGrid, IsOn, NoneMeetsInRow, NoneMeetsInRows, NoneMeetsOn, cell_along, least, list_at, list_of}
 use Rattle.guarded_reduction.specs.Indexes.{NoneMeets, is_left_at, point_at}
 use Rattle.guarded_reduction.specs.Tests.{Reaches, Test}
 
@@ -181,14 +182,13 @@ rows_on ps bs g test low high low_row row on none = record { fails = λ r l k. a
     at r l k (inr q) = none.fails r l (omega (arith, k, q))
 
 -- what lies in a box lies in its cells
-pub all_within : (ps : List Point) (bs : List Bool) (g : Grid) (test : Test) (e : Extent) (low high low_row high_row : ℕ) → ((k : ℤ) → e.low_x ≤ℤ k → low ≤ cell_along g.bits k) → ((k : ℤ) → e.low_x ≤ℤ k → k ≤ℤ e.high_x → cell_along g.bits k < high) →
-    ((k : ℤ) → e.low_y ≤ℤ k → low_row ≤ cell_along g.bits k) → ((k : ℤ) → e.low_y ≤ℤ k → k ≤ℤ e.high_y → cell_along g.bits k < high_row) → Reaches e test → NoneMeetsInRows ps bs g test low high low_row high_row →
-    NoneMeets ps bs test
-all_within ps bs g test e low high low_row high_row left right below above r none = record { fails = λ z w s. on z w s (cases_Bool (test z (point_at ps z))) }
+pub all_within : (ps : List Point) (bs : List Bool) (g : Grid) (test : Test) (e : Extent) (c : CellRange) (row : ℕ) → AreCellsOf g.bits e c → c.high_row ≤ row → Reaches e test → NoneMeetsInRows ps bs g test c.low c.high c.low_row row → NoneMeets ps bs test
+all_within ps bs g test e c row cells last r none = record { fails = λ z w s. on z w s (cases_Bool (test z (point_at ps z))) }
   where
     on : (z : ℕ) → z < length ps → is_left_at bs z ≡ true → (test z (point_at ps z) ≡ true) ⊎ (test z (point_at ps z) ≡ false) → test z (point_at ps z) ≡ false
     on z w s (inr n) = n
     on z w s (inl t) =
         let p = point_at ps z in
         let h = r.holds z p t in
-        (none.fails (cell_along g.bits p.y) (below p.y h.low_y) (above p.y h.low_y h.high_y)).fails z w s refl (left p.x h.low_x) (right p.x h.low_x h.high_x)
+        let top = cells.above p.y h.low_y h.high_y in
+        (none.fails (cell_along g.bits p.y) (cells.below p.y h.low_y) (omega (arith, top, last))).fails z w s refl (cells.left p.x h.low_x) (cells.right p.x h.low_x h.high_x)

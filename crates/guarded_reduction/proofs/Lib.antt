@@ -19,6 +19,7 @@ pub mod KeepsClear
 pub mod KeptIndexes
 pub mod Lines
 pub mod Moves
+pub mod Near
 pub mod Next
 pub mod SideBySide
 pub mod NotFree

@@ -5,10 +5,13 @@ use Rattle.geometry.specs.Points.{Point}
 use Rattle.geometry.specs.Rings.{same}
 use Rattle.guarded_meaning.specs.Triangles.{in_triangle}
 use Rattle.guarded_reduction.specs.declared.query.Corner.{Corner}
+use Rattle.guarded_reduction.specs.declared.extent.Extent.{Extent}
+use Rattle.guarded_reduction.specs.Extents.{is_within}
 use Rattle.guarded_reduction.specs.First.{Neighbour, links_of}
-use Rattle.guarded_reduction.specs.Indexes.{point_at}
+use Rattle.guarded_reduction.specs.Indexes.{NoneMeets, point_at}
 use Rattle.guarded_reduction.specs.Moves.{owners_of}
 use Rattle.guarded_reduction.specs.Shown.{Shown, all_left}
+use Rattle.guarded_reduction.specs.Tests.{unlisted}
 
 -- for an end of an arc the other end, else the index itself
 abbrev pub partner_index : Neighbour
@@ -32,6 +35,14 @@ is_excused partners ps c z p = not (slice_index_or partners z z == z) && ((same 
 -- the place z, at the position p, is one of an arc that isn't marked, and in the corner's triangle, and isn't excused
 unfoldable pub is_beside : List Bool → List ℕ → List ℕ → List Point → Corner → ℕ → Point → Bool
 is_beside marks owners partners ps c z p = not (is_marked marks owners z) && (in_triangle c.before c.at c.after p && not (is_excused partners ps c z p))
+
+-- the place z, at the position p, is one of an arc that isn't marked, and in the box
+unfoldable pub is_near : List Bool → List ℕ → Extent → ℕ → Point → Bool
+is_near marks owners e z p = is_within e p && not (is_marked marks owners z)
+
+-- of the arcs that aren't marked all places in the box are on the list
+abbrev pub AreNear : List Bool → List (List Point) → Extent → List ℕ → Type 0
+AreNear marks arcs e zs = NoneMeets (joined arcs) (all_left (joined arcs)).left (unlisted (is_near marks (owners_of 0 arcs) e) zs)
 
 -- ---- the arcs
 

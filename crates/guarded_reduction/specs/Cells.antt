@@ -1,9 +1,11 @@
 -- Lists of places by the square cells that their positions lie in.
-use Rattle.std.specs.Prelude.{◌≡◌, ℕ, ℤ, pos, ◌-ℤ◌, ◌+◌, ◌-◌, ◌*◌, ◌/◌, ◌%◌, ◌^◌, ◌<◌, ◌≤◌, Bool, true, false, List, length, slice_index, unsigned_abs}
+use Rattle.std.specs.Prelude.{◌≡◌, ℕ, ℤ, pos, ◌-ℤ◌, ◌≤ℤ◌, ◌+◌, ◌-◌, ◌*◌, ◌/◌, ◌%◌, ◌^◌, ◌<◌, ◌≤◌, Bool, true, false, List, length, slice_index, unsigned_abs}
 use Rattle.std.specs.Int.Bits.{bit_and}
 use Rattle.geometry.specs.Points.{Point}
 use Rattle.guarded_reduction.specs.declared.cell_lists.CellLists.{CellLists}
 use Rattle.guarded_reduction.specs.declared.cell_lists.Grid.{Grid}
+use Rattle.guarded_reduction.specs.declared.cell_search.CellRange.{CellRange}
+use Rattle.guarded_reduction.specs.declared.extent.Extent.{Extent}
 use Rattle.guarded_reduction.specs.Indexes.{is_left_at, point_at}
 use Rattle.guarded_reduction.specs.Tests.{Test}
 
@@ -47,6 +49,13 @@ pub record AreCells (x : CellLists) : Type 0 where
   pub present : length x.present.items ≡ length x.positions.items
   pub fine : IsGrid x.positions.items x.fine
   pub coarse : IsGrid x.positions.items x.coarse
+
+-- the positions of the box lie in these columns and rows of cells
+pub record AreCellsOf (bits : ℕ) (e : Extent) (r : CellRange) : Type 0 where
+  pub left : (k : ℤ) → e.low_x ≤ℤ k → r.low ≤ cell_along bits k
+  pub right : (k : ℤ) → e.low_x ≤ℤ k → k ≤ℤ e.high_x → cell_along bits k < r.high
+  pub below : (k : ℤ) → e.low_y ≤ℤ k → r.low_row ≤ cell_along bits k
+  pub above : (k : ℤ) → e.low_y ≤ℤ k → k ≤ℤ e.high_y → cell_along bits k < r.high_row
 
 -- ---- what a search has shown
 

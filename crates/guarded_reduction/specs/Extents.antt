@@ -1,5 +1,5 @@
 -- Boxes round positions.
-use Rattle.std.specs.Prelude.{◌≤ℤ◌}
+use Rattle.std.specs.Prelude.{◌≤ℤ◌, Bool, ◌&&◌, int_le}
 use Rattle.geometry.specs.Points.{Point}
 use Rattle.guarded_reduction.specs.declared.extent.Extent.{Extent}
 
@@ -9,6 +9,10 @@ pub record HoldsPoint (e : Extent) (p : Point) : Type 0 where
   pub low_y : e.low_y ≤ℤ p.y
   pub high_x : p.x ≤ℤ e.high_x
   pub high_y : p.y ≤ℤ e.high_y
+
+-- the same, as a test
+unfoldable pub is_within : Extent → Point → Bool
+is_within e p = int_le e.low_x p.x && (int_le p.x e.high_x && (int_le e.low_y p.y && int_le p.y e.high_y))
 
 -- the first is in the second
 pub record LiesIn (e f : Extent) : Type 0 where

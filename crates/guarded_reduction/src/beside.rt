@@ -3,7 +3,7 @@ ghost use Rattle.std.specs.Prelude.{◌≡◌};
 ghost use Rattle.guarded_reduction.specs.Beside as spec;
 
 use crate::blocking::number_or;
-use crate::extent::Extent;
+use crate::extent::{Extent, holds};
 use crate::query::{Corner, Query, reach_of};
 use crate::searching::position_of;
 use crate::sides::is_aside;
@@ -66,5 +66,30 @@ impl Query for Beside<'_> {
 
     fn may_meet(&self, e: &Extent) -> bool {
         !is_aside(e, self.corner.before, self.corner.at, self.corner.after)
+    }
+}
+
+/// A box, and whole arcs, of which some are marked: the number of each place's arc. A place of an arc that isn't marked is near where the box holds it.
+#[derive(Drop)]
+pub struct Near<'a> {
+    pub within: Extent,
+    pub marks: &'a [bool],
+    pub owners: &'a [usize],
+}
+
+impl Query for Near<'_> {
+    ghost test = { λ n. spec.is_near n.marks.now n.owners.now n.within };
+
+    #[tactic(auto, unfolding(crate::specs::Beside::is_near))]
+    fn is_met_by(&self, place: usize, at: Position) -> bool {
+        holds(&self.within, at) && !is_marked(self.marks, self.owners, place)
+    }
+
+    fn reach(&self) -> Extent {
+        self.within
+    }
+
+    fn may_meet(&self, _e: &Extent) -> bool {
+        true
     }
 }

@@ -1,9 +1,9 @@
 // The search through the lists of cells.
-ghost use Rattle.std.specs.Prelude.{◌≡◌, ◌<◌, ◌≤◌, length};
+ghost use Rattle.std.specs.Prelude.{◌≡◌, ◌&&◌, ◌<◌, ◌≤◌, length, false, true};
 ghost use Rattle.std.specs.Option.{IfNone, IfSome};
-ghost use Rattle.guarded_reduction.specs.Cells.{AreCells, IsGrid, NoneMeetsInRow, NoneMeetsOn};
-ghost use Rattle.guarded_reduction.specs.Indexes.{Meets, NoneMeets};
-ghost use Rattle.guarded_reduction.specs.Tests.{Reaches};
+ghost use Rattle.guarded_reduction.specs.Cells.{AreCells, AreCellsOf, IsGrid, NoneMeetsInRow, NoneMeetsOn};
+ghost use Rattle.guarded_reduction.specs.Indexes.{Meets, NoneMeets, NoneMeetsOf, is_left_at, point_at};
+ghost use Rattle.guarded_reduction.specs.Tests.{IsLonger, Reaches, is_listed, unlisted};
 
 use crate::cell_lists::{CellLists, Grid, cell_along, list_of};
 use crate::extent::Extent;
@@ -13,6 +13,39 @@ use geometry::Position;
 
 /// So many small cells are looked through at most: for more of them there are large ones.
 const FEW_CELLS: u64 = 16;
+
+/// Cells: the columns from one on until before another, and so the rows.
+#[derive(Clone, Copy)]
+pub struct CellRange {
+    pub low: u64,
+    pub high: u64,
+    pub low_row: u64,
+    pub high_row: u64,
+}
+
+/// The cells of a grid that a box meets.
+fn cells_of(grid: &Grid, within: &Extent) -> CellRange
+    requires { grid.now.bits < 64 }
+    ensures { AreCellsOf grid.now.bits within.now result }
+{
+    let low = cell_along(within.low_x, grid.bits);
+    let high = cell_along(within.high_x, grid.bits) + 1;
+    let low_row = cell_along(within.low_y, grid.bits);
+    let high_row = cell_along(within.high_y, grid.bits) + 1;
+    CellRange {
+        low,
+        high,
+        low_row,
+        high_row,
+    }
+}
+
+/// How many they are, or more than memory has numbers for.
+fn count_cells(range: &CellRange) -> u64 {
+    let columns = range.high.saturating_sub(range.low);
+    let rows = range.high_row.saturating_sub(range.low_row);
+    columns.saturating_mul(rows)
+}
 
 /// A place of a list that is left and meets the test.
 fn find_on_list<Q: Query>(
@@ -78,16 +111,114 @@ fn find_within<Q: Query>(
     ensures some { IfSome result (λ z. Meets cells.now.positions.items cells.now.present.items (Q.test query.now) z) }
     ensures none { IfNone result (NoneMeets cells.now.positions.items cells.now.present.items (Q.test query.now)) }
 {
-    let low = cell_along(within.low_x, grid.bits);
-    let high = cell_along(within.high_x, grid.bits) + 1;
-    let low_row = cell_along(within.low_y, grid.bits);
-    let high_row = cell_along(within.high_y, grid.bits) + 1;
-    'rows: for row in low_row..high_row {
-        if let Some(place) = find_in_row(cells, grid, row, low, high, within, query) {
+    let range = cells_of(grid, within);
+    'rows: for row in range.low_row..range.high_row {
+        if let Some(place) = find_in_row(cells, grid, row, range.low, range.high, within, query) {
             return Some(place);
         }
     }
     None
+}
+
+/// Lists a place, if it is left and meets the test. The answer is no where the list has no room for it.
+fn note<Q: Query>(
+    cells: &CellLists,
+    place: usize,
+    within: &Extent,
+    query: &Q,
+    places: &mut Vec<usize>,
+) -> bool
+    requires present { length cells.now.present.items ≡ length cells.now.positions.items }
+    requires place { place < length cells.now.positions.items }
+    requires reach { Reaches within.now (Q.test query.now) }
+    ensures longer { IsLonger places.old.items places.new.items }
+    ensures listed { result ≡ true → (is_left_at cells.now.present.items place && unlisted (Q.test query.now) places.new.items place (point_at cells.now.positions.items place)) ≡ false }
+{
+    if !is_met_at(&cells.positions, &cells.present, place, within, query) {
+        return true;
+    }
+    if places.len() >= places.capacity() {
+        return false;
+    }
+    places.push_reserved(place);
+    true
+}
+
+/// Lists the places of one of the lists that are left and meet the test. The answer is no where there is no room for them.
+fn note_list<Q: Query>(
+    cells: &CellLists,
+    grid: &Grid,
+    list: usize,
+    within: &Extent,
+    query: &Q,
+    places: &mut Vec<usize>,
+) -> bool
+    requires present { length cells.now.present.items ≡ length cells.now.positions.items }
+    requires grid { IsGrid cells.now.positions.items grid.now }
+    requires list { list < length grid.now.firsts.items }
+    requires reach { Reaches within.now (Q.test query.now) }
+    ensures longer { IsLonger places.old.items places.new.items }
+    ensures listed { result ≡ true → NoneMeetsOn cells.now.positions.items cells.now.present.items grid.now (unlisted (Q.test query.now) places.new.items) list 0 }
+{
+    let mut number = grid.firsts[list];
+    'places: while number > 0 {
+        let place = number as usize - 1;
+        if !note(cells, place, within, query, places) {
+            return false;
+        }
+        number = grid.nexts[place];
+    }
+    true
+}
+
+/// The same of the cells of a row, from one column on until before another.
+fn note_row<Q: Query>(
+    cells: &CellLists,
+    grid: &Grid,
+    row: u64,
+    low: u64,
+    high: u64,
+    within: &Extent,
+    query: &Q,
+    places: &mut Vec<usize>,
+) -> bool
+    requires present { length cells.now.present.items ≡ length cells.now.positions.items }
+    requires grid { IsGrid cells.now.positions.items grid.now }
+    requires reach { Reaches within.now (Q.test query.now) }
+    ensures longer { IsLonger places.old.items places.new.items }
+    ensures listed { result ≡ true → NoneMeetsInRow cells.now.positions.items cells.now.present.items grid.now (unlisted (Q.test query.now) places.new.items) row low high }
+{
+    'columns: for column in low..high {
+        let list = list_of(column, row, grid.mask);
+        if !note_list(cells, grid, list, within, query, places) {
+            return false;
+        }
+    }
+    true
+}
+
+/// The same of all places, where those that meet the test lie in this box.
+fn note_within<Q: Query>(
+    cells: &CellLists,
+    grid: &Grid,
+    within: &Extent,
+    query: &Q,
+    places: &mut Vec<usize>,
+) -> bool
+    requires present { length cells.now.present.items ≡ length cells.now.positions.items }
+    requires grid { IsGrid cells.now.positions.items grid.now }
+    requires reach { Reaches within.now (Q.test query.now) }
+    ensures { result ≡ true → NoneMeets cells.now.positions.items cells.now.present.items (unlisted (Q.test query.now) places.new.items) }
+{
+    let range = cells_of(grid, within);
+    'rows: for row in range.low_row..range.high_row {
+        if !note_row(
+            cells, grid, row, range.low, range.high, within, query, places,
+        ) {
+            return false;
+        }
+    }
+    true
 }
 
 /// How many places a list has, or more than so many.
@@ -133,13 +264,11 @@ fn count_in_row(
 fn are_few_within(positions: &[Position], grid: &Grid, within: &Extent, most: usize) -> bool
     requires { IsGrid positions.now grid.now }
 {
-    let low = cell_along(within.low_x, grid.bits);
-    let high = cell_along(within.high_x, grid.bits) + 1;
-    let low_row = cell_along(within.low_y, grid.bits);
-    let high_row = cell_along(within.high_y, grid.bits) + 1;
+    let range = cells_of(grid, within);
     let mut count = 0usize;
-    'rows: for row in low_row..high_row {
-        count = count.saturating_add(count_in_row(positions, grid, row, low, high, most));
+    'rows: for row in range.low_row..range.high_row {
+        let more = count_in_row(positions, grid, row, range.low, range.high, most);
+        count = count.saturating_add(more);
         if count > most {
             return false;
         }
@@ -147,21 +276,14 @@ fn are_few_within(positions: &[Position], grid: &Grid, within: &Extent, most: us
     true
 }
 
-/// How many cells a box meets, or more than memory has numbers for.
-fn count_cells(grid: &Grid, within: &Extent) -> u64
-    requires { grid.now.bits < 64 }
+/// There is such a place, and it is left and meets the test.
+fn is_met_in<Q: Query>(cells: &CellLists, place: usize, within: &Extent, query: &Q) -> bool
+    requires present { length cells.now.present.items ≡ length cells.now.positions.items }
+    requires reach { Reaches within.now (Q.test query.now) }
+    ensures { result ≡ false → place < length cells.now.positions.items → is_left_at cells.now.present.items place ≡ true → Q.test query.now place (point_at cells.now.positions.items place) ≡ false }
 {
-    let columns = cell_along(within.high_x, grid.bits).saturating_sub(cell_along(
-        within.low_x,
-        grid.bits,
-    ));
-    let rows = cell_along(within.high_y, grid.bits).saturating_sub(cell_along(
-        within.low_y,
-        grid.bits,
-    ));
-    columns
-        .saturating_add(1)
-        .saturating_mul(rows.saturating_add(1))
+    place < cells.positions.len()
+        && is_met_at(&cells.positions, &cells.present, place, within, query)
 }
 
 impl CellLists {
@@ -170,7 +292,7 @@ impl CellLists {
         requires { AreCells self.now }
         ensures { IsGrid self.now.positions.items result.now }
     {
-        if count_cells(&self.fine, within) > FEW_CELLS {
+        if count_cells(&cells_of(&self.fine, within)) > FEW_CELLS {
             &self.coarse
         } else {
             &self.fine
@@ -187,12 +309,35 @@ impl CellLists {
         find_within(self, self.grid_for(&within), &within, query)
     }
 
+    /// Lists the places that are left and meet the test. The answer is no where the list has no room for them.
+    pub fn note<Q: Query>(&self, query: &Q, places: &mut Vec<usize>) -> bool
+        requires { AreCells self.now }
+        ensures { result ≡ true → NoneMeets self.now.positions.items self.now.present.items (unlisted (Q.test query.now) places.new.items) }
+    {
+        let within = query.reach();
+        note_within(self, self.grid_for(&within), &within, query, places)
+    }
+
+    /// One of these places is left and meets the test, unless the answer is no.
+    pub fn has_met<Q: Query>(&self, places: &[usize], query: &Q) -> bool
+        requires { AreCells self.now }
+        ensures { result ≡ false → NoneMeetsOf self.now.positions.items self.now.present.items (Q.test query.now) places.now }
+    {
+        let within = query.reach();
+        'places: for k in 0..places.len() {
+            if is_met_in(self, places[k], &within, query) {
+                return true;
+            }
+        }
+        false
+    }
+
     /// A box is looked through in no more than so many cells, whose lists have no more than so many places.
     pub fn is_quick(&self, within: &Extent, most: usize) -> bool
         requires { AreCells self.now }
     {
         let grid = self.grid_for(within);
-        let cells = count_cells(grid, within);
+        let cells = count_cells(&cells_of(grid, within));
         cells.saturating_mul(grid.longest) <= most as u64
             || cells <= most as u64 && are_few_within(&self.positions, grid, within, most)
     }

@@ -1,7 +1,7 @@
 // Boxes.
 ghost use Rattle.std.specs.Prelude.{◌≡◌, ℤ, ◌≤ℤ◌, true};
 ghost use Rattle.geometry.specs.Points.{Point};
-ghost use Rattle.guarded_reduction.specs.Extents.{HoldsPoint, LiesIn};
+ghost use Rattle.guarded_reduction.specs.Extents.{HoldsPoint, LiesIn, is_within};
 
 use geometry::Position;
 
@@ -38,6 +38,14 @@ pub fn around(p: Position) -> Extent
         high_x: x,
         high_y: y,
     }
+}
+
+/// The box holds the position.
+#[tactic(auto, unfolding(crate::specs::Extents::is_within))]
+pub fn holds(e: &Extent, p: Position) -> bool
+    ensures { result ≡ is_within e.now p }
+{
+    e.low_x <= p.x() && (p.x() <= e.high_x && (e.low_y <= p.y() && p.y() <= e.high_y))
 }
 
 /// The box holds this position alone, if the answer is yes.

@@ -12,7 +12,8 @@
 //! to another (`src/kept_rings.rt`). Each look is a search of the index and a step of the queue; how many there are, and how many cells or boxes each goes
 //! through, is not promised. Where no crossing may be made and no ring has to stay, each arc is reduced by itself, as long as no corner of it that goes
 //! meets another arc, and those together of which one does (`src/parts.rt`): `WholeArcs` has the cells of all places, of which none goes, for that.
-//! Of a short one all corners are looked at for each that goes, without an index or a queue (`src/short_arc.rt`).
+//! Of a short one all corners are looked at for each that goes, without an index or a queue (`src/short_arc.rt`); where many are under the threshold, the
+//! places of other arcs in its box are listed once, and each of its corners is looked at beside these alone.
 //! `crossings_with` counts pairs of segments that meet badly, and gives the first of them. Up to eight segments of an arc, one after another, stay
 //! together, and these stretches are halved in the same way. A stretch, or a few short ones in that order, is a unit (`src/unit.rt`). Each unit has a
 //! box round it, and so do four units, four of these, and so on; and where all segments of such a block have one end, as those of a star, the others

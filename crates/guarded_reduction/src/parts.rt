@@ -13,6 +13,7 @@ use crate::reducing::reduce_beside;
 use crate::short_arc::reduced_short;
 use crate::surroundings::OtherArcs;
 use crate::whole_arcs::WholeArcs;
+use effective_area::cross;
 use geometry::Position;
 use owned_values::{Items, Memory};
 use std::alloc::Global;
@@ -24,6 +25,49 @@ const MOST_BOXES: usize = 32;
 /// An arc is short that has so many positions at most.
 const MOST_SHORT: usize = 64;
 
+/// So many places that lie near a short arc are listed at most.
+const MOST_NEAR: usize = 32;
+
+/// So many cells and places for each position of a short arc are gone through at most, to list what lies near it.
+const MOST_LOOKS: usize = 64;
+
+/// Of the corners of an arc one of so many is under the threshold, or more. So many looks beside it cost about what a list of what lies near it does.
+const FEW_UNDER: usize = 4;
+
+/// Many corners of an arc are under the threshold.
+fn are_many_under(arc: &[Position], threshold: u128) -> bool {
+    let mut count = 0usize;
+    for k in 2..arc.len() {
+        if cross(arc[k - 2], arc[k - 1], arc[k]).unsigned_abs() < threshold {
+            count = count.saturating_add(FEW_UNDER);
+        }
+    }
+    count > arc.len()
+}
+
+/// Of one short arc the numbers of the positions that stay, where no corner that goes meets an arc that isn't marked.
+fn short_alone(
+    alloc: Global,
+    whole: &WholeArcs<'_>,
+    inside: &[bool],
+    arc: &[Position],
+    threshold: u128,
+    near: &mut Vec<usize>,
+) -> Result<Option<Vec<usize>>, Memory>
+    requires marks { length inside.now ≡ length whole.now }
+    ensures apart { IfOk result (λ found. IfSome found (λ _. StaysApart (unmarked inside.now whole.now) threshold (length (joined (arc.now ∷ []))) (map (numbered 0) (arc.now ∷ [])))) }
+    ensures kept { IfOk result (λ found. IfSome found (λ kept. kept.items ∷ [] ≡ reduce_arcs (guarded_by true []) threshold (arc.now ∷ []))) }
+{
+    let within = box_of(arc);
+    let most = arc.len().saturating_mul(MOST_LOOKS);
+    if are_many_under(arc, threshold) && whole.list_near(inside, &within, most, near) {
+        let beside = OtherArcs::listed(whole, inside, within, near.as_slice());
+        return reduced_short(alloc, arc, threshold, &beside);
+    }
+    let beside = OtherArcs::of(whole, inside);
+    reduced_short(alloc, arc, threshold, &beside)
+}
+
 /// Of one arc the numbers of the positions that stay, where no corner that goes meets an arc that isn't marked.
 fn reduced_alone(
     alloc: Global,
@@ -31,17 +75,18 @@ fn reduced_alone(
     inside: &[bool],
     arc: &[Items<Position>],
     threshold: u128,
+    near: &mut Vec<usize>,
 ) -> Result<Option<Vec<usize>>, Memory>
     requires marks { length inside.now ≡ length whole.now }
     requires one { length arc.now ≡ 1 }
     ensures apart { IfOk result (λ found. IfSome found (λ _. StaysApart (unmarked inside.now whole.now) threshold (length (joined arc.now)) (map (numbered 0) arc.now))) }
     ensures kept { IfOk result (λ found. IfSome found (λ kept. kept.items ∷ [] ≡ reduce_arcs (guarded_by true []) threshold arc.now)) }
 {
-    let beside = OtherArcs::of(whole, inside);
     let positions = arc[0].as_slice();
     if positions.len() <= MOST_SHORT {
-        return reduced_short(alloc, positions, threshold, &beside);
+        return short_alone(alloc, whole, inside, positions, threshold, near);
     }
+    let beside = OtherArcs::of(whole, inside);
     let Some(mut kept) = reduce_beside(alloc, arc, true, &[], threshold, &beside)? else {
         return Ok(None);
     };
@@ -62,11 +107,12 @@ fn each_alone(
     ensures alone { IfOk result (λ all. AreAlone threshold arcs.now marks.new (length arcs.now) (map (λ v. v.items) all.items)) }
 {
     let mut inside = vec![in alloc; false; arcs.len()]?;
+    let mut near = Vec::with_capacity(alloc, MOST_NEAR)?;
     let mut all = Vec::with_capacity(alloc, arcs.len())?;
     'arcs: for k in 0..arcs.len() {
         let arc = slice::from_ref(&arcs[k]);
         inside[k] = true;
-        let found = reduced_alone(alloc, whole, inside.as_slice(), arc, threshold)?;
+        let found = reduced_alone(alloc, whole, inside.as_slice(), arc, threshold, &mut near)?;
         inside[k] = false;
         match found {
             Some(kept) => all.push(kept)?,

@@ -3,7 +3,9 @@ ghost use Rattle.std.specs.Prelude.{◌≡◌, Bool, List, [], false, length, tr
 ghost use Rattle.geometry.specs.Points.{Point};
 ghost use Rattle.guarded_meaning.specs.Arcs.{ArcCorner};
 ghost use Rattle.guarded_meaning.specs.Parts.{IsClearOf, unmarked};
+ghost use Rattle.guarded_reduction.specs.Beside.{AreNear};
 
+use crate::extent::{Extent, empty_extent};
 use crate::query::Corner;
 use crate::whole_arcs::WholeArcs;
 use std::marker::Model;
@@ -41,23 +43,26 @@ impl Surroundings for Nothing {
     }
 }
 
-/// Those of all arcs that aren't marked lie beside the others.
+/// Those of all arcs that aren't marked lie beside the others. Their places in a box are listed.
 #[derive(Drop)]
 pub struct OtherArcs<'a> {
     whole: &'a WholeArcs<'a>,
     inside: &'a [bool],
+    within: Extent,
+    near: &'a [usize],
 }
 
 impl<'a> Model for OtherArcs<'a> {
     ghost use Rattle.std.specs.Prelude.{◌≡◌, List, length};
     ghost use Rattle.geometry.specs.Points.{Point};
     ghost use Rattle.guarded_meaning.specs.Parts.{unmarked};
+    ghost use Rattle.guarded_reduction.specs.Beside.{AreNear};
 
     ghost Value = { List (List Point) };
 
     ghost view = { λ o. unmarked o.inside.now o.whole.now };
 
-    ghost invariant = { λ o. length o.inside.now ≡ length o.whole.now };
+    ghost invariant = { λ o. (length o.inside.now ≡ length o.whole.now) × AreNear o.inside.now o.whole.now o.within o.near.now };
 }
 
 impl<'a> OtherArcs<'a> {
@@ -66,7 +71,31 @@ impl<'a> OtherArcs<'a> {
         requires { length inside.now ≡ length whole.now }
         ensures { result ≡ unmarked inside.now whole.now }
     {
-        OtherArcs { whole, inside }
+        OtherArcs {
+            whole,
+            inside,
+            within: empty_extent(),
+            near: &[],
+        }
+    }
+
+    /// The same, with their places in a box.
+    pub fn listed(
+        whole: &'a WholeArcs<'a>,
+        inside: &'a [bool],
+        within: Extent,
+        near: &'a [usize],
+    ) -> OtherArcs<'a>
+        requires marks { length inside.now ≡ length whole.now }
+        requires near { AreNear inside.now whole.now within near.now }
+        ensures { result ≡ unmarked inside.now whole.now }
+    {
+        OtherArcs {
+            whole,
+            inside,
+            within,
+            near,
+        }
     }
 }
 
@@ -79,7 +108,12 @@ impl<'a> Surroundings for OtherArcs<'a> {
         if stretch > LONGEST_STRETCH {
             return false;
         }
-        self.whole
-            .is_clear_of(self.inside, corner, stretch.saturating_add(MOST))
+        self.whole.is_clear_of(
+            self.inside,
+            corner,
+            &self.within,
+            self.near,
+            stretch.saturating_add(MOST),
+        )
     }
 }

@@ -1,10 +1,15 @@
 // All arcs, whole.
 ghost use Rattle.std.specs.Prelude.{◌≡◌, IfOk, length, true};
+ghost use Rattle.geometry.specs.Points.{Point};
 ghost use Rattle.guarded_meaning.specs.Arcs.{ArcCorner};
 ghost use Rattle.guarded_meaning.specs.Parts.{IsClearOf, unmarked};
+ghost use Rattle.guarded_meaning.specs.Triangles.{in_triangle};
+ghost use Rattle.guarded_reduction.specs.Beside.{AreNear};
+ghost use Rattle.guarded_reduction.specs.Extents.{HoldsPoint};
 
-use crate::beside::Beside;
+use crate::beside::{Beside, Near};
 use crate::cell_index::CellIndex;
+use crate::extent::{Extent, holds};
 use crate::flattening::{all_positions, partners_of};
 use crate::query::{Corner, reach_of};
 use crate::ring_moves::owners_of;
@@ -12,6 +17,13 @@ use geometry::Position;
 use owned_values::{Items, Memory};
 use std::alloc::Global;
 use std::marker::Model;
+
+/// The box holds the corner's triangle.
+fn is_inside(corner: &Corner, within: &Extent) -> bool
+    ensures { result ≡ true → (q : Point) → in_triangle corner.now.before corner.now.at corner.now.after q ≡ true → HoldsPoint within.now q }
+{
+    holds(within, corner.at) && (holds(within, corner.before) && holds(within, corner.after))
+}
 
 /// All arcs, whole: the cells of the positions of all of them, the number of each place's arc, and for each place that is an end of its arc the place
 /// of the other end. It is asked whether a corner, of an arc of which some positions may be gone, keeps clear of arcs that aren't its own.
@@ -52,16 +64,45 @@ impl<'a> WholeArcs<'a> {
         })
     }
 
+    /// Lists the places in a box of the arcs that aren't marked, if the answer is yes. It is no where the list has no room for them, or more than so many
+    /// cells or places are to be gone through to find them.
+    pub fn list_near(
+        &self,
+        inside: &[bool],
+        within: &Extent,
+        most: usize,
+        near: &mut Vec<usize>,
+    ) -> bool
+        ensures { result ≡ true → AreNear inside.now self.now within.now near.new.items }
+    {
+        near.clear();
+        if !self.index.is_quick(within, most) {
+            return false;
+        }
+        let query = Near {
+            within: *within,
+            marks: inside,
+            owners: self.owners.as_slice(),
+        };
+        self.index.note(&query, near)
+    }
+
     /// A corner keeps clear of the arcs that aren't marked, if the answer is yes: none of their positions is in its triangle, but at those before and
-    /// after it, and none of these arcs has both. It is no where more than so many cells or places are to be gone through to see it.
-    pub fn is_clear_of(&self, inside: &[bool], corner: &Corner, most: usize) -> bool
-        requires { length inside.now ≡ length self.now }
+    /// after it, and none of these arcs has both. The places of these arcs in a box are listed. For a corner that isn't in that box it is no where more
+    /// than so many cells or places are to be gone through to see it.
+    pub fn is_clear_of(
+        &self,
+        inside: &[bool],
+        corner: &Corner,
+        within: &Extent,
+        near: &[usize],
+        most: usize,
+    ) -> bool
+        requires marks { length inside.now ≡ length self.now }
+        requires near { AreNear inside.now self.now within.now near.now }
         ensures { result ≡ true → (c : ArcCorner) → c.before ≡ corner.now.before → c.corner.point ≡ corner.now.at → c.after ≡ corner.now.after
             → IsClearOf (unmarked inside.now self.now) c }
     {
-        if !self.index.is_quick(&reach_of(corner), most) {
-            return false;
-        }
         let beside = Beside {
             corner: *corner,
             marks: inside,
@@ -69,6 +110,12 @@ impl<'a> WholeArcs<'a> {
             partners: self.partners.as_slice(),
             positions: self.index.positions(),
         };
+        if is_inside(corner, within) {
+            return !self.index.has_met(near, &beside);
+        }
+        if !self.index.is_quick(&reach_of(corner), most) {
+            return false;
+        }
         self.index.find(&beside).is_none()
     }
 }

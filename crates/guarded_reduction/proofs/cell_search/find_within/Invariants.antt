@@ -3,4 +3,4 @@ use Rattle.guarded_reduction.proofs.cell_search.find_within.Given as goal
 
 -- none in the rows so far
 abbrev pub invariant-rows : goal.invariant-rows
-invariant-rows g l = NoneMeetsInRows l.cells.positions.items l.cells.present.items l.grid (g.Q.Query.test l.query) l.low l.high l.low_row l.row
+invariant-rows g l = NoneMeetsInRows l.cells.positions.items l.cells.present.items l.grid (g.Q.Query.test l.query) l.range.low l.range.high l.range.low_row l.row

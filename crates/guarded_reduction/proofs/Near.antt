@@ -86,7 +86,7 @@ within_says e p h =
     says : (x y : ℤ) → int_le x y ≡ true → (x ≤ℤ y)
     says x y k = omega (arith, ints, k)
 
-within_from : (e : Extent) (p : Point) → HoldsPoint e p → is_within e p ≡ true
+pub within_from : (e : Extent) (p : Point) → HoldsPoint e p → is_within e p ≡ true
 unfolding is_within
 within_from e p h = and_from _ _ (le_passes e.low_x p.x h.low_x) (and_from _ _ (le_passes p.x e.high_x h.high_x) (and_from _ _ (le_passes e.low_y p.y h.low_y) (le_passes p.y e.high_y h.high_y)))
 

@@ -1,12 +1,14 @@
 -- An arc that is reduced by itself, of which some indexes are left.
-use Rattle.std.proofs.Common.{◌≡◌, ℕ, zero, suc, ◌+◌, ◌<◌, ◌≤◌, ◌==◌, Bool, true, false, not, ◌&&◌, ◌||◌, nat_lt, List, [], ◌∷◌, All, length, map, drop, get_or, eqb, Option, Some, None, refl, ap, sym, ◌∙◌, subst, ◌⊎◌, inl, inr, arith, add-one, drop-cons, length-drop}
+use Rattle.std.proofs.Common.{◌≡◌, ℕ, suc, ◌+◌, ◌<◌, ◌≤◌, ◌==◌, Bool, true, false, not, ◌&&◌, ◌||◌, nat_lt, List, [], ◌∷◌, All, length, map, drop, get_or, eqb, Option, Some, None, refl, ap, sym, ◌∙◌, subst, ◌⊎◌, inl, inr, arith, add-one, drop-cons, length-drop}
 use Rattle.std.specs.Option.{IfNone, IfSome, is_some}
 use Rattle.std.specs.List.{AllByRecursion, filter, list_all, range_with_len}
-use Rattle.std.proofs.lemmas.Bool.{and_parts, and_from, both_ways, false_from_ne_true}
+use Rattle.std.proofs.lemmas.Bool.{and_parts, and_from, both_ways, cases_lt, false_from_ne_true, not_from_false, or_cases, or_right}
+use Rattle.std.proofs.lemmas.List.{drop_all}
 use Rattle.std.proofs.lemmas.List.Elements.{All-filter}
 use Rattle.geometry.specs.Lists.{In, joined}
 use Rattle.geometry.specs.Points.{Point}
 use Rattle.geometry.specs.Rings.{same}
+use Rattle.geometry.proofs.Points.{same_is}
 use Rattle.elimination_meaning.specs.Elimination.{Vertex, numbered}
 use Rattle.effective_area.specs.Vertices.{vertex_at, vertices}
 use Rattle.effective_area.proofs.Scan.{all_inside, all_vertices, indexes_of, without_vertices}
@@ -15,28 +17,23 @@ use Rattle.guarded_meaning.specs.Elimination.{eliminate_arcs, goes, goes_before,
 use Rattle.guarded_meaning.specs.Guards.{guarded_by, has_empty_triangle, has_open_base, is_free, keeps_rings}
 use Rattle.guarded_meaning.specs.Parts.{GoesFirst, IsClearOf, StaysApart}
 use Rattle.guarded_meaning.specs.Segments.{segment, same_ends}
-use Rattle.guarded_meaning.specs.Triangles.{is_clear}
+use Rattle.guarded_meaning.specs.Triangles.{in_triangle, is_clear}
+use Rattle.guarded_meaning.proofs.Ends.{holds_after, holds_before}
 use Rattle.guarded_meaning.proofs.First.{next_law, no_next_law}
 use Rattle.guarded_meaning.proofs.OneFirst.{first_is_one}
 use Rattle.guarded_meaning.proofs.Order.{goes_order}
 use Rattle.guarded_meaning.proofs.Removal.{all_numbered_own, own_indexes_left}
+use Rattle.guarded_reduction.specs.declared.extent.Extent.{Extent}
 use Rattle.guarded_reduction.specs.declared.short_arc.Candidate.{Candidate}
+use Rattle.guarded_reduction.specs.Extents.{HoldsPoint}
 use Rattle.guarded_reduction.specs.Short.{IsBest, IsNotBefore, corner_of, corner_of_left, goes_ahead, is_sooner, only_arc, opens}
 use Rattle.guarded_reduction.specs.Tests.{is_held_by}
 use Rattle.guarded_reduction.proofs.Next.{all_steps, no_step, not_before_less, one_step}
+use Rattle.guarded_reduction.proofs.Queries.{reaches}
 use Rattle.guarded_reduction.proofs.Parting.{GoesOnApart, KeepsClear, all_apart, more_apart, none_apart}
 
 from : (is : List ℕ) (k : ℕ) → k < length is → drop k is ≡ get_or is k 0 ∷ drop (k + 1) is
 from is k h = rw (add-one, drop-cons is k 0) refl
-
--- what a negated test says
-pub closes : (b r : Bool) → r ≡ not b → r ≡ true → b ≡ false
-closes false r e f = refl
-closes true r e f = absurd cc
-
-pub opened : (b r : Bool) → r ≡ not b → r ≡ false → b ≡ true
-opened true r e f = refl
-opened false r e f = absurd cc
 
 -- ---- the triangle
 
@@ -62,21 +59,6 @@ module _ (ps : List Point) (c : Candidate) where
   empty_at : (is : List ℕ) (k : ℕ) → k < length is → IsEmpty (drop k is) ≡ (not (held (get_or is k 0)) && IsEmpty (drop (k + 1) is))
   empty_at is k h = ap IsEmpty (from is k h) ∙ empty_step (get_or is k 0) (drop (k + 1) is)
 
-  pub empty_on : (is : List ℕ) (k : ℕ) (b : Bool) → k < length is → held (get_or is k 0) ≡ false → b ≡ IsEmpty (drop k is) → b ≡ IsEmpty (drop (k + 1) is)
-  empty_on is k b h e f = f ∙ empty_at is k h ∙ ap (λ x. not x && IsEmpty (drop (k + 1) is)) e
-
-  pub not_empty : (is : List ℕ) (k : ℕ) (b : Bool) → k < length is → held (get_or is k 0) ≡ true → b ≡ IsEmpty (drop k is) → false ≡ b
-  not_empty is k b h e f = sym (f ∙ empty_at is k h ∙ ap (λ x. not x && IsEmpty (drop (k + 1) is)) e)
-
-  pub empty_end : (is : List ℕ) (k : ℕ) (b : Bool) → length is ≤ k → b ≡ IsEmpty (drop k is) → true ≡ b
-  empty_end is k b h f = sym (f ∙ ap IsEmpty (drop_all is k h))
-    where
-      drop_all : (xs : List ℕ) (n : ℕ) → length xs ≤ n → drop n xs ≡ []
-      drop_all [] zero l = refl
-      drop_all [] (suc n) l = refl
-      drop_all (x ∷ xs) zero l = absurd (omega (arith, l))
-      drop_all (x ∷ xs) (suc n) l = drop_all xs n (omega (arith, l))
-
   -- ---- the base
 
   abbrev IsOpen : List ℕ → Bool
@@ -100,26 +82,77 @@ module _ (ps : List Point) (c : Candidate) where
   abbrev rest_open : List ℕ → Bool
   rest_open is = list_all (λ n. is_pair_of (corner_of c) n || not (same_ends (segment (corner_of c).before (corner_of c).after) (segment_of n))) (all_neighbours 0 (only_arc ps is))
 
-  pub open_on : (is : List ℕ) (k : ℕ) (b : Bool) → k + 1 < length is → open_at (get_or is k 0) (get_or is (k + 1) 0) ≡ true → b ≡ IsOpen (drop k is) → b ≡ IsOpen (drop (k + 1) is)
-  open_on is k b h e f =
-      f ∙ ap IsOpen (two is k h) ∙ more_open (same c.corner.before c.corner.after) (open_at (get_or is k 0) (get_or is (k + 1) 0)) (rest_open (get_or is (k + 1) 0 ∷ drop (k + 1 + 1) is)) e
-      ∙ sym (ap IsOpen (from is (k + 1) h))
-
-  pub not_open : (is : List ℕ) (k : ℕ) (b : Bool) → k + 1 < length is → same c.corner.before c.corner.after ≡ false → open_at (get_or is k 0) (get_or is (k + 1) 0) ≡ false → b ≡ IsOpen (drop k is) → false ≡ b
-  not_open is k b h d e f =
-      sym (f ∙ ap IsOpen (two is k h) ∙ less_open (same c.corner.before c.corner.after) (open_at (get_or is k 0) (get_or is (k + 1) 0)) (rest_open (get_or is (k + 1) 0 ∷ drop (k + 1 + 1) is)) d e)
-
   open_one : (a : Bool) → (a || true) ≡ true
   open_one true = refl
   open_one false = refl
 
-  pub open_end : (is : List ℕ) (k : ℕ) (b : Bool) → length is ≤ k + 1 → b ≡ IsOpen (drop k is) → true ≡ b
-  open_end is k b h f = sym (f ∙ short (drop k is) (let l = length-drop k is in omega (arith, l, h)))
+  open_end : (is : List ℕ) (k : ℕ) → length is ≤ k + 1 → IsOpen (drop k is) ≡ true
+  open_end is k h = short (drop k is) (let l = length-drop k is in omega (arith, l, h))
     where
       short : (xs : List ℕ) → length xs ≤ 1 → IsOpen xs ≡ true
       short [] l = open_one (same c.corner.before c.corner.after)
       short (x ∷ []) l = open_one (same c.corner.before c.corner.after)
       short (x ∷ (y ∷ xs)) l = absurd (omega (arith, l))
+
+  pub last_open : (is : List ℕ) (k : ℕ) → length is ≤ k + 1 → IsOpen (drop k is) ≡ IsOpen (drop (k + 1) is)
+  last_open is k h = open_end is k h ∙ sym (open_end is (k + 1) (omega (arith, h)))
+
+  pub one_open : (is js : List ℕ) → same c.corner.before c.corner.after ≡ true → IsOpen is ≡ IsOpen js
+  one_open is js e = ap (λ b. b || rest_open is) e ∙ sym (ap (λ b. b || rest_open js) e)
+
+  base_step : (s o r j : Bool) → s ≡ false → j ≡ not o → (s || (o && r)) ≡ (not j && (s || r))
+  base_step false true r j d e = rw e refl
+  base_step false false r j d e = rw e refl
+  base_step true o r j d e = absurd cc
+
+  pub open_step : (is : List ℕ) (k : ℕ) (j : Bool) → k + 1 < length is → same c.corner.before c.corner.after ≡ false → j ≡ not (open_at (get_or is k 0) (get_or is (k + 1) 0)) → IsOpen (drop k is) ≡ (not j && IsOpen (drop (k + 1) is))
+  open_step is k j h d e =
+      ap IsOpen (two is k h) ∙ base_step (same c.corner.before c.corner.after) (open_at (get_or is k 0) (get_or is (k + 1) 0)) (rest_open (get_or is (k + 1) 0 ∷ drop (k + 1 + 1) is)) j d e
+      ∙ ap (λ b. not j && b) (sym (ap IsOpen (from is (k + 1) h)))
+
+  -- a segment from outside of a box joins no positions in it
+  apart : (e : Extent) (a b : Vertex) → HoldsPoint e c.corner.before → HoldsPoint e c.corner.after → (HoldsPoint e a.point → ⊥) → opens (corner_of c) a b ≡ true
+  unfolding same_ends
+  apart e a b h k off = or_right _ _ (not_from_false _ (false_from_ne_true _ (λ s. on (or_cases _ _ s))))
+    where
+      on : ((same c.corner.before a.point && same c.corner.after b.point) ≡ true) ⊎ ((same c.corner.before b.point && same c.corner.after a.point) ≡ true) → ⊥
+      on (inl s) = off (subst (HoldsPoint e) (same_is c.corner.before a.point (and_parts _ _ s).0) h)
+      on (inr s) = off (subst (HoldsPoint e) (same_is c.corner.after a.point (and_parts _ _ s).1) k)
+
+  open_outside : (e : Extent) (is : List ℕ) (k : ℕ) → HoldsPoint e c.corner.before → HoldsPoint e c.corner.after → (HoldsPoint e (vertex_at ps (get_or is k 0)).point → ⊥) → IsOpen (drop k is) ≡ IsOpen (drop (k + 1) is)
+  open_outside e is k h l off = on (cases_lt (k + 1) (length is))
+    where
+      on : (k + 1 < length is) ⊎ (length is ≤ k + 1) → IsOpen (drop k is) ≡ IsOpen (drop (k + 1) is)
+      on (inl w) = ap IsOpen (two is k w)
+          ∙ more_open (same c.corner.before c.corner.after) (open_at (get_or is k 0) (get_or is (k + 1) 0)) (rest_open (get_or is (k + 1) 0 ∷ drop (k + 1 + 1) is)) (apart e (vertex_at ps (get_or is k 0)) (vertex_at ps (get_or is (k + 1) 0)) h l off)
+          ∙ sym (ap IsOpen (from is (k + 1) w))
+      on (inr w) = last_open is k w
+
+  -- ---- both
+
+  abbrev pub IsFreeAfter : List ℕ → ℕ → Bool
+  IsFreeAfter is k = is_free (only_arc ps (drop k is)) (corner_of c)
+
+  both : (h j e o : Bool) → ((not h && e) && (not j && o)) ≡ (not (h || j) && (e && o))
+  both true j e o = refl
+  both false true true o = refl
+  both false true false o = refl
+  both false false e o = refl
+
+  pub free_step : (is : List ℕ) (k : ℕ) (h j r : Bool) → k < length is → h ≡ held (get_or is k 0) → IsOpen (drop k is) ≡ (not j && IsOpen (drop (k + 1) is)) → r ≡ (h || j) → IsFreeAfter is k ≡ (not r && IsFreeAfter is (k + 1))
+  unfolding is_free
+  free_step is k h j r w d f e =
+      ap (λ b. b && IsOpen (drop k is)) (empty_at is k w ∙ ap (λ b. not b && IsEmpty (drop (k + 1) is)) (sym d)) ∙ ap (λ b. (not h && IsEmpty (drop (k + 1) is)) && b) f
+      ∙ both h j (IsEmpty (drop (k + 1) is)) (IsOpen (drop (k + 1) is)) ∙ ap (λ b. not b && (IsEmpty (drop (k + 1) is) && IsOpen (drop (k + 1) is))) (sym e)
+
+  pub free_outside : (e : Extent) (is : List ℕ) (k : ℕ) → k < length is → ((q : Point) → in_triangle c.corner.before c.corner.at c.corner.after q ≡ true → HoldsPoint e q) → (HoldsPoint e (vertex_at ps (get_or is k 0)).point → ⊥) →
+      IsFreeAfter is k ≡ IsFreeAfter is (k + 1)
+  free_outside e is k w n off = free_step is k false false false w (sym (false_from_ne_true (held (get_or is k 0)) (λ h. off ((reaches e c.corner n).holds (get_or is k 0) (vertex_at ps (get_or is k 0)).point h))))
+      (open_outside e is k (n c.corner.before (holds_before c.corner.before c.corner.at c.corner.after)) (n c.corner.after (holds_after c.corner.before c.corner.at c.corner.after)) off) refl
+
+  pub free_end : (is : List ℕ) (k : ℕ) → length is ≤ k → IsFreeAfter is k ≡ true
+  unfolding is_free
+  free_end is k h = ap (λ js. IsEmpty js && IsOpen (drop k is)) (drop_all k is h) ∙ open_end is k (omega (arith, h))
 
 -- ---- the first corner
 

@@ -1,22 +1,23 @@
 // A short arc that is reduced by itself, straight from the definition.
-ghost use Rattle.std.specs.Prelude.{◌≡◌, ◌&&◌, ◌+◌, [], ◌∷◌, ◌==◌, ◌<◌, All, IfOk, false, length, map, nat_lt, not, true};
+ghost use Rattle.std.specs.Prelude.{◌≡◌, ◌&&◌, ◌+◌, [], ◌∷◌, ◌==◌, ◌<◌, All, IfOk, drop, false, length, map, nat_lt, not, true};
 ghost use Rattle.std.specs.List.{filter, range_with_len};
 ghost use Rattle.std.specs.Option.{IfNone, IfSome};
 ghost use Rattle.elimination_meaning.specs.Elimination.{numbered};
 ghost use Rattle.effective_area.specs.Vertices.{vertex_at, vertices};
 ghost use Rattle.geometry.specs.Lists.{joined};
+ghost use Rattle.geometry.specs.Points.{Point};
 ghost use Rattle.guarded_meaning.specs.Arcs.{arc_corner_at};
 ghost use Rattle.guarded_meaning.specs.Elimination as meaning;
 ghost use Rattle.guarded_meaning.specs.Elimination.{reduce_arcs};
 ghost use Rattle.guarded_meaning.specs.Guards as guards;
 ghost use Rattle.guarded_meaning.specs.Guards.{guarded_by};
 ghost use Rattle.guarded_meaning.specs.Parts.{StaysApart};
-ghost use Rattle.guarded_reduction.specs.Tests as spec;
-ghost use Rattle.guarded_reduction.specs.Tests.{Reaches};
+ghost use Rattle.guarded_meaning.specs.Triangles.{in_triangle};
+ghost use Rattle.guarded_reduction.specs.Extents.{HoldsPoint};
 ghost use Rattle.guarded_reduction.specs.Noted.{AreNoted, area_between};
 ghost use Rattle.guarded_reduction.specs.Short.{IsBest, corner_of, corner_of_left, goes_ahead, is_sooner, only_arc, opens};
 
-use crate::extent::{Extent, around, meets};
+use crate::extent::{Extent, holds};
 use crate::meeting::same_ends;
 use crate::noted_areas::{Noted, first_notes, noted_area};
 use crate::query::{Corner, is_held_by, reach_of};
@@ -104,30 +105,6 @@ fn is_ahead(best: &Option<Candidate>, candidate: &Candidate) -> bool
     }
 }
 
-/// An index at this position holds the corner, round which there is this box.
-fn is_in_triangle(candidate: &Candidate, reach: Extent, index: usize, at: Position) -> bool
-    requires { Reaches reach (spec.is_held_by candidate.now.corner) }
-    ensures { result ≡ spec.is_held_by candidate.now.corner index at }
-{
-    meets(around(at), reach) && is_held_by(&candidate.corner, index, at)
-}
-
-/// Nothing of what is left is in the corner's triangle, but at the positions before and after it.
-fn has_empty_triangle(arc: &[Position], left: &[usize], candidate: &Candidate) -> bool
-    requires { All (λ i. i < length arc.now) left.now }
-    ensures { result ≡ guards.has_empty_triangle (only_arc arc.now left.now) (corner_of candidate.now) }
-{
-    let reach = reach_of(&candidate.corner);
-    'left: for k in 0..left.len() {
-        let index = left[k];
-        let at = position_at(arc, index);
-        if is_in_triangle(candidate, reach, index, at) {
-            return false;
-        }
-    }
-    true
-}
-
 /// The segment between two indexes, of which none is the corner's own, joins the positions before and after it.
 fn joins(arc: &[Position], from: usize, to: usize, candidate: &Candidate) -> bool
     requires from { from < length arc.now }
@@ -149,29 +126,51 @@ fn joins(arc: &[Position], from: usize, to: usize, candidate: &Candidate) -> boo
         )
 }
 
-/// The positions before and after the corner are one, or nothing of what is left joins them.
-fn has_open_base(arc: &[Position], left: &[usize], candidate: &Candidate) -> bool
-    requires { All (λ i. i < length arc.now) left.now }
-    ensures { result ≡ guards.has_open_base (only_arc arc.now left.now) (corner_of candidate.now) }
+/// The positions before and after the corner are two, and the segment from the index after the first k of what is left joins them.
+fn joins_next(arc: &[Position], left: &[usize], candidate: &Candidate, k: usize) -> bool
+    requires inside { All (λ i. i < length arc.now) left.now }
+    requires within { k < length left.now }
+    ensures { guards.has_open_base (only_arc arc.now (drop k left.now)) (corner_of candidate.now) ≡ (not result && guards.has_open_base (only_arc arc.now (drop (k + 1) left.now)) (corner_of candidate.now)) }
 {
+    if left.len() - k <= 1 {
+        return false;
+    }
     if is_same(candidate.corner.before, candidate.corner.after) {
-        return true;
+        return false;
     }
-    'pairs: for k in 0..left.len().saturating_sub(1) {
-        if joins(arc, left[k], left[k + 1], candidate) {
-            return false;
-        }
+    joins(arc, left[k], left[k + 1], candidate)
+}
+
+/// The index after the first k of what is left is in the corner's triangle, round which there is this box, or the segment from it joins the positions
+/// before and after it. Most indexes are outside of the box.
+fn blocks(arc: &[Position], left: &[usize], candidate: &Candidate, reach: &Extent, k: usize) -> bool
+    requires inside { All (λ i. i < length arc.now) left.now }
+    requires within { k < length left.now }
+    requires reach { (q : Point) → in_triangle candidate.now.corner.before candidate.now.corner.at candidate.now.corner.after q ≡ true → HoldsPoint reach.now q }
+    ensures { guards.is_free (only_arc arc.now (drop k left.now)) (corner_of candidate.now) ≡ (not result && guards.is_free (only_arc arc.now (drop (k + 1) left.now)) (corner_of candidate.now)) }
+{
+    let index = left[k];
+    let at = position_at(arc, index);
+    if !holds(reach, at) {
+        return false;
     }
-    true
+    let is_held = is_held_by(&candidate.corner, index, at);
+    let is_joined = joins_next(arc, left, candidate, k);
+    is_held || is_joined
 }
 
 /// The corner can go without a crossing.
-#[tactic(auto, unfolding(guarded_meaning::specs::Guards::is_free))]
 fn is_free(arc: &[Position], left: &[usize], candidate: &Candidate) -> bool
     requires { All (λ i. i < length arc.now) left.now }
     ensures { result ≡ guards.is_free (only_arc arc.now left.now) (corner_of candidate.now) }
 {
-    has_empty_triangle(arc, left, candidate) && has_open_base(arc, left, candidate)
+    let reach = reach_of(&candidate.corner);
+    'left: for k in 0..left.len() {
+        if blocks(arc, left, candidate, &reach, k) {
+            return false;
+        }
+    }
+    true
 }
 
 /// The corner goes, as far as crossings are looked for, and the one that was found before doesn't go before it.

@@ -31,18 +31,23 @@ const MOST_NEAR: usize = 32;
 /// So many cells and places for each position of a short arc are gone through at most, to list what lies near it.
 const MOST_LOOKS: usize = 64;
 
-/// Of the corners of an arc one of so many is under the threshold, or more. So many looks beside it cost about what a list of what lies near it does.
+/// One of so many corners of a short arc is looked at, to see whether it pays to list what lies near the arc.
+const SAMPLE: usize = 4;
+
+/// It pays where one of so many of them is under the threshold, or more.
 const FEW_UNDER: usize = 4;
 
-/// Many corners of an arc are under the threshold.
+/// Many corners of an arc are under the threshold, as far as they are looked at.
 fn are_many_under(arc: &[Position], threshold: u128) -> bool {
+    let looks = arc.len() / SAMPLE;
     let mut count = 0usize;
-    for k in 2..arc.len() {
-        if cross(arc[k - 2], arc[k - 1], arc[k]).unsigned_abs() < threshold {
+    for i in 0..looks {
+        let k = SAMPLE * i;
+        if cross(arc[k], arc[k + 1], arc[k + 2]).unsigned_abs() < threshold {
             count = count.saturating_add(FEW_UNDER);
         }
     }
-    count > arc.len()
+    count > looks
 }
 
 /// Of one short arc the numbers of the positions that stay, where no corner that goes meets an arc that isn't marked.
@@ -58,11 +63,13 @@ fn short_alone(
     ensures apart { IfOk result (λ found. IfSome found (λ _. StaysApart (unmarked inside.now whole.now) threshold (length (joined (arc.now ∷ []))) (map (numbered 0) (arc.now ∷ [])))) }
     ensures kept { IfOk result (λ found. IfSome found (λ kept. kept.items ∷ [] ≡ reduce_arcs (guarded_by true []) threshold (arc.now ∷ []))) }
 {
-    let within = box_of(arc);
-    let most = arc.len().saturating_mul(MOST_LOOKS);
-    if are_many_under(arc, threshold) && whole.list_near(inside, &within, most, near) {
-        let beside = OtherArcs::listed(whole, inside, within, near.as_slice());
-        return reduced_short(alloc, arc, threshold, &beside);
+    if are_many_under(arc, threshold) {
+        let within = box_of(arc);
+        let most = arc.len().saturating_mul(MOST_LOOKS);
+        if whole.list_near(inside, &within, most, near) {
+            let beside = OtherArcs::listed(whole, inside, within, near.as_slice());
+            return reduced_short(alloc, arc, threshold, &beside);
+        }
     }
     let beside = OtherArcs::of(whole, inside);
     reduced_short(alloc, arc, threshold, &beside)

@@ -1,6 +1,6 @@
 // A short arc that is reduced by itself, straight from the definition.
 ghost use Rattle.std.specs.Prelude.{◌≡◌, ◌&&◌, ◌+◌, [], ◌∷◌, ◌==◌, ◌<◌, All, IfOk, drop, false, length, map, nat_lt, not, true};
-ghost use Rattle.std.specs.List.{filter, range_with_len};
+ghost use Rattle.std.specs.List.{filter};
 ghost use Rattle.std.specs.Option.{IfNone, IfSome};
 ghost use Rattle.elimination_meaning.specs.Elimination.{numbered};
 ghost use Rattle.effective_area.specs.Vertices.{vertex_at, vertices};
@@ -22,6 +22,7 @@ use crate::meeting::same_ends;
 use crate::noted_areas::{Noted, first_notes, noted_area};
 use crate::query::{Corner, is_held_by, reach_of};
 use crate::surroundings::Surroundings;
+use effective_area::all_indexes;
 use geometry::{Position, is_same};
 use owned_values::Memory;
 use std::alloc::Global;
@@ -32,17 +33,6 @@ pub struct Candidate {
     pub area: u128,
     pub corner: Corner,
     pub stretch: usize,
-}
-
-/// All indexes below a number.
-fn all_indexes(alloc: Global, n: usize) -> Result<Vec<usize>, Memory>
-    ensures { IfOk result (λ all. all.items ≡ range_with_len 0 n) }
-{
-    let mut all = Vec::with_capacity(alloc, n)?;
-    for i in 0..n {
-        all.push(i)?;
-    }
-    Ok(all)
 }
 
 /// The position of an index.

@@ -1,3 +1,4 @@
+pub mod Addresses
 pub mod DroppableLines
 pub mod Decoding
 pub mod DecodingLines

@@ -6,25 +6,12 @@ use Rattle.cutter.specs.Slices.{split_of, piece_lists}
 use Rattle.geometry.specs.Paths.{Placed}
 use Rattle.junctions.proofs.Cleaned.{clean_is_clean}
 use Rattle.linework.proofs.Placing.{reported}
-
 -- an open line (false) or a ring (true)
-abbrev pub Line : Type 0
-Line = Bool × List Point
-
--- without its address
-abbrev pub plain : Stroke → Line
-plain s = (s.closed, s.positions)
-
-abbrev pub clean_line : Line → Line
-clean_line b = (b.0, clean b.1)
+pub use Rattle.linework.specs.Outlines.{Outline as Line, outline as plain, clean_outline as clean_line, long_outlines as long_of}
 
 -- it has enough positions
 abbrev pub is_long : Line → Bool
 is_long b = not (is_short b.0 b.1)
-
--- those that have enough positions when they are clean
-abbrev pub long_of : List Line → List Line
-long_of bs = filter (λ b. not (is_short b.0 (clean b.1))) bs
 
 -- those of layers
 abbrev pub long_lines_and_rings : Named → List Line
@@ -82,11 +69,14 @@ all_clean ls h = grind (arith, all_clean_of, linework_lines, long_clean, named_r
 
 -- ---- pieces
 
--- the pieces of a clean line
-abbrev pub plain_pieces : List Stroke → Line → List (List Point)
-plain_pieces lines b = split_at (is_cut lines) (cond b.0 (turned (start_in (is_cut lines) b.1) b.1) b.1)
+-- the pieces of a clean line, by the test for cut positions
+abbrev pub pieces_by : (Point → Bool) → Line → List (List Point)
+pieces_by cut b = split_at cut (cond b.0 (turned (start_in cut b.1) b.1) b.1)
 
-each_plain : (lines ms : List Stroke) → map (pieces_of lines) ms ≡ map (plain_pieces lines) (map plain ms)
+abbrev pub plain_pieces : List Stroke → Line → List (List Point)
+plain_pieces lines = pieces_by (is_cut lines)
+
+pub each_plain : (lines ms : List Stroke) → map (pieces_of lines) ms ≡ map (plain_pieces lines) (map plain ms)
 each_plain lines [] = refl
 each_plain lines (s ∷ ms) = ap (λ l. pieces_of lines s ∷ l) (each_plain lines ms)
 
@@ -94,7 +84,7 @@ each_own : (lines : List Stroke) (bs : List Line) → map (plain_pieces lines) (
 each_own lines [] = refl
 each_own lines (b ∷ bs) = ap (λ l. own_pieces lines b.0 b.1 ∷ l) (each_own lines bs)
 
-each_split : (lines ms : List Stroke) → piece_lists (map (split_of lines) ms) ≡ map (pieces_of lines) ms
+pub each_split : (lines ms : List Stroke) → piece_lists (map (split_of lines) ms) ≡ map (pieces_of lines) ms
 each_split lines [] = refl
 each_split lines (s ∷ ms) = ap (λ l. pieces_of lines s ∷ l) (each_split lines ms)
 

@@ -17,4 +17,3 @@ pub mod Origins
 pub mod Snapping
 pub mod SparedAtZero
 pub mod Split
-pub mod Unvisited

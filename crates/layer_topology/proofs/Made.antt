@@ -1,20 +1,14 @@
 -- The arcs of layers, by their table, and what is left of them at a level.
-use Rattle.std.proofs.Common.{◌≡◌, ◌∙◌, ℕ, ℤ, List, map, ap, subst}
+use Rattle.std.proofs.Common.{◌≡◌, ◌∙◌, List, map, ap, subst}
 use Rattle.arc_table.specs.Arcs.{ArcsAndIndexes, arcs_of, table_of}
 use Rattle.build_meaning.proofs.Once.{same_pieces}
-use Rattle.build_meaning.specs.Laws.{AreSound}
-use Rattle.build_meaning.specs.Layers.{Named, layers_of, named_lines_and_rings, names_of}
+use Rattle.build_meaning.specs.Layers.{Named, layers_of}
 use Rattle.cutter.specs.Slices.{split_of}
 use Rattle.elimination_meaning.specs.Elimination.{reduce}
 use Rattle.geometry.specs.Points.{Point}
 use Rattle.simplified_topology.specs.Assembled.{arc_indexes, arcs_of_layers}
 use Rattle.simplified_topology.specs.Simplified.{retained_arcs}
 use Rattle.linework.specs.Linework.{linework}
-use Rattle.topojson_types.specs.declared.object.TopoObject.{TopoObject}
-use Rattle.topojson_types.specs.Validity.{AreDistinct}
-use Rattle.topo_model.specs.Drafts.{RefsOf, long_refs, objects_drafted}
-use Rattle.topo_model.specs.Retaining.{IsDraftOf}
-use Rattle.topo_model.proofs.Assembled.{draft_of}
 use Rattle.layer_topology.specs.Levels.{threshold_at}
 use Rattle.layer_topology.specs.declared.level.Level.{Level}
 
@@ -25,9 +19,3 @@ table_arcs ls table is = ap (λ t. t.arcs) is ∙ ap arcs_of (same_pieces (linew
 pub left_at_level : (ls : Named) (level : Level) (arcs left : List (List Point)) → arcs ≡ arcs_of_layers ls → left ≡ retained_arcs (map (reduce (threshold_at level arcs)) arcs) arcs
     → left ≡ retained_arcs (arc_indexes (threshold_at level (arcs_of_layers ls)) ls) (arcs_of_layers ls)
 left_at_level ls level arcs left same is = subst (λ (a : List (List Point)). left ≡ retained_arcs (map (reduce (threshold_at level a)) a) a) same is
-
--- what is drafted of layers by their table is their draft, and the table's arcs are theirs
-pub draft_of_table : (ls : Named) (table : ArcsAndIndexes) (arcs : List (List Point)) (refs : List (List ℤ)) (objects : List (List ℕ × TopoObject))
-    → table ≡ table_of (map (split_of (linework (layers_of ls))) (linework (layers_of ls))) → arcs ≡ table.arcs → refs ≡ table.refs → AreSound ls → AreDistinct (names_of ls)
-    → ((of : RefsOf) → refs ≡ long_refs of (named_lines_and_rings ls) → objects ≡ objects_drafted of ls) → IsDraftOf ls objects × (arcs ≡ arcs_of_layers ls)
-draft_of_table ls table arcs refs objects is a r sound names f = (draft_of ls refs objects (r ∙ ap (λ t. t.refs) is) sound names f, a ∙ table_arcs ls table is)

@@ -1,13 +1,13 @@
 // Making the topology of layers.
 ghost use Rattle.std.specs.Prelude.{◌≡◌, ◌<◌, ◌≤◌, ◌^◌, ◌++◌, [], IfOk, if◌then◌else◌, length, map, true};
+ghost use Rattle.std.specs.List.{AllByRecursion};
 ghost use Rattle.arc_table.specs.Arcs.{table_of};
 ghost use Rattle.build_meaning.specs.Built.{built, removed_count};
 ghost use Rattle.build_meaning.specs.Expected.{expected_dropped};
 ghost use Rattle.build_meaning.specs.Laws.{AreSound};
-ghost use Rattle.build_meaning.specs.Layers.{Named, layers_of, names_of};
+ghost use Rattle.build_meaning.specs.Layers.{Named, layers_of, named_lines_and_rings, names_of};
 ghost use Rattle.byte_ends.specs.Ends.{saturated};
 ghost use Rattle.cutter.specs.Slices.{split_of};
-ghost use Rattle.elimination_meaning.specs.Elimination.{reduce};
 ghost use Rattle.geometry.specs.Units.{threshold_limit};
 ghost use Rattle.simplified_topology.specs.Quantized.{AreInputs, IsCount, named_grid};
 ghost use Rattle.layer_topology.specs.Guarded.{is_at_once, is_simplifying_level};
@@ -20,6 +20,7 @@ ghost use Rattle.simplified_topology.specs.Assembled.{arcs_of_layers, assembled,
 ghost use Rattle.simplified_topology.specs.Guarded.{arc_positions, guarded_arc_indexes};
 ghost use Rattle.simplified_topology.specs.Simplified.{retained_arcs};
 ghost use Rattle.linework.specs.Linework.{linework};
+ghost use Rattle.linework.specs.Outlines.{IsRingIfClosed, is_short_outline};
 ghost use Rattle.topojson_types.specs.Validity.{AreDistinct};
 ghost use Rattle.topo_model.specs.Retaining.{IsDraftOf};
 
@@ -32,6 +33,7 @@ use crate::level::Level;
 use crate::sparing::sparing_topology;
 use crate::topology::on_grid;
 use arc_table::Table;
+use build_meaning::addresses_do_not_matter;
 use cutter::{Pieces, cut};
 use effective_area::Reducer;
 use elimination_meaning::{nothing_is_new, zero_law};
@@ -39,7 +41,7 @@ use geojson_types::{Dropped, Layer, Position};
 use grid_snap::Grid;
 use guarded_meaning::arcs_rise;
 use json_value::{Items, OwnText};
-use linework::{Lines, OfLayers, Vertices};
+use linework::{Lines, Outline, Vertices, lines_of_outlines};
 use owned_values::Memory;
 use simplified_topology::{
     arc_indexes_reach, assembled_sparing_is_on, assembles_to_built, assembling_drops_expected,
@@ -48,16 +50,14 @@ use simplified_topology::{
 };
 use std::alloc::Global;
 use topo_model::{
-    assemble_draft, assemble_retained, draft_arcs, draft_uses_at_zero, drafted_objects,
-    position_counts,
+    assemble_draft, draft_arcs, draft_uses_at_zero, filled, position_counts, take_apart,
 };
-use topojson_types::{ArcRef, Cell, TopoObject, Topology};
+use topojson_types::{Cell, TopoObject, Topology};
 
-/// The lines and rings of the layers, cut. What was known of their positions is given back.
-fn cut_lines(alloc: Global, seed: u64, layers: &[(OwnText, Layer)]) -> Result<Pieces, Memory>
-    ensures { IfOk result (λ ps. ps ≡ map (split_of (linework (layers_of layers.now))) (linework (layers_of layers.now))) }
+/// Lines and rings, cut. What was known of their positions is given back.
+fn cut_lines(alloc: Global, seed: u64, lines: Lines) -> Result<Pieces, Memory>
+    ensures { IfOk result (λ ps. ps ≡ map (split_of lines.lines_and_rings) lines.lines_and_rings) }
 {
-    let lines = Lines::of_named(alloc, layers)?;
     match Vertices::by_seed(alloc, seed, &lines) {
         Ok(vertices) => {
             let pieces = cut(alloc, lines, &vertices);
@@ -71,45 +71,48 @@ fn cut_lines(alloc: Global, seed: u64, layers: &[(OwnText, Layer)]) -> Result<Pi
     }
 }
 
-/// The arcs that the lines and rings of the layers share.
-fn shared_arcs(alloc: Global, seed: u64, layers: &[(OwnText, Layer)]) -> Result<Table, Memory>
-    ensures { IfOk result (λ t. t ≡ table_of (map (split_of (linework (layers_of layers.now))) (linework (layers_of layers.now)))) }
+/// The arcs that the lines and rings of layers share, and for each of these whether it has too few positions.
+fn shared_arcs(
+    alloc: Global,
+    seed: u64,
+    outlines: Vec<Outline>,
+) -> Result<(Table, Vec<bool>), Memory>
+    requires { AllByRecursion IsRingIfClosed outlines.items }
+    ensures table { IfOk result (λ r. (ls : Named) → outlines.items ≡ named_lines_and_rings ls
+        → r.0 ≡ table_of (map (split_of (linework (layers_of ls))) (linework (layers_of ls)))) }
+    ensures short { IfOk result (λ r. r.1.items ≡ map is_short_outline outlines.items) }
 {
-    let pieces = cut_lines(alloc, seed, layers)?;
-    Table::build_by_seed(alloc, seed, pieces)
+    addresses_do_not_matter();
+    let (lines, short) = lines_of_outlines(alloc, outlines)?;
+    let pieces = cut_lines(alloc, seed, lines)?;
+    let table = Table::build_by_seed(alloc, seed, pieces)?;
+    Ok((table, short))
 }
 
-/// The lines and rings of the layers by the arcs that they share, how many positions each arc has, of each arc the positions that stay,
-/// and the threshold, where it was chosen.
-fn shared_and_reduced<Q: Reducer>(
+/// The draft of named layers, and the arcs that their lines and rings share. No position of the layers is copied before they are cut, and when
+/// they are none is held but those of the arcs.
+fn draft_and_arcs(
     alloc: Global,
-    reducer: &mut Q,
     seed: u64,
-    layers: &[(OwnText, Layer)],
-    level: Level,
-) -> Result<
-    (
-        Vec<Items<ArcRef>>,
-        Vec<usize>,
-        Vec<Items<Cell>>,
-        Option<u128>,
-    ),
-    Memory,
->
-    requires level { is_level level ≡ true }
-    ensures refs { IfOk result
-        (λ r. r.0.items ≡ (table_of (map (split_of (linework (layers_of layers.now))) (linework (layers_of layers.now)))).refs) }
-    ensures counts { IfOk result (λ r. r.1.items ≡ map length (arcs_of_layers layers.now)) }
-    ensures retained { IfOk result (λ r. r.2.items
-        ≡ retained_arcs (map (reduce (threshold_at level (arcs_of_layers layers.now))) (arcs_of_layers layers.now)) (arcs_of_layers layers.now)) }
-    ensures chosen { IfOk result (λ r. r.3 ≡ chosen_at level (arcs_of_layers layers.now)) }
-    ensures called { IfOk result (λ _. Q.calls reducer.new ≡ Q.calls reducer.old ++ calls_at level (arcs_of_layers layers.now)) }
+    layers: Vec<(OwnText, Layer)>,
+) -> Result<(Vec<(OwnText, TopoObject)>, Vec<Items<Position>>), Memory>
+    requires sound { AreSound layers.items }
+    requires names { AreDistinct (names_of layers.items) }
+    ensures draft { IfOk result (λ r. IsDraftOf layers.items r.0.items) }
+    ensures arcs { IfOk result (λ r. r.1.items ≡ arcs_of_layers layers.items) }
+    ensures long { IfOk result (λ r. AllByRecursion (λ arc. 2 ≤ length arc) r.1.items) }
 {
-    let table = shared_arcs(alloc, seed, layers)?;
-    let (arcs, refs) = table.into_parts();
-    let counts = position_counts(alloc, &arcs)?;
-    let (left, chosen) = left_of_arcs(alloc, reducer, arcs, level)?;
-    Ok((refs, counts, left, chosen))
+    let (objects, outlines) = take_apart(alloc, layers)?;
+    match shared_arcs(alloc, seed, outlines) {
+        Ok((table, short)) => {
+            let (arcs, refs) = table.into_parts();
+            Ok((filled(alloc, objects, refs, &short), arcs))
+        }
+        Err(fault) => {
+            drop(objects);
+            Err(fault)
+        }
+    }
 }
 
 /// The topology that is built of named layers, each arc reduced once, without rings under the limit, the lines and rings that are
@@ -137,15 +140,17 @@ fn reduced_topology<Q: Reducer>(
     assembles_to_built();
     assembling_drops_expected();
     assembling_removes();
-    match shared_and_reduced(alloc, reducer, seed, &layers, level) {
-        Ok((refs, counts, left, chosen)) => {
-            let (topology, dropped, removed_count) = assemble_retained(
-                alloc, layers, refs, left, &counts, ring_limit,
+    let (objects, arcs) = draft_and_arcs(alloc, seed, layers)?;
+    let counts = position_counts(alloc, &arcs)?;
+    match left_of_arcs(alloc, reducer, arcs, level) {
+        Ok((left, chosen)) => {
+            let (topology, dropped, removed_count) = assemble_draft(
+                alloc, objects, left, &counts, ring_limit,
             )?;
             Ok((topology, dropped, removed_count, chosen))
         }
         Err(fault) => {
-            drop(layers);
+            drop(objects);
             Err(fault)
         }
     }
@@ -242,7 +247,7 @@ fn topology_of_draft(
     }
 }
 
-/// The topology that is made of named layers whose arcs are reduced at once, and what comes with it. The layers are freed before an arc is reduced.
+/// The topology that is made of named layers whose arcs are reduced at once, and what comes with it.
 fn guarded_topology(
     alloc: Global,
     seed: u64,
@@ -262,17 +267,8 @@ fn guarded_topology(
     ensures chosen { IfOk result (λ r. r.3 ≡ made_chosen guards level layers.items) }
     ensures few { IfOk result (λ r. length r.0.arcs < 2 ^ 63) }
 {
-    match shared_arcs(alloc, seed, &layers) {
-        Ok(table) => {
-            let (arcs, refs) = table.into_parts();
-            let objects = drafted_objects(alloc, layers, refs)?;
-            topology_of_draft(alloc, objects, arcs, guards, level, ring_limit)
-        }
-        Err(fault) => {
-            drop(layers);
-            Err(fault)
-        }
-    }
+    let (objects, arcs) = draft_and_arcs(alloc, seed, layers)?;
+    topology_of_draft(alloc, objects, arcs, guards, level, ring_limit)
 }
 
 /// The topology that is made of named layers under these guards, without rings under the limit, the lines and rings that are dropped, in

@@ -82,14 +82,6 @@ pub layers_turn : (g now new : Gathered) (ls : List Layer) (i : ℕ) (l : Layer)
     now ≡ with_lines_and_rings g (lines_and_rings_of_layers 0 (take i ls)) → new ≡ with_lines_and_rings now (lines_and_rings_of_layer i 0 l.features) → new ≡ with_lines_and_rings g (lines_and_rings_of_layers 0 (take (i + 1) ls))
 layers_turn = all_turn (λ i l. lines_and_rings_of_layer i 0 l.features) lines_and_rings_of_layers (λ i. refl) (λ i x xs. refl)
 
--- layers with names, without them
-abbrev unnamed : List (List ℕ × Layer) → List Layer
-unnamed ls = map (λ l. l.1) ls
-
-pub named_turn : (g now new : Gathered) (ls : List (List ℕ × Layer)) (i : ℕ) (l : List ℕ × Layer) → i < length ls → l ≡ get_or ls i l →
-    now ≡ with_lines_and_rings g (lines_and_rings_of_layers 0 (unnamed (take i ls))) → new ≡ with_lines_and_rings now (lines_and_rings_of_layer i 0 l.1.features) → new ≡ with_lines_and_rings g (lines_and_rings_of_layers 0 (unnamed (take (i + 1) ls)))
-named_turn = all_turn (λ i l. lines_and_rings_of_layer i 0 l.1.features) (λ i ls. lines_and_rings_of_layers i (unnamed ls)) (λ i. refl) (λ i x xs. refl)
-
 -- gathered from nothing, they are the two lists of the definition
 gathered_lines_and_rings : (g : Gathered) (ss : List Stroke) → (with_lines_and_rings g ss).lines_and_rings ≡ g.lines_and_rings ++ filter (λ s. not (is_collapsed s)) ss
 unfolding with_lines_and_rings
@@ -106,9 +98,3 @@ linework_is g ls i l h = unfold linework in grind (arith, gathered_lines_and_rin
 
 pub collapsed_is : (g : Gathered) (ls : List Layer) (i : ℕ) → length ls ≤ i → g ≡ with_lines_and_rings nothing_gathered (lines_and_rings_of_layers 0 (take i ls)) → g.dropped ≡ collapsed ls
 collapsed_is g ls i l h = unfold collapsed in grind (arith, gathered_dropped, take_all)
-
-pub named_linework_is : (g : Gathered) (ls : List (List ℕ × Layer)) (i : ℕ) → length ls ≤ i → g ≡ with_lines_and_rings nothing_gathered (lines_and_rings_of_layers 0 (unnamed (take i ls))) → g.lines_and_rings ≡ linework (map (λ l. l.1) ls)
-named_linework_is g ls i l h = unfold linework in grind (arith, gathered_lines_and_rings, take_all)
-
-pub named_collapsed_is : (g : Gathered) (ls : List (List ℕ × Layer)) (i : ℕ) → length ls ≤ i → g ≡ with_lines_and_rings nothing_gathered (lines_and_rings_of_layers 0 (unnamed (take i ls))) → g.dropped ≡ collapsed (map (λ l. l.1) ls)
-named_collapsed_is g ls i l h = unfold collapsed in grind (arith, gathered_dropped, take_all)

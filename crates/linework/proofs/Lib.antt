@@ -1,3 +1,4 @@
+mod Deduped
 pub mod Gathered
 pub mod Placing
 pub mod Positions

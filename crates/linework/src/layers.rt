@@ -1,20 +1,17 @@
 // The linework of layers.
-ghost use Rattle.std.specs.Prelude.{◌≡◌, IfOk, map};
+ghost use Rattle.std.specs.Prelude.{◌≡◌, IfOk};
 ghost use Rattle.linework.specs.Linework.{linework, collapsed};
 
 use crate::gathering::add_layer;
 use geojson_types::Layer;
 use junctions::Lines;
-use owned_values::{Memory, OwnText};
+use owned_values::Memory;
 use std::alloc::Global;
 
 /// What is made of the lines and rings of layers.
 pub trait OfLayers: Sized {
     /// The linework of the layers.
     fn of(alloc: Global, layers: &[Layer]) -> Result<Self, Memory>;
-
-    /// The linework of layers with names.
-    fn of_named(alloc: Global, layers: &[(OwnText, Layer)]) -> Result<Self, Memory>;
 }
 
 impl OfLayers for Lines {
@@ -25,17 +22,6 @@ impl OfLayers for Lines {
         let mut lines = Lines::none(alloc);
         for (number, layer) in layers.iter().enumerate() {
             add_layer(alloc, number, layer.features.as_slice(), &mut lines)?;
-        }
-        Ok(lines)
-    }
-
-    fn of_named(alloc: Global, layers: &[(OwnText, Layer)]) -> Result<Lines, Memory>
-        ensures lines_and_rings { IfOk result (λ lines. lines.lines_and_rings ≡ linework (map (λ l. l.1) layers.now)) }
-        ensures dropped { IfOk result (λ lines. lines.dropped ≡ collapsed (map (λ l. l.1) layers.now)) }
-    {
-        let mut lines = Lines::none(alloc);
-        for (number, layer) in layers.iter().enumerate() {
-            add_layer(alloc, number, layer.1.features.as_slice(), &mut lines)?;
         }
         Ok(lines)
     }

@@ -37,6 +37,7 @@ use Rattle.simplified_topology.proofs.Spared.{whole_plain}
 use Rattle.simplified_topology.proofs.Simplified.{IsWholeAtZero, no_small}
 use Rattle.simplified_topology.proofs.ValidRetained.{retained_length}
 use Rattle.linework.specs.Linework.{linework}
+use Rattle.linework.specs.Outlines.{Outline, is_short_outline}
 use Rattle.owned_values.proofs.Elements.{all_weaker}
 use Rattle.topojson_types.specs.declared.object.TopoObject.{TopoObject}
 use Rattle.topojson_types.specs.Topologies.{Contents, object_features}
@@ -46,7 +47,7 @@ use Rattle.topo_model.specs.Drops.{draft_cause, objects_drops}
 use Rattle.topo_model.proofs.Drops.{plain_drops, objects_plainly}
 use Rattle.topo_model.proofs.Result as result
 use Rattle.topo_model.proofs.Result.{of_arcs}
-use Rattle.topo_model.specs.Drafts.{RefsOf, long_refs, draft_refs, relined, feature_drafted, objects_drafted}
+use Rattle.topo_model.specs.Drafts.{RefsOf, long_refs, draft_refs, relined, feature_drafted, no_refs, objects_drafted, objects_relined}
 use Rattle.topo_model.specs.Retaining.{IsDraftOf}
 use Rattle.topo_model.proofs.Relined.{pruned_once, dropped_once}
 
@@ -76,10 +77,13 @@ table_refs ls =
     ∙ map_map (map (index_in (all_arcs lines))) (λ (b : Bool × List Point). own_pieces lines b.0 b.1) (long_lines_and_rings ls)
     ∙ long_are (own_refs lines) (named_lines_and_rings ls)
 
--- objects that are drafted by the arc indexes of the layers' table are the layers' draft
-pub draft_of : (ls : Named) (refs : List (List ℤ)) (objects : List (List ℕ × TopoObject)) → refs ≡ (table_of_lines ls).refs → AreSound ls → AreDistinct (names_of ls)
-    → ((of : RefsOf) → refs ≡ long_refs of (named_lines_and_rings ls) → objects ≡ objects_drafted of ls) → IsDraftOf ls objects
-draft_of ls refs objects e sound names f = record { drafted = f (own_refs (lines_of ls)) (e ∙ table_refs ls); sound = sound; names = names }
+-- what is filled with the arc indexes of the layers' table is the layers' draft
+pub draft_of : (ls : Named) (refs : List (List ℤ)) (outlines : List Outline) (short : List Bool) (hollow objects : List (List ℕ × TopoObject)) → refs ≡ (table_of_lines ls).refs → AreSound ls
+    → AreDistinct (names_of ls) → hollow ≡ objects_relined no_refs ls → outlines ≡ named_lines_and_rings ls → short ≡ map is_short_outline outlines
+    → ((ms : Named) (of : RefsOf) → hollow ≡ objects_relined no_refs ms → short ≡ map is_short_outline (named_lines_and_rings ms) → refs ≡ long_refs of (named_lines_and_rings ms) → objects ≡ objects_drafted of ms)
+    → IsDraftOf ls objects
+draft_of ls refs outlines short hollow objects e sound names h o s f =
+    record { drafted = f ls (own_refs (lines_of ls)) h (s ∙ ap (map is_short_outline) o) (e ∙ table_refs ls); sound = sound; names = names }
 
 -- ---- a draft that is pruned
 

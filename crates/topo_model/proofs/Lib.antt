@@ -2,6 +2,7 @@ pub mod Assembled
 pub mod AssembledSparing
 pub mod AllUsed
 pub mod Along
+pub mod Apart
 pub mod BestRing
 pub mod Chosen
 pub mod Counted
@@ -10,6 +11,7 @@ pub mod DraftUses
 pub mod Drops
 pub mod Enclosed
 pub mod Full
+pub mod InPlace
 pub mod Kept
 pub mod KeptParts
 pub mod LeftOut
@@ -28,5 +30,5 @@ pub mod Result
 pub mod Retained
 pub mod Short
 pub mod Stepped
-pub mod Taking
 pub mod Undropped
+pub mod Unvisited

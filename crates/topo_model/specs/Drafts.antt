@@ -45,16 +45,44 @@ relined_step f (Geometry-F.Group ss) = g.Group ss
 unfoldable pub relined : RefsOf → Shape → TopoShape
 relined f = fold-Geometry Point (List Point) (List Point) TopoShape (relined_step f)
 
-abbrev pub feature_drafted : RefsOf → Featured → TopoFeature
-feature_drafted of f = record { id = f.id; properties = f.properties; shape = map_some (relined (draft_refs of)) f.shape }
+abbrev pub feature_relined : RefsOf → Featured → TopoFeature
+feature_relined f x = record { id = x.id; properties = x.properties; shape = map_some (relined f) x.shape }
 
 -- a layer is a collection of its features, under its name
+abbrev pub objects_relined : RefsOf → Named → List (List ℕ × TopoObject)
+objects_relined f ls = map (λ l. (l.0, Many (map (feature_relined f) l.1.features))) ls
+
+abbrev pub feature_drafted : RefsOf → Featured → TopoFeature
+feature_drafted of = feature_relined (draft_refs of)
+
 abbrev pub objects_drafted : RefsOf → Named → List (List ℕ × TopoObject)
-objects_drafted of ls = map (λ l. (l.0, Many (map (feature_drafted of) l.1.features))) ls
+objects_drafted of = objects_relined (draft_refs of)
 
--- ---- a walk
+-- ---- taken apart
 
--- Where the remaining arc indexes are those of these lines and rings and of others after, this is what is made of them, and the others
--- remain.
-abbrev pub Drafts : {Y : Type 0} → List (Bool × List Point) → (RefsOf → Y) → List (List ℤ) → Y → List (List ℤ) → Type 0
-Drafts lines made remaining y rest = (of : RefsOf) (tail : List (List ℤ)) → remaining ≡ long_refs of lines ++ tail → (y ≡ made of) × (rest ≡ tail)
+-- nothing stands for a line or ring
+abbrev pub no_refs : RefsOf
+no_refs closed ps = []
+
+-- the lines and rings are taken out, after those that were before, and this is left
+abbrev pub TakesApart : {Y : Type 0} → List (Bool × List Point) → Y → List (Bool × List Point) → Y → List (Bool × List Point) → Type 0
+TakesApart lines left before made after = (made ≡ left) × (after ≡ before ++ lines)
+
+-- ---- filled
+
+-- what stands for these lines and rings
+abbrev pub refs_of : RefsOf → List (Bool × List Point) → List (List ℤ)
+refs_of f bs = map (λ b. f b.0 b.1) bs
+
+-- one for each flag: none where it is set, else the next of these
+abbrev pub spread : List Bool → List (List ℤ) → List (List ℤ)
+spread [] refs = []
+spread (true ∷ flags) refs = [] ∷ spread flags refs
+spread (false ∷ flags) [] = [] ∷ spread flags []
+spread (false ∷ flags) (r ∷ refs) = r ∷ spread flags refs
+
+-- Where nothing stands for the lines and rings of something, and what remains is what stands for them, and more after, it is put in their
+-- places, and the rest remains.
+abbrev pub Fills : {X Y : Type 0} → (X → List (Bool × List Point)) → (RefsOf → X → Y) → Y → List (List ℤ) → Y → List (List ℤ) → Type 0
+Fills {X} lines_of made old remaining new rest = (x : X) (f : RefsOf) (tail : List (List ℤ)) → old ≡ made no_refs x → remaining ≡ refs_of f (lines_of x) ++ tail
+    → (new ≡ made f x) × (rest ≡ tail)

@@ -10,20 +10,22 @@ ghost use Rattle.simplified_topology.specs.Assembled.{arcs_of_layers, assembled,
 ghost use Rattle.simplified_topology.specs.Simplified.{EachFromFirstToLast, retained_arcs};
 ghost use Rattle.linework.specs.Linework.{linework};
 ghost use Rattle.topojson_types.specs.Validity.{AreDistinct};
-ghost use Rattle.topo_model.specs.Retaining.{AreRetained, IsDraft, IsDraftOf};
+ghost use Rattle.topo_model.specs.Retaining.{IsDraft, IsDraftOf};
 
-use crate::drafting::drafted_objects;
+use crate::filling::filled;
 use crate::finishing::{Finished, finish};
 use crate::given_numbers::positions_of_all;
 use crate::position_counting::position_counts;
+use crate::taking_apart::take_apart;
 use arc_table::Table;
 use elimination_meaning::{ends_stay, nothing_is_new, zero_law};
 use geojson_types::{Dropped, Layer};
 use json_value::{Items, OwnText};
+use linework::lines_of_outlines;
 use owned_values::Memory;
 use simplified_topology::assembled_is_valid;
 use std::alloc::Global;
-use topojson_types::{ArcRef, Cell, TopoObject, Topology};
+use topojson_types::{Cell, TopoObject, Topology};
 
 /// The objects and the arcs of the topology of a draft of layers over reduced arcs, without the arcs that no kept line uses, the lines
 /// and rings that are dropped, in reading order, and how many positions are removed from the arcs that stay.
@@ -50,7 +52,9 @@ fn objects_and_arcs(
 }
 
 /// The topology of a draft of layers over the arcs of their lines, of each of which only some positions are retained, from its first to its
-/// last. It is given how many positions each arc had. What is left out, and what comes with it, is as for `assemble_retained`.
+/// last. It is given how many positions each arc had. Lines and rings that are then left with too few positions, rings of which twice the area
+/// is under the limit (in square units), and arcs that no kept line uses are left out. With it come the lines and rings that are dropped, in
+/// reading order, and how many positions are removed from the arcs that stay: a count that stays at `u64::MAX` where it would pass it.
 pub fn assemble_draft(
     alloc: Global,
     objects: Vec<(OwnText, TopoObject)>,
@@ -74,42 +78,8 @@ pub fn assemble_draft(
     Ok((topology, left.dropped, left.removed_count))
 }
 
-/// The topology of named layers over the arcs of their lines, of each of which only some positions are retained, from its first to its
-/// last. It is given which arcs each line or ring has, and how many positions each arc had. Lines and rings that are then left with too few
-/// positions, rings of which twice the area is under the limit (in square units), and arcs that no kept line uses are left out. With it
-/// come the lines and rings that are dropped, in reading order, and how many positions are removed from the arcs that stay: a count that
-/// stays at `u64::MAX` where it would pass it.
-pub fn assemble_retained(
-    alloc: Global,
-    layers: Vec<(OwnText, Layer)>,
-    refs: Vec<Items<ArcRef>>,
-    retained: Vec<Items<Cell>>,
-    counts: &[usize],
-    ring_limit: u128,
-) -> Result<(Topology, Vec<Dropped>, u64), Memory>
-    requires refs { refs.items ≡ (table_of (map (split_of (linework (layers_of layers.items))) (linework (layers_of layers.items)))).refs }
-    requires sound { AreSound layers.items }
-    requires names { AreDistinct (names_of layers.items) }
-    requires retained { AreRetained (arcs_of_layers layers.items) retained.items }
-    requires counts { counts.now ≡ map length (arcs_of_layers layers.items) }
-    requires limit { ring_limit ≤ threshold_limit }
-    ensures topology { IfOk result (λ r. (kept : List (List ℕ)) → retained.items ≡ retained_arcs kept (arcs_of_layers layers.items)
-        → r.0 ≡ assembled kept ring_limit layers.items) }
-    ensures dropped { IfOk result (λ r. (kept : List (List ℕ)) → retained.items ≡ retained_arcs kept (arcs_of_layers layers.items)
-        → r.1.items ≡ assembled_dropped kept ring_limit layers.items) }
-    ensures removed_count { IfOk result (λ r. (kept : List (List ℕ)) → retained.items ≡ retained_arcs kept (arcs_of_layers layers.items)
-        → r.2 ≡ saturated (assembled_removed_count kept ring_limit layers.items)) }
-    ensures few { IfOk result (λ r. length r.0.arcs < 2 ^ 63) }
-{
-    let objects = drafted_objects(alloc, layers, refs)?;
-    assemble_draft(alloc, objects, retained, counts, ring_limit)
-}
-
 /// The topology of named layers over the arcs of their lines, where of each arc the positions with these numbers are kept: a list
-/// for each arc, from its first position to its last. Lines and rings that are then left with too few positions,
-/// rings of which twice the area is under the limit (in square units), and arcs that no kept line uses are left out. With it come the
-/// lines and rings that are dropped, in reading order, and how many positions are removed from the arcs that stay: a count that stays
-/// at `u64::MAX` where it would pass it.
+/// for each arc, from its first position to its last. What is left out, and what comes with it, is as for `assemble_draft`.
 pub fn assemble(
     alloc: Global,
     layers: Vec<(OwnText, Layer)>,
@@ -130,5 +100,8 @@ pub fn assemble(
     let counts = position_counts(alloc, table.arcs())?;
     let retained = positions_of_all(alloc, kept, table.arcs())?;
     let (_arcs, refs) = table.into_parts();
-    assemble_retained(alloc, layers, refs, retained, &counts, ring_limit)
+    let (objects, outlines) = take_apart(alloc, layers)?;
+    let (_lines, short) = lines_of_outlines(alloc, outlines)?;
+    let draft = filled(alloc, objects, refs, &short);
+    assemble_draft(alloc, draft, retained, &counts, ring_limit)
 }

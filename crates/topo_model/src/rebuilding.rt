@@ -9,7 +9,6 @@ ghost use Rattle.topo_model.specs.Passing.{directed, unpassed, Passes};
 ghost use Rattle.junctions.specs.Cleaning.{clean, is_short};
 
 use crate::enclosing::is_ring_under;
-use geojson_types::Position;
 use json_value::Items;
 use std::marker::Model;
 use topojson_types::{ArcRef, Cell};
@@ -72,20 +71,6 @@ pub fn is_short_rebuilt(closed: bool, refs: &[ArcRef], arcs: &[Items<Cell>]) -> 
             return false;
         }
         need.pass_ref(*index, arcs, 1);
-    }
-    need.missing > 0
-}
-
-/// Whether an open line with these positions, equal neighbours as one, has fewer than two, or a ring fewer than four.
-pub fn is_short_line(closed: bool, positions: &[Position]) -> bool
-    ensures { result ≡ is_short closed (clean positions.now) }
-{
-    let mut need = Need::of(closed);
-    'positions: for position in positions {
-        if need.missing == 0 {
-            return false;
-        }
-        need.pass(Cell::of(*position));
     }
     need.missing > 0
 }

@@ -3,7 +3,7 @@ use Rattle.geometry.specs.declared.shape.Geometry.TheVariants as v
 use Rattle.geometry.proofs.Moved.{starts, turns, ends, refilled}
 use Rattle.layer_topology.specs.Replacing.{cell_if_covered, shape_replaced}
 use Rattle.layer_topology.proofs.Agreeing.{replaced_at}
-use Rattle.layer_topology.proofs.Unvisited.{unvisited_after}
+use Rattle.topo_model.proofs.Unvisited.{unvisited_after}
 use Rattle.layer_topology.proofs.objects.+shape_on.Goals as goal
 
 pub shapes-init : goal.shapes-init

@@ -1,0 +1,31 @@
+-- Lines and rings without the places where they stand.
+use Rattle.std.specs.Prelude.{◌≡◌, Bool, true, not, List}
+use Rattle.std.specs.List.{filter}
+use Rattle.geometry.specs.Points.{Point}
+use Rattle.geometry.specs.Rings.{is_ring}
+use Rattle.junctions.specs.Cleaning.{clean, is_short}
+use Rattle.junctions.specs.declared.stroke.Stroke.{Stroke}
+
+-- whether it is a ring (true) or an open line (false), and its positions
+abbrev pub Outline : Type 0
+Outline = Bool × List Point
+
+-- that of a line or ring
+abbrev pub outline : Stroke → Outline
+outline s = (s.closed, s.positions)
+
+-- a ring is one
+abbrev pub IsRingIfClosed : Outline → Type 0
+IsRingIfClosed b = b.0 ≡ true → is_ring b.1 ≡ true
+
+-- it has too few positions, with equal neighbours as one
+abbrev pub is_short_outline : Outline → Bool
+is_short_outline b = is_short b.0 (clean b.1)
+
+-- those that have enough
+abbrev pub long_outlines : List Outline → List Outline
+long_outlines bs = filter (λ b. not (is_short_outline b)) bs
+
+-- with equal neighbours as one position
+abbrev pub clean_outline : Outline → Outline
+clean_outline b = (b.0, clean b.1)

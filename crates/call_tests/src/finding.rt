@@ -1,6 +1,6 @@
 // What is found of a roof, a line whose end is under it, and a line from one of its ends to the other.
 use geometry::Position;
-use guarded_reduction::{Blocked, Corner, Joined, Links, PositionIndex};
+use guarded_reduction::{Blocked, Corner, Joined, Links, Neighbours, PositionIndex};
 use std::alloc::Global;
 
 /// Whether places are found until they go: one under the roof, and one that joins its ends.
@@ -20,13 +20,25 @@ fn are_found(
     are_both && is_other && index.find(blocked).is_none()
 }
 
+fn beside(before: u32, after: u32) -> Neighbours {
+    Neighbours { before, after }
+}
+
 fn are_found_on_the_map(alloc: Global) -> bool {
     let (a, p, c) = (Position::at(0, 0), Position::at(4, 3), Position::at(8, 0));
     let positions = [a, p, c, Position::at(4, 1), Position::at(4, 9), c, a];
+    let neighbours = [
+        beside(0, 1),
+        beside(0, 2),
+        beside(1, 2),
+        beside(3, 4),
+        beside(3, 4),
+        beside(5, 6),
+        beside(5, 6),
+    ];
     let links = Links {
         positions: &positions,
-        befores: &[0, 0, 1, 3, 3, 5, 5],
-        afters: &[1, 2, 2, 4, 4, 6, 6],
+        neighbours: &neighbours,
     };
     let corner = Corner {
         before: a,

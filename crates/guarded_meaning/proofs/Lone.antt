@@ -1,15 +1,15 @@
--- Arcs that have nothing, before others and after them, change nothing.
-use Rattle.std.proofs.Common.{◌≡◌, ℕ, zero, suc, ◌==◌, Bool, true, false, not, ◌&&◌, ◌||◌, nat_lt, List, [], ◌∷◌, ◌++◌, length, map, replicate, Option, Some, None, refl, ap, sym, ◌∙◌, subst, arith}
-use Rattle.std.proofs.lemmas.List.{map-id}
+-- Arcs that have nothing, among others, change nothing.
+use Rattle.std.proofs.Common.{◌≡◌, ℕ, zero, suc, ◌+◌, ◌==◌, Bool, true, false, not, ◌&&◌, ◌||◌, nat_lt, List, [], ◌∷◌, ◌++◌, length, map, replicate, Option, Some, None, refl, ap, sym, ◌∙◌, subst, arith}
 use Rattle.std.proofs.lemmas.List.Folds.{list_all-map}
-use Rattle.guarded_meaning.proofs.Names.{nat_tests, map-append, list_all, joined, map_some, In, Point, same, numbered, Vertex, ArcCorner, arc_corners, all_corners, Place, place_at, places, is_place_of, Neighbours, neighbours, segment_of, all_neighbours, is_pair_of, without_at, left_by, goes_before, goes, next_corner, next_arcs, eliminate_arcs, is_free, segment, same_ends, is_clear}
-use Rattle.guarded_meaning.specs.Parts.{IsClearOf, GoesFirst, StaysApart, lone, LoneApart, LoneLaw}
+use Rattle.guarded_meaning.proofs.Names.{nat_tests, nat_cmp, map-append, list_all, joined, map_some, In, Point, same, numbered, Vertex, ArcCorner, arc_corners, all_corners, Place, place_at, places, is_place_of, Neighbours, neighbours, segment_of, all_neighbours, is_pair_of, without_at, left_by, goes_before, goes, next_corner, next_arcs, eliminate_arcs, remaining_arcs, reduce_arcs, is_free, segment, same_ends, is_clear, EachTo, IsThinned}
+use Rattle.guarded_meaning.specs.Parts.{IsClearOf, GoesFirst, StaysApart, lone, LoneApart, LoneLaw, marked, chosen, spread, GapsApart, GapsLaw, GapsIndexLaw}
 use Rattle.junctions.proofs.Members.{in_map, from_map}
 use Rattle.guarded_meaning.proofs.Apart.{uncrossed, after, goes_free}
 use Rattle.guarded_meaning.proofs.First.{next_law, no_next_law, next_is, none_is_next}
-use Rattle.guarded_meaning.proofs.Neighbours.{next_neighbours, later_neighbours, own_later}
-use Rattle.guarded_meaning.proofs.Order.{next_order}
-use Rattle.guarded_meaning.proofs.Removal.{in_next_arc, later_arcs}
+use Rattle.guarded_meaning.proofs.Neighbours.{moved_neighbours, in_moved}
+use Rattle.guarded_meaning.proofs.Order.{next_cmp, moved_order}
+use Rattle.guarded_meaning.proofs.Removal.{moved, moved_arc}
+use Rattle.guarded_meaning.proofs.Thinned.{remaining_thinned}
 
 -- ---- arcs with others round them, that change nothing
 
@@ -68,26 +68,45 @@ module _ (t : ℕ) (pad : List (List Vertex) → List (List Vertex)) (move : Arc
   apart_padded others (suc n) arcs s = λ c g. each_padded (λ d. GoesFirst t (pad arcs) d → IsClearOf others d × StaysApart others t n (left_by (pad arcs) d)) arcs
       (λ d m f. let k = s d (first_padded arcs d m f) in (padding.clear others d k.0, subst (StaysApart others t n) (sym (padding.left arcs d)) (apart_padded others n (left_by arcs d) k.1))) c g.among g
 
--- ---- one before
+-- ---- in the places of set flags
 
-abbrev next_place : Place → Place
-next_place x = place_at (suc x.arc) x.vertex
+-- where the list of this number is, where lists are in the places of the set flags
+abbrev place_in : List Bool → ℕ → ℕ
+place_in [] k = k
+place_in (false ∷ bs) k = suc (place_in bs k)
+place_in (true ∷ bs) zero = zero
+place_in (true ∷ bs) (suc k) = suc (place_in bs k)
 
-later_in : (k : ℕ) (vs : List Vertex) → map (place_at (suc k)) vs ≡ map next_place (map (place_at k) vs)
-later_in k [] = refl
-later_in k (v ∷ vs) = ap (λ xs. place_at (suc k) v ∷ xs) (later_in k vs)
+place_order : (bs : List Bool) (m n : ℕ) → nat_cmp (place_in bs m) (place_in bs n) ≡ nat_cmp m n
+place_order [] m n = refl
+place_order (false ∷ bs) m n = next_cmp (place_in bs m) (place_in bs n) ∙ place_order bs m n
+place_order (true ∷ bs) zero zero = refl
+place_order (true ∷ bs) zero (suc n) = grind (arith, nat_tests)
+place_order (true ∷ bs) (suc m) zero = grind (arith, nat_tests)
+place_order (true ∷ bs) (suc m) (suc n) = next_cmp (place_in bs m) (place_in bs n) ∙ place_order bs m n ∙ sym (next_cmp m n)
 
-later_places : (k : ℕ) (arcs : List (List Vertex)) → places (suc k) arcs ≡ map next_place (places k arcs)
-later_places k [] = refl
-later_places k (vs ∷ arcs) = ap (λ xs. xs ++ places (suc (suc k)) arcs) (later_in k vs) ∙ ap (λ xs. map next_place (map (place_at k) vs) ++ xs) (later_places (suc k) arcs)
-    ∙ sym (map-append next_place (map (place_at k) vs) (places (suc k) arcs))
+same_place : (bs : List Bool) (m n : ℕ) → (place_in bs m == place_in bs n) ≡ (m == n)
+same_place bs m n = let h = place_order bs m n in grind (arith, nat_tests)
+
+-- what is made of each arc by its number is moved with it
+module _ {X : Type 0} (f : ℕ → List Vertex → List X) (all : ℕ → List (List Vertex) → List X) (none : (k : ℕ) → all k [] ≡ [])
+    (without_first : (k : ℕ) (arcs : List (List Vertex)) → all k ([] ∷ arcs) ≡ all (suc k) arcs)
+    (with_first : (k : ℕ) (vs : List Vertex) (arcs : List (List Vertex)) → all k (vs ∷ arcs) ≡ f k vs ++ all (suc k) arcs)
+    (g : ℕ → ℕ) (move : X → X) (moves : (k : ℕ) (vs : List Vertex) → f (g k) vs ≡ map move (f k vs)) where
+  first_moved : (n m : ℕ) (vs : List Vertex) (arcs more : List (List Vertex)) → n ≡ g m → all (suc n) more ≡ map move (all (suc m) arcs) → all n (vs ∷ more) ≡ map move (all m (vs ∷ arcs))
+  first_moved n m vs arcs more e h = with_first n vs more ∙ ap (λ k. f k vs ++ all (suc n) more) e ∙ ap (λ xs. xs ++ all (suc n) more) (moves m vs) ∙ ap (λ xs. map move (f m vs) ++ xs) h
+      ∙ sym (map-append move (f m vs) (all (suc m) arcs)) ∙ ap (map move) (sym (with_first m vs arcs))
+
+  all_moved : (bs : List Bool) (n m : ℕ) (arcs : List (List Vertex)) → ((i j : ℕ) → i ≡ m + j → g i ≡ n + place_in bs j) → all n (spread bs arcs) ≡ map move (all m arcs)
+  all_moved [] n m [] h = none n ∙ ap (map move) (sym (none m))
+  all_moved [] n m (vs ∷ arcs) h = first_moved n m vs arcs arcs (omega (arith, h m 0 (omega arith))) (all_moved [] (suc n) (suc m) arcs (λ i j e. omega (arith, h i (suc j) (omega (arith, e)))))
+  all_moved (false ∷ bs) n m arcs h = without_first n (spread bs arcs) ∙ all_moved bs (suc n) m arcs (λ i j e. omega (arith, h i j e))
+  all_moved (true ∷ bs) n m [] h = without_first n (spread bs []) ∙ all_moved bs (suc n) (suc m) [] (λ i j e. omega (arith, h i (suc j) (omega (arith, e)))) ∙ ap (map move) (none (suc m) ∙ sym (none m))
+  all_moved (true ∷ bs) n m (vs ∷ arcs) h = first_moved n m vs arcs (spread bs arcs) (omega (arith, h m 0 (omega arith))) (all_moved bs (suc n) (suc m) arcs (λ i j e. omega (arith, h i (suc j) (omega (arith, e)))))
 
 all_agree : {X : Type 0} (p q : X → Bool) (xs : List X) → ((x : X) → p x ≡ q x) → list_all p xs ≡ list_all q xs
 all_agree p q [] h = refl
 all_agree p q (x ∷ xs) h = rw (h x, all_agree p q xs h) refl
-
-place_later : (c : ArcCorner) (x : Place) → is_place_of (in_next_arc c) (next_place x) ≡ is_place_of c x
-place_later c x = let h : (suc x.arc == suc c.arc) ≡ (x.arc == c.arc) = grind (arith, nat_tests) in ap (λ b. b && (x.vertex.index == c.corner.index)) h
 
 abbrev clear_at : ArcCorner → Place → Bool
 clear_at c x = is_place_of c x || is_clear c.before c.corner.point c.after x.vertex.point
@@ -95,87 +114,123 @@ clear_at c x = is_place_of c x || is_clear c.before c.corner.point c.after x.ver
 abbrev open_at : ArcCorner → Neighbours → Bool
 open_at c n = is_pair_of c n || not (same_ends (segment c.before c.after) (segment_of n))
 
-free_later : (arcs : List (List Vertex)) (c : ArcCorner) → is_free ([] ∷ arcs) (in_next_arc c) ≡ is_free arcs c
-unfolding is_free
-free_later arcs c =
-    let e : list_all (clear_at (in_next_arc c)) (places 1 arcs) ≡ list_all (clear_at c) (places 0 arcs) = ap (list_all (clear_at (in_next_arc c))) (later_places 0 arcs) ∙ list_all-map (clear_at (in_next_arc c)) next_place (places 0 arcs)
-    ∙ all_agree (λ x. clear_at (in_next_arc c) (next_place x)) (clear_at c) (places 0 arcs) (λ x. ap (λ b. b || is_clear c.before c.corner.point c.after x.vertex.point) (place_later c x)) in
-    let f : list_all (open_at (in_next_arc c)) (all_neighbours 1 arcs) ≡ list_all (open_at c) (all_neighbours 0 arcs) = ap (list_all (open_at (in_next_arc c))) (later_neighbours 0 arcs) ∙ list_all-map (open_at (in_next_arc c)) next_neighbours (all_neighbours 0 arcs)
-    ∙ all_agree (λ n. open_at (in_next_arc c) (next_neighbours n)) (open_at c) (all_neighbours 0 arcs) (λ n. ap (λ b. b || not (same_ends (segment c.before c.after) (segment_of n))) (own_later c n)) in
-    ap (λ b. b && (same c.before c.after || list_all (open_at (in_next_arc c)) (all_neighbours 1 arcs))) e ∙ ap (λ b. list_all (clear_at c) (places 0 arcs) && (same c.before c.after || b)) f
+abbrev moved_place : (ℕ → ℕ) → Place → Place
+moved_place g x = place_at (g x.arc) x.vertex
 
-abbrev one_before : List (List Vertex) → List (List Vertex)
-one_before arcs = [] ∷ arcs
+moved_places : (g : ℕ → ℕ) (k : ℕ) (vs : List Vertex) → map (place_at (g k)) vs ≡ map (moved_place g) (map (place_at k) vs)
+moved_places g k [] = refl
+moved_places g k (v ∷ vs) = ap (λ xs. place_at (g k) v ∷ xs) (moved_places g k vs)
 
-before_changes_nothing : IsPadding one_before in_next_arc
-before_changes_nothing = record {
-  corners = later_arcs 0;
-  free = free_later;
+module _ (bs : List Bool) where
+  abbrev here : ℕ → ℕ
+  here = place_in bs
+
+  at_start : (i j : ℕ) → i ≡ 0 + j → here i ≡ 0 + here j
+  at_start i j e = let d : i ≡ j = omega (arith, e) in omega (arith, ap here d)
+
+  corners_spread : (arcs : List (List Vertex)) → all_corners 0 (spread bs arcs) ≡ map (moved here) (all_corners 0 arcs)
+  corners_spread arcs = all_moved arc_corners all_corners (λ k. refl) (λ k more. refl) (λ k vs more. refl) here (moved here) (moved_arc here) bs 0 0 arcs at_start
+
+  clear_spread : (arcs : List (List Vertex)) (c : ArcCorner) → list_all (clear_at (moved here c)) (places 0 (spread bs arcs)) ≡ list_all (clear_at c) (places 0 arcs)
+  clear_spread arcs c =
+      ap (list_all (clear_at (moved here c))) (all_moved (λ k vs. map (place_at k) vs) places (λ k. refl) (λ k more. refl) (λ k vs more. refl) here (moved_place here) (moved_places here) bs 0 0 arcs at_start)
+      ∙ list_all-map (clear_at (moved here c)) (moved_place here) (places 0 arcs)
+      ∙ all_agree (λ x. clear_at (moved here c) (moved_place here x)) (clear_at c) (places 0 arcs)
+      (λ x. ap (λ b. (b && (x.vertex.index == c.corner.index)) || is_clear c.before c.corner.point c.after x.vertex.point) (same_place bs x.arc c.arc))
+
+  open_spread : (arcs : List (List Vertex)) (c : ArcCorner) → list_all (open_at (moved here c)) (all_neighbours 0 (spread bs arcs)) ≡ list_all (open_at c) (all_neighbours 0 arcs)
+  open_spread arcs c =
+      ap (list_all (open_at (moved here c))) (all_moved neighbours all_neighbours (λ k. refl) (λ k more. refl) (λ k vs more. refl) here (moved_neighbours here) (in_moved here) bs 0 0 arcs at_start)
+      ∙ list_all-map (open_at (moved here c)) (moved_neighbours here) (all_neighbours 0 arcs)
+      ∙ all_agree (λ n. open_at (moved here c) (moved_neighbours here n)) (open_at c) (all_neighbours 0 arcs)
+      (λ n. ap (λ b. (b && ((n.from.index == c.corner.index) || (n.to.index == c.corner.index))) || not (same_ends (segment c.before c.after) (segment_of n))) (same_place bs n.arc c.arc))
+
+  free_spread : (arcs : List (List Vertex)) (c : ArcCorner) → is_free (spread bs arcs) (moved here c) ≡ is_free arcs c
+  unfolding is_free
+  free_spread arcs c = ap (λ b. b && (same c.before c.after || list_all (open_at (moved here c)) (all_neighbours 0 (spread bs arcs)))) (clear_spread arcs c)
+      ∙ ap (λ b. list_all (clear_at c) (places 0 arcs) && (same c.before c.after || b)) (open_spread arcs c)
+
+left_spread : (bs : List Bool) (k i : ℕ) (arcs : List (List Vertex)) → without_at (place_in bs k) i (spread bs arcs) ≡ spread bs (without_at k i arcs)
+left_spread [] k i arcs = refl
+left_spread (false ∷ bs) k i arcs = ap (λ more. [] ∷ more) (left_spread bs k i arcs)
+left_spread (true ∷ bs) zero i [] = refl
+left_spread (true ∷ bs) (suc k) i [] = ap (λ more. [] ∷ more) (left_spread bs k i [])
+left_spread (true ∷ bs) zero i (vs ∷ arcs) = refl
+left_spread (true ∷ bs) (suc k) i (vs ∷ arcs) = ap (λ more. vs ∷ more) (left_spread bs k i arcs)
+
+gaps_change_nothing : (bs : List Bool) → IsPadding (spread bs) (moved (place_in bs))
+gaps_change_nothing bs = record {
+  corners = corners_spread bs;
+  free = free_spread bs;
   area = λ c. refl;
-  order = next_order;
-  left = λ arcs c. refl;
+  order = moved_order (place_in bs) (place_order bs);
+  left = λ arcs c. left_spread bs c.arc c.corner.index arcs;
   clear = λ others c h. record { places = h.places; ends = h.ends };
 }
 
--- ---- some after
+-- ---- arcs that are spread
 
-no_corners_after : (k m : ℕ) (arcs : List (List Vertex)) → all_corners k (arcs ++ replicate m []) ≡ all_corners k arcs
-no_corners_after k zero [] = refl
-no_corners_after k (suc m) [] = no_corners_after (suc k) m []
-no_corners_after k m (vs ∷ arcs) = ap (λ cs. arc_corners k vs ++ cs) (no_corners_after (suc k) m arcs)
+map_spread : {X Y : Type 0} (f : List X → List Y) → f [] ≡ [] → (bs : List Bool) (xss : List (List X)) → map f (spread bs xss) ≡ spread bs (map f xss)
+map_spread f e [] xss = refl
+map_spread f e (false ∷ bs) xss = ap (λ ys. ys ∷ map f (spread bs xss)) e ∙ ap (λ yss. [] ∷ yss) (map_spread f e bs xss)
+map_spread f e (true ∷ bs) [] = ap (λ ys. ys ∷ map f (spread bs [])) e ∙ ap (λ yss. [] ∷ yss) (map_spread f e bs [])
+map_spread f e (true ∷ bs) (xs ∷ xss) = ap (λ yss. f xs ∷ yss) (map_spread f e bs xss)
 
-no_places_after : (k m : ℕ) (arcs : List (List Vertex)) → places k (arcs ++ replicate m []) ≡ places k arcs
-no_places_after k zero [] = refl
-no_places_after k (suc m) [] = no_places_after (suc k) m []
-no_places_after k m (vs ∷ arcs) = ap (λ xs. map (place_at k) vs ++ xs) (no_places_after (suc k) m arcs)
+joined_spread : (bs : List Bool) (arcs : List (List Point)) → joined (spread bs arcs) ≡ joined arcs
+joined_spread [] arcs = refl
+joined_spread (false ∷ bs) arcs = joined_spread bs arcs
+joined_spread (true ∷ bs) [] = joined_spread bs []
+joined_spread (true ∷ bs) (ps ∷ arcs) = ap (λ qs. ps ++ qs) (joined_spread bs arcs)
 
-no_neighbours_after : (k m : ℕ) (arcs : List (List Vertex)) → all_neighbours k (arcs ++ replicate m []) ≡ all_neighbours k arcs
-no_neighbours_after k zero [] = refl
-no_neighbours_after k (suc m) [] = no_neighbours_after (suc k) m []
-no_neighbours_after k m (vs ∷ arcs) = ap (λ ns. neighbours k vs ++ ns) (no_neighbours_after (suc k) m arcs)
+spread_apart : (others : List (List Point)) (bs : List Bool) (t n : ℕ) (arcs : List (List Point)) → StaysApart others t n (map (numbered 0) arcs) → StaysApart others t n (map (numbered 0) (spread bs arcs))
+spread_apart others bs t n arcs s = subst (StaysApart others t n) (sym (map_spread (numbered 0) refl bs arcs))
+    (apart_padded t (spread bs) (moved (place_in bs)) (gaps_change_nothing bs) others n (map (numbered 0) arcs) s)
 
-left_after : (k i m : ℕ) (arcs : List (List Vertex)) → without_at k i (arcs ++ replicate m []) ≡ without_at k i arcs ++ replicate m []
-left_after k i zero [] = refl
-left_after zero i (suc m) [] = refl
-left_after (suc k) i (suc m) [] = ap (λ more. [] ∷ more) (left_after k i m [])
-left_after zero i m (vs ∷ arcs) = refl
-left_after (suc k) i m (vs ∷ arcs) = ap (λ more. vs ∷ more) (left_after k i m arcs)
+spread_law : (bs : List Bool) (t : ℕ) (arcs : List (List Point)) → remaining_arcs uncrossed t (spread bs arcs) ≡ spread bs (remaining_arcs uncrossed t arcs)
+spread_law bs t arcs = ap (λ n. eliminate_arcs uncrossed n t (map (numbered 0) (spread bs arcs))) (ap length (joined_spread bs arcs))
+    ∙ ap (eliminate_arcs uncrossed (length (joined arcs)) t) (map_spread (numbered 0) refl bs arcs)
+    ∙ eliminate_padded t (spread bs) (moved (place_in bs)) (gaps_change_nothing bs) (length (joined arcs)) (map (numbered 0) arcs)
 
-free_after : (m : ℕ) (arcs : List (List Vertex)) (c : ArcCorner) → is_free (arcs ++ replicate m []) c ≡ is_free arcs c
-unfolding is_free
-free_after m arcs c = ap (λ xs. list_all (clear_at c) xs && (same c.before c.after || list_all (open_at c) (all_neighbours 0 (arcs ++ replicate m [])))) (no_places_after 0 m arcs)
-    ∙ ap (λ ns. list_all (clear_at c) (places 0 arcs) && (same c.before c.after || list_all (open_at c) ns)) (no_neighbours_after 0 m arcs)
+-- ---- the marked arcs
 
-abbrev some_after : ℕ → List (List Vertex) → List (List Vertex)
-some_after m arcs = arcs ++ replicate m []
+marked_spread : {X : Type 0} (bs : List Bool) (arcs : List (List X)) → length bs ≡ length arcs → marked bs arcs ≡ spread bs (chosen bs arcs)
+marked_spread [] [] h = refl
+marked_spread [] (xs ∷ arcs) h = absurd (omega (arith, h))
+marked_spread (b ∷ bs) [] h = absurd (omega (arith, h))
+marked_spread (true ∷ bs) (xs ∷ arcs) h = ap (λ more. xs ∷ more) (marked_spread bs arcs (omega (arith, h)))
+marked_spread (false ∷ bs) (xs ∷ arcs) h = ap (λ more. [] ∷ more) (marked_spread bs arcs (omega (arith, h)))
 
-after_changes_nothing : (m : ℕ) → IsPadding (some_after m) (λ c. c)
-after_changes_nothing m = record {
-  corners = λ arcs. no_corners_after 0 m arcs ∙ sym (map-id (all_corners 0 arcs));
-  free = free_after m;
-  area = λ c. refl;
-  order = λ c d. refl;
-  left = λ arcs c. left_after c.arc c.corner.index m arcs;
-  clear = λ others c h. h;
-}
+pub gaps_apart : GapsApart
+gaps_apart others bs t n arcs h s = subst (λ own. StaysApart others t n (map (numbered 0) own)) (sym (marked_spread bs arcs h)) (spread_apart others bs t n (chosen bs arcs) s)
 
--- ---- both
+pub gaps_law : GapsLaw
+gaps_law bs t arcs h = ap (remaining_arcs uncrossed t) (marked_spread bs arcs h) ∙ spread_law bs t (chosen bs arcs)
 
-none_numbered : (m : ℕ) → map (numbered 0) (replicate m []) ≡ replicate m []
-none_numbered zero = refl
-none_numbered (suc m) = ap (λ more. [] ∷ more) (none_numbered m)
+pub gaps_index_law : GapsIndexLaw
+unfolding reduce_arcs
+gaps_index_law bs t arcs h = ap (map (map (λ v. v.index))) (gaps_law bs t arcs h) ∙ map_spread (map (λ v. v.index)) refl bs (remaining_arcs uncrossed t (chosen bs arcs))
 
-none_joined : (m : ℕ) (ps : List Point) → joined (ps ∷ replicate m []) ≡ joined (ps ∷ [])
-none_joined zero ps = refl
-none_joined (suc m) ps = none_joined m ps
+-- ---- one arc
+
+abbrev one_of : ℕ → ℕ → List Bool
+one_of k m = replicate k false ++ (true ∷ replicate m false)
+
+none_spread : {X : Type 0} (m : ℕ) → spread {X = X} (replicate m false) [] ≡ replicate m []
+none_spread zero = refl
+none_spread (suc m) = ap (λ more. [] ∷ more) (none_spread m)
+
+lone_spread : {X : Type 0} (k m : ℕ) (xs : List X) → spread (one_of k m) (xs ∷ []) ≡ lone k m xs
+lone_spread zero m xs = ap (λ more. xs ∷ more) (none_spread m)
+lone_spread (suc k) m xs = ap (λ more. [] ∷ more) (lone_spread k m xs)
+
+one_left : (k m : ℕ) (vs : List Vertex) (arcs : List (List Vertex)) → EachTo IsThinned arcs (vs ∷ []) → spread (one_of k m) arcs ≡ replicate k [] ++ (arcs ++ replicate m [])
+one_left k m vs [] h = absurd h
+one_left k m vs (ws ∷ []) h = lone_spread k m ws
+one_left k m vs (ws ∷ (xs ∷ arcs)) h = absurd h.1
 
 pub lone_apart : LoneApart
-lone_apart others t n zero m ps s = subst (λ vss. StaysApart others t n (numbered 0 ps ∷ vss)) (sym (none_numbered m))
-    (apart_padded t (some_after m) (λ c. c) (after_changes_nothing m) others n (numbered 0 ps ∷ []) s)
-lone_apart others t n (suc k) m ps s = apart_padded t one_before in_next_arc before_changes_nothing others n (map (numbered 0) (lone k m ps)) (lone_apart others t n k m ps s)
+lone_apart others t n k m ps s = subst (λ own. StaysApart others t n (map (numbered 0) own)) (lone_spread k m ps) (spread_apart others (one_of k m) t n (ps ∷ []) s)
 
 pub lone_law : LoneLaw
-lone_law t zero m ps = ap (λ n. eliminate_arcs uncrossed n t (numbered 0 ps ∷ map (numbered 0) (replicate m []))) (ap length (none_joined m ps))
-    ∙ ap (λ vss. eliminate_arcs uncrossed (length (joined (ps ∷ []))) t (numbered 0 ps ∷ vss)) (none_numbered m)
-    ∙ eliminate_padded t (some_after m) (λ c. c) (after_changes_nothing m) (length (joined (ps ∷ []))) (numbered 0 ps ∷ [])
-lone_law t (suc k) m ps = eliminate_padded t one_before in_next_arc before_changes_nothing (length (joined (lone k m ps))) (map (numbered 0) (lone k m ps)) ∙ ap (λ more. [] ∷ more) (lone_law t k m ps)
+lone_law t k m ps = ap (remaining_arcs uncrossed t) (sym (lone_spread k m ps)) ∙ spread_law (one_of k m) t (ps ∷ [])
+    ∙ one_left k m (numbered 0 ps) (remaining_arcs uncrossed t (ps ∷ [])) (remaining_thinned uncrossed t (ps ∷ []))

@@ -80,20 +80,23 @@ not_own : (c : ArcCorner) (j : Neighbours) → (j.from.index ≢ c.corner.index)
 not_own c j h = and_right (j.arc == c.arc) ((j.from.index == c.corner.index) || (j.to.index == c.corner.index))
     (or_from (j.from.index == c.corner.index) (j.to.index == c.corner.index) (ne_eqb j.from.index c.corner.index h.0) (ne_eqb j.to.index c.corner.index h.1))
 
-abbrev pub next_neighbours : Neighbours → Neighbours
-next_neighbours j = neighbours_at (suc j.arc) j.from j.to
+abbrev pub moved_neighbours : (ℕ → ℕ) → Neighbours → Neighbours
+moved_neighbours g j = neighbours_at (g j.arc) j.from j.to
 
-from_next : (k : ℕ) (a : Vertex) (vs : List Vertex) → neighbours_from (suc k) a vs ≡ map next_neighbours (neighbours_from k a vs)
-from_next k a [] = refl
-from_next k a (b ∷ vs) = ap (λ js. neighbours_at (suc k) a b ∷ js) (from_next k b vs)
+abbrev next_neighbours : Neighbours → Neighbours
+next_neighbours = moved_neighbours suc
 
-in_next : (k : ℕ) (vs : List Vertex) → neighbours (suc k) vs ≡ map next_neighbours (neighbours k vs)
-in_next k [] = refl
-in_next k (a ∷ vs) = from_next k a vs
+from_moved : (g : ℕ → ℕ) (k : ℕ) (a : Vertex) (vs : List Vertex) → neighbours_from (g k) a vs ≡ map (moved_neighbours g) (neighbours_from k a vs)
+from_moved g k a [] = refl
+from_moved g k a (b ∷ vs) = ap (λ js. neighbours_at (g k) a b ∷ js) (from_moved g k b vs)
 
-pub later_neighbours : (k : ℕ) (arcs : List (List Vertex)) → all_neighbours (suc k) arcs ≡ map next_neighbours (all_neighbours k arcs)
+pub in_moved : (g : ℕ → ℕ) (k : ℕ) (vs : List Vertex) → neighbours (g k) vs ≡ map (moved_neighbours g) (neighbours k vs)
+in_moved g k [] = refl
+in_moved g k (a ∷ vs) = from_moved g k a vs
+
+later_neighbours : (k : ℕ) (arcs : List (List Vertex)) → all_neighbours (suc k) arcs ≡ map next_neighbours (all_neighbours k arcs)
 later_neighbours k [] = refl
-later_neighbours k (vs ∷ arcs) = ap (λ js. js ++ all_neighbours (suc (suc k)) arcs) (in_next k vs) ∙ ap (λ js. map next_neighbours (neighbours k vs) ++ js) (later_neighbours (suc k) arcs)
+later_neighbours k (vs ∷ arcs) = ap (λ js. js ++ all_neighbours (suc (suc k)) arcs) (in_moved suc k vs) ∙ ap (λ js. map next_neighbours (neighbours k vs) ++ js) (later_neighbours (suc k) arcs)
     ∙ sym (map-append next_neighbours (neighbours k vs) (all_neighbours (suc k) arcs))
 
 -- the number of their arc
@@ -146,7 +149,7 @@ parted_at vs arcs front a p d back own was is =
 parted_first : (vs : List Vertex) (arcs : List (List Vertex)) (c : ArcCorner) → HasOwnIndexes vs → IsTaken 0 vs c → AreParted (vs ∷ arcs) c
 parted_first vs arcs c own t = subst (AreParted (vs ∷ arcs)) (sym t.at) (parted_at vs arcs t.front t.a t.p t.d t.back own t.was t.is)
 
-pub own_later : (c : ArcCorner) (j : Neighbours) → is_pair_of (in_next_arc c) (next_neighbours j) ≡ is_pair_of c j
+own_later : (c : ArcCorner) (j : Neighbours) → is_pair_of (in_next_arc c) (next_neighbours j) ≡ is_pair_of c j
 own_later c j = let h : (suc j.arc == suc c.arc) ≡ (j.arc == c.arc) = grind (arith, nat_tests) in ap (λ b. b && ((j.from.index == c.corner.index) || (j.to.index == c.corner.index))) h
 
 none_own : (c : ArcCorner) (js : List Neighbours) → AllByRecursion (λ j. is_pair_of c j ≡ false) js → AllByRecursion (λ j. is_pair_of (in_next_arc c) j ≡ false) (map next_neighbours js)

@@ -6,7 +6,7 @@ use Rattle.std.proofs.lemmas.Cmp.{on_total, then_total, nat_cmp_total, int_cmp_t
 use Rattle.std.proofs.lemmas.List.MinMax.{ranks_by}
 use Rattle.geometry.specs.Order.{point_cmp}
 use Rattle.guarded_meaning.proofs.Kept.{first_holds}
-use Rattle.guarded_meaning.proofs.Removal.{in_next_arc}
+use Rattle.guarded_meaning.proofs.Removal.{moved, in_next_arc}
 
 pub arc_corner_total : IsTotalOrder arc_corner_cmp
 arc_corner_total = then_total (on_total (λ c. c.corner.area) nat_cmp_total) (then_total
@@ -53,16 +53,16 @@ least_first k (c ∷ cs) h = ap (lesser (Some c.corner)) (least_first k cs h.1) 
 
 -- ---- where another arc comes first
 
-next_cmp : (m n : ℕ) → nat_cmp (suc m) (suc n) ≡ nat_cmp m n
+pub next_cmp : (m n : ℕ) → nat_cmp (suc m) (suc n) ≡ nat_cmp m n
 next_cmp m n = grind (arith, nat_tests)
 
-pub next_order : (c d : ArcCorner) → goes_before (in_next_arc d) (in_next_arc c) ≡ goes_before d c
+pub moved_order : (g : ℕ → ℕ) → ((m n : ℕ) → nat_cmp (g m) (g n) ≡ nat_cmp m n) → (c d : ArcCorner) → goes_before (moved g d) (moved g c) ≡ goes_before d c
 unfolding goes_before
-next_order c d = ap (λ o. is_lt (ordering_then (nat_cmp d.corner.area c.corner.area) (ordering_then (point_cmp d.corner.point c.corner.point) (ordering_then o (nat_cmp d.corner.index c.corner.index))))) (next_cmp d.arc c.arc)
+moved_order g h c d = ap (λ o. is_lt (ordering_then (nat_cmp d.corner.area c.corner.area) (ordering_then (point_cmp d.corner.point c.corner.point) (ordering_then o (nat_cmp d.corner.index c.corner.index))))) (h d.arc c.arc)
 
 earlier_next : (c : ArcCorner) (o : Option ArcCorner) → earlier (Some (in_next_arc c)) (map_some in_next_arc o) ≡ map_some in_next_arc (earlier (Some c) o)
 earlier_next c None = refl
-earlier_next c (Some d) = ap (λ b. Some (if b then in_next_arc d else in_next_arc c)) (next_order c d) ∙ ap Some (chosen_of in_next_arc (goes_before d c) d c)
+earlier_next c (Some d) = ap (λ b. Some (if b then in_next_arc d else in_next_arc c)) (moved_order suc next_cmp c d) ∙ ap Some (chosen_of in_next_arc (goes_before d c) d c)
 
 pub first_next : (cs : List ArcCorner) → first_corner (map in_next_arc cs) ≡ map_some in_next_arc (first_corner cs)
 first_next [] = refl

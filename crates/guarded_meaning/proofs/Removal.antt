@@ -66,21 +66,25 @@ all_taken k (a ∷ (b ∷ vs)) h = taken_from k a b vs h
 -- ---- several arcs
 
 -- the same corner, where another arc comes first
+-- a corner whose arc has another number
+abbrev pub moved : (ℕ → ℕ) → ArcCorner → ArcCorner
+moved g c = record { arc = g c.arc; before = c.before; corner = c.corner; after = c.after }
+
 abbrev pub in_next_arc : ArcCorner → ArcCorner
-in_next_arc c = record { arc = suc c.arc; before = c.before; corner = c.corner; after = c.after }
+in_next_arc = moved suc
 
-next_arc_from : (k : ℕ) (a b : Vertex) (vs : List Vertex) → arc_corners_from (suc k) a b vs ≡ map in_next_arc (arc_corners_from k a b vs)
-next_arc_from k a b [] = refl
-next_arc_from k a b (c ∷ vs) = ap (λ cs. arc_corner_at (suc k) a b c ∷ cs) (next_arc_from k b c vs)
+moved_from : (g : ℕ → ℕ) (k : ℕ) (a b : Vertex) (vs : List Vertex) → arc_corners_from (g k) a b vs ≡ map (moved g) (arc_corners_from k a b vs)
+moved_from g k a b [] = refl
+moved_from g k a b (c ∷ vs) = ap (λ cs. arc_corner_at (g k) a b c ∷ cs) (moved_from g k b c vs)
 
-next_arc : (k : ℕ) (vs : List Vertex) → arc_corners (suc k) vs ≡ map in_next_arc (arc_corners k vs)
-next_arc k [] = refl
-next_arc k (a ∷ []) = refl
-next_arc k (a ∷ (b ∷ vs)) = next_arc_from k a b vs
+pub moved_arc : (g : ℕ → ℕ) (k : ℕ) (vs : List Vertex) → arc_corners (g k) vs ≡ map (moved g) (arc_corners k vs)
+moved_arc g k [] = refl
+moved_arc g k (a ∷ []) = refl
+moved_arc g k (a ∷ (b ∷ vs)) = moved_from g k a b vs
 
 pub later_arcs : (k : ℕ) (arcs : List (List Vertex)) → all_corners (suc k) arcs ≡ map in_next_arc (all_corners k arcs)
 later_arcs k [] = refl
-later_arcs k (vs ∷ arcs) = ap (λ cs. cs ++ all_corners (suc (suc k)) arcs) (next_arc k vs) ∙ ap (λ cs. map in_next_arc (arc_corners k vs) ++ cs) (later_arcs (suc k) arcs)
+later_arcs k (vs ∷ arcs) = ap (λ cs. cs ++ all_corners (suc (suc k)) arcs) (moved_arc suc k vs) ∙ ap (λ cs. map in_next_arc (arc_corners k vs) ++ cs) (later_arcs (suc k) arcs)
     ∙ sym (map-append in_next_arc (arc_corners k vs) (all_corners (suc k) arcs))
 
 -- ---- indexes stay distinct

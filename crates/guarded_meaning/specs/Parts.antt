@@ -75,6 +75,32 @@ unmarked bs [] = []
 unmarked [] (xs ∷ arcs) = xs ∷ unmarked [] arcs
 unmarked (b ∷ bs) (xs ∷ arcs) = (if b then [] else xs) ∷ unmarked bs arcs
 
+-- the elements whose flags are set, in order
+abbrev pub chosen : {X : Type 0} → List Bool → List X → List X
+chosen bs [] = []
+chosen [] (x ∷ xs) = []
+chosen (b ∷ bs) (x ∷ xs) = if b then x ∷ chosen bs xs else chosen bs xs
+
+-- the lists in the places of the set flags, with nothing in the other places; those that have no flag are last
+abbrev pub spread : {X : Type 0} → List Bool → List (List X) → List (List X)
+spread [] xss = xss
+spread (false ∷ bs) xss = [] ∷ spread bs xss
+spread (true ∷ bs) [] = [] ∷ spread bs []
+spread (true ∷ bs) (xs ∷ xss) = xs ∷ spread bs xss
+
+-- the marked arcs, where the others have nothing, are reduced as they are by themselves
+abbrev pub GapsApart : Type 0
+GapsApart = (others : List (List Point)) (bs : List Bool) (t n : ℕ) (arcs : List (List Point)) → length bs ≡ length arcs →
+    StaysApart others t n (map (numbered 0) (chosen bs arcs)) → StaysApart others t n (map (numbered 0) (marked bs arcs))
+
+abbrev pub GapsLaw : Type 0
+GapsLaw = (bs : List Bool) (t : ℕ) (arcs : List (List Point)) → length bs ≡ length arcs →
+    remaining_arcs (guarded_by true []) t (marked bs arcs) ≡ spread bs (remaining_arcs (guarded_by true []) t (chosen bs arcs))
+
+abbrev pub GapsIndexLaw : Type 0
+GapsIndexLaw = (bs : List Bool) (t : ℕ) (arcs : List (List Point)) → length bs ≡ length arcs →
+    reduce_arcs (guarded_by true []) t (marked bs arcs) ≡ spread bs (reduce_arcs (guarded_by true []) t (chosen bs arcs))
+
 -- of so many arcs the one of this number is marked
 abbrev pub mark_of : ℕ → ℕ → List Bool
 mark_of n k = slice_set (replicate n false) k true

@@ -8,7 +8,7 @@ ghost use Rattle.linework.specs.Outlines.{IsRingIfClosed, clean_outline, is_shor
 
 use crate::cleaning::without_repeats;
 use geometry::{Address, AddressPath, Position};
-use junctions::{Lines, Stroke};
+use junctions::{Lines, Stroke, is_short};
 use owned_values::{Items, Memory};
 use std::alloc::Global;
 
@@ -60,14 +60,4 @@ fn add_outline(
         positions,
     })?;
     Ok(false)
-}
-
-/// Whether a line has fewer than two positions, or a ring fewer than four.
-fn is_short(closed: bool, positions: &[Position]) -> bool
-    ensures { result ≡ spec.is_short closed positions.now }
-{
-    if closed {
-        return positions.len() < 4;
-    }
-    positions.len() < 2
 }

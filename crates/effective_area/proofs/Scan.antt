@@ -1,13 +1,15 @@
 -- A scan over the corners of the indexes that are present.
-use Rattle.std.proofs.Common.{◌≡◌, ℕ, zero, suc, ◌+◌, ◌-◌, ◌<◌, ◌≤◌, List, [], ◌∷◌, ◌++◌, Option, Some, None, length, map, take, get_or, refl, true, false, cond, not, eqb, ltb, ap, sym, ◌∙◌, arith, append_assoc}
-use Rattle.std.proofs.lemmas.List.{take_more, map-append}
+use Rattle.std.proofs.Common.{◌≡◌, ℕ, zero, suc, ◌+◌, ◌-◌, ◌<◌, ◌≤◌, List, [], ◌∷◌, ◌++◌, Option, Some, None, length, map, take, get_or, refl, true, false, cond, not, eqb, ltb, ap, sym, ◌∙◌, arith, append_assoc, subst}
+use Rattle.std.proofs.lemmas.List.{take_more, map-append, length-map}
 use Rattle.geometry.specs.Areas.{twice_area}
 use Rattle.geometry.specs.Points.{Point}
 use Rattle.std.specs.List.{filter, range_with_len, All}
 use Rattle.std.proofs.lemmas.List.FromFn.{length-range_with_len, get_or-range_with_len}
-use Rattle.elimination_meaning.specs.Elimination.{Vertex, Corner, corner_at, corners, lesser, least, without, without_under, eliminate, numbered, reduce}
+use Rattle.elimination_meaning.specs.Elimination.{Vertex, Corner, corner_at, corners, lesser, least, without, without_under, next, eliminate, numbered, reduce}
 use Rattle.effective_area.specs.Vertices.{origin, vertex_at, vertices}
+use Rattle.elimination_meaning.proofs.Enough.{next_shorter}
 use Rattle.elimination_meaning.proofs.Order.{least_append}
+use Rattle.elimination_meaning.proofs.Steps.{Holds}
 use Rattle.elimination_meaning.proofs.Turned.{corners_split, go_on}
 use Rattle.std.proofs.lemmas.Bool.Decides.{nat_tests}
 
@@ -114,6 +116,17 @@ turn_rest t turn ps is ks js c h k e u f r =
     ∙ sym (step_some (length ps - (turn + 1)) t (vertices ps is) c e' u)
     ∙ sym (ap (λ n. eliminate n t (vertices ps is)) z)
     ∙ r
+
+-- what is taken out leaves fewer
+pub turn_shorter : (t : ℕ) (ps : List Point) (is ks js : List ℕ) (c : Corner) → ks ≡ is →
+    Some c ≡ least (corners (vertices ps ks)) → c.area < t → js ≡ filter (λ j. not (eqb j c.index)) is → length js < length is
+turn_shorter t ps is ks js c k e u f =
+    let vs = vertices ps is in
+    let e' : Some c ≡ least (corners vs) = e ∙ ap (λ l. least (corners (vertices ps l))) k in
+    let n : next t vs ≡ Some (without c.index vs) = ap (without_under t vs) (sym e') ∙ ap (λ b. cond b (Some (without c.index vs)) None) (lt_test c.area t u) in
+    let h : length (without c.index vs) < length vs = subst (Holds (λ ws. length ws < length vs)) n (next_shorter t vs) in
+    let m : length (without c.index vs) ≡ length js = ap length (without_vertices ps c.index is) ∙ length-map (filter (λ j. not (eqb j c.index)) is) (vertex_at ps) ∙ sym (ap length f) in
+    omega (arith, h, m, length-map is (vertex_at ps))
 
 pub stop_over : (t n : ℕ) (ps : List Point) (is ks : List ℕ) (c : Corner) → ks ≡ is → Some c ≡ least (corners (vertices ps ks)) → t ≤ c.area →
     eliminate n t (vertices ps is) ≡ eliminate (length ps) t (numbered 0 ps) → is ≡ reduce t ps

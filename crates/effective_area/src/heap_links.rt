@@ -14,6 +14,7 @@ use crate::indexes::all_indexes;
 use crate::links::{Link, present, short};
 use crate::queue::put_corner;
 use crate::reducer::Reducer;
+use crate::rescan::rescanned;
 use crate::steps::Steps;
 use crate::taking::take_first;
 use geometry::Position;
@@ -25,6 +26,10 @@ use std::marker::Model;
 /// The greatest room, in entries, of the lists that are kept for the next line: 32 KiB at most. What a long line took is given back,
 /// and short ones allocate nothing but their answers.
 const KEPT_ROOM: usize = 1024;
+
+/// The most positions of a line whose corners are all looked through for each that goes, which takes less time than links and a queue of so few.
+/// Up to it three areas for each position between the ends are enough.
+const MOST_RESCANNED: usize = 7;
 
 /// Fills the list with the corners of a whole line that are due.
 fn first_entries(
@@ -229,6 +234,9 @@ impl Reducer for HeapLinks {
         self.calls = self.calls.and(arc, t);
         if t == 0 {
             return all_indexes(alloc, arc.len());
+        }
+        if arc.len() <= MOST_RESCANNED {
+            return rescanned(alloc, &mut self.steps, arc, t);
         }
         let buffers = self.buffers.get_or_insert_with(|| Buffers::new(alloc));
         let kept = buffers.kept(alloc, &mut self.steps, arc, t);

@@ -1,6 +1,7 @@
-ghost use Rattle.std.specs.Prelude.{◌≡◌, ℕ, ◌<◌, [], All, length, not, ◌==◌, Some};
+ghost use Rattle.std.specs.Prelude.{◌≡◌, ℕ, ◌-◌, ◌<◌, ◌≤◌, [], All, IfOk, length, not, ◌==◌, Some};
 ghost use Rattle.std.specs.List.{filter};
-ghost use Rattle.elimination_meaning.specs.Elimination.{corners, least, lesser};
+ghost use Rattle.elimination_meaning.specs.Elimination.{corners, least, lesser, reduce};
+ghost use Rattle.effective_area.specs.Counts.{AreasRose, RoseBy, rescanned_areas};
 ghost use Rattle.effective_area.specs.Vertices.{candidate_corner, vertices};
 ghost use Rattle.geometry.specs.Lists.{map_some};
 
@@ -28,7 +29,9 @@ fn first(best: Option<Candidate>, candidate: Candidate) -> Candidate
 /// The candidate that goes first of all.
 fn least_corner(steps: &mut Steps, arc: &[Position], present: &[usize]) -> Option<Candidate>
     requires { All (λ i. i < length arc.now) present.now }
-    ensures { map_some candidate_corner result ≡ least (corners (vertices arc.now present.now)) }
+    ensures least { map_some candidate_corner result ≡ least (corners (vertices arc.now present.now)) }
+    ensures counted { RoseBy (length present.now - 2) 0 steps.old steps.new }
+    ensures computed { AreasRose (length present.now - 2) steps.old steps.new }
 {
     if present.len() < 3 {
         return None;
@@ -48,6 +51,29 @@ fn take_out(present: &mut Vec<usize>, index: usize)
     ensures { present.new.items ≡ filter (λ i. not (i == index)) present.old.items }
 {
     present.retain(move |i| !(*i == index));
+}
+
+/// The indexes that stay, by looks through all corners of the line, one for each position that goes and one that finds none to go.
+pub fn rescanned(
+    alloc: Global,
+    steps: &mut Steps,
+    arc: &[Position],
+    t: u128,
+) -> Result<Vec<usize>, Memory>
+    requires { 2 ≤ length arc.now }
+    ensures kept { IfOk result (λ kept. kept.items ≡ reduce t arc.now) }
+    ensures counted { RoseBy (rescanned_areas (length arc.now - 2)) 0 steps.old steps.new }
+    // The first look computes the area at each position between the ends.
+    ensures computed { IfOk result (λ _. AreasRose (length arc.now - 2) steps.old steps.new) }
+{
+    let mut present = all_indexes(alloc, arc.len())?;
+    for _turn in 0..arc.len() {
+        match least_corner(steps, arc, &present) {
+            Some(corner) if corner.area < t => take_out(&mut present, corner.index),
+            _ => return Ok(present),
+        }
+    }
+    Ok(present)
 }
 
 /// A reducer that looks through all corners of the line for each position that it removes: the plainest body of the law,
@@ -82,14 +108,6 @@ impl Reducer for Rescan {
 
     fn kept(&mut self, alloc: Global, arc: &[Position], t: u128) -> Result<Vec<usize>, Memory> {
         self.calls = self.calls.and(arc, t);
-        let mut steps = Steps::none();
-        let mut present = all_indexes(alloc, arc.len())?;
-        for _turn in 0..arc.len() {
-            match least_corner(&mut steps, arc, &present) {
-                Some(corner) if corner.area < t => take_out(&mut present, corner.index),
-                _ => return Ok(present),
-            }
-        }
-        Ok(present)
+        rescanned(alloc, &mut Steps::none(), arc, t)
     }
 }

@@ -182,9 +182,10 @@ impl Buffers {
 
 /// A reducer that takes time n log n: of the corners under the threshold those that are due are queued in their order, stale ones among
 /// them, which go before their neighbours, and the positions that are present are linked both ways. A call raises each count of its steps
-/// by three for each position between the ends at most, and at a threshold over zero that of the areas by one or more. Contracts see it as
-/// its calls and the steps that it did so far: nothing else is left of a call, whether it answered or not. What it reduces
-/// in is used again by the next call, unless it became large: then its memory is given back.
+/// by three for each position between the ends at most, and at a threshold over zero that of the areas by one or more. The corners of a line
+/// of at most seven positions are all looked through instead, for each position that goes. Contracts see it as its calls and the steps that it
+/// did so far: nothing else is left of a call, whether it answered or not. What it reduces in is used again by the next call, unless it became
+/// large: then its memory is given back.
 #[derive(Debug, Drop)]
 pub struct HeapLinks {
     calls: CallLog,

@@ -29,7 +29,7 @@ fn removes_repeated_positions_by_index(reducer: &mut impl Reducer, alloc: Global
     keeps(reducer, alloc, &line, 1, &[0, 2, 3]) && keeps(reducer, alloc, &line, 3, &[0, 3])
 }
 
-// Two areas at first, and one more for the neighbour of the position that is removed.
+// Two areas at first, and one more for the neighbour of the position that is removed. Of so short a line no corner is queued.
 fn steps_are_counted(heap: &mut HeapLinks, alloc: Global) -> bool {
     let line = [
         Position::at(0, 0),
@@ -41,7 +41,7 @@ fn steps_are_counted(heap: &mut HeapLinks, alloc: Global) -> bool {
         return false;
     }
     let steps = heap.steps();
-    steps.areas >= 3 && steps.areas <= 6 && steps.pushes >= 1 && steps.pushes <= 6
+    steps.areas >= 3 && steps.areas <= 6 && steps.pushes == 0
 }
 
 // 200 positions, ten in a row and eight in a column, so many of them twice.

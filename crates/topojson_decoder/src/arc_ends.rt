@@ -6,7 +6,7 @@ ghost use Rattle.json_cursor.specs.Arrays.{prefix_value};
 ghost use Rattle.geometry.specs.Points.{Point};
 ghost use Rattle.topojson_decoder.specs.ArcEnds.{EndsOfArcsSoFar, EndsSoFar, arc_ends, arc_ends_list, ends_from, more_ends, with_arc_ends, with_end};
 
-use crate::cells::cell_at;
+use crate::next_cells::{ByDifferences, ByPositions, NextCell};
 use geojson_types::Counts;
 use json_cursor::{Elements, Stop, folded_array_at};
 use json_value::Items;
@@ -24,17 +24,17 @@ pub struct KeptArcs {
 
 /// The ends of the cells of an arc that were read so far, and how many these are.
 #[derive(Drop)]
-struct Ends<'t> {
-    transform: Option<&'t Transform>,
+struct Ends<N: NextCell> {
+    by: N,
     first: Cell,
     before: Cell,
     count: u64,
 }
 
-impl<'t> Model for Ends<'t> {
+impl<N: NextCell> Model for Ends<N> {
     ghost Value = { EndsSoFar };
 
-    ghost view = { λ s. ((option_copied s.transform, s.before), (ends_from s.count s.first s.before, s.count)) };
+    ghost view = { λ s. ((N.transform s.by, s.before), (ends_from s.count s.first s.before, s.count)) };
 }
 
 /// The first of so many cells, where this one comes after them.
@@ -44,7 +44,7 @@ fn first_before(count: u64, first: Cell, cell: Cell) -> Cell
     if count == 0 { cell } else { first }
 }
 
-impl<'t> Elements for Ends<'t> {
+impl<N: NextCell> Elements for Ends<N> {
     type Fault = TopoFault;
 
     type With = ();
@@ -60,14 +60,10 @@ impl<'t> Elements for Ends<'t> {
         _with: (),
         counts: &mut Counts,
     ) -> Result<&'a [u8], Stop<TopoFault>> {
-        match cell_at(
-            alloc,
-            depth_left,
-            self.transform,
-            self.before,
-            bytes,
-            counts,
-        ) {
+        match self
+            .by
+            .next_at(alloc, depth_left, self.before, bytes, counts)
+        {
             Err(stop) => Err(stop),
             Ok((cell, rest)) => {
                 self.first = first_before(self.count, self.first, cell);
@@ -91,23 +87,23 @@ fn both(alloc: Global, first: Cell, last: Cell) -> Result<Items<Cell>, AllocErro
 
 /// The first and the last cell of the arc at the front, and how many it has, and what follows it; or why reading stops.
 #[inline(always)]
-fn ends_at<'a>(
+fn ends_at<'a, N: NextCell>(
     alloc: Global,
     depth_left: u32,
-    transform: Option<&Transform>,
+    by: N,
     bytes: &'a [u8],
     counts: &mut Counts,
 ) -> Result<((Items<Cell>, u64), &'a [u8]), Stop<TopoFault>>
-    ensures { Answers (λ x. x) (arc_ends (option_copied transform.entry)) (prefix_value depth_left bytes.now) counts.old counts.new result }
+    ensures { Answers (λ x. x) (arc_ends (N.transform by)) (prefix_value depth_left bytes.now) counts.old counts.new result }
 {
     let origin = Cell::at(0, 0);
     let start = Ends {
-        transform,
+        by,
         first: origin,
         before: origin,
         count: 0,
     };
-    match folded_array_at::<Ends>(
+    match folded_array_at::<Ends<N>>(
         alloc,
         depth_left,
         start,
@@ -130,19 +126,19 @@ fn ends_at<'a>(
 
 /// The ends of the arcs that were read so far, and how many positions these have.
 #[derive(Drop)]
-struct ArcsByEnds<'t> {
-    transform: Option<&'t Transform>,
+struct ArcsByEnds<N: NextCell> {
+    by: N,
     list: Vec<Items<Cell>>,
     positions: u64,
 }
 
-impl<'t> Model for ArcsByEnds<'t> {
+impl<N: NextCell> Model for ArcsByEnds<N> {
     ghost Value = { EndsOfArcsSoFar };
 
-    ghost view = { λ s. (option_copied s.transform, (s.list.items, s.positions)) };
+    ghost view = { λ s. (N.transform s.by, (s.list.items, s.positions)) };
 }
 
-impl<'t> Elements for ArcsByEnds<'t> {
+impl<N: NextCell> Elements for ArcsByEnds<N> {
     type Fault = TopoFault;
 
     type With = ();
@@ -158,7 +154,7 @@ impl<'t> Elements for ArcsByEnds<'t> {
         _with: (),
         counts: &mut Counts,
     ) -> Result<&'a [u8], Stop<TopoFault>> {
-        match ends_at(alloc, depth_left, self.transform, bytes, counts) {
+        match ends_at(alloc, depth_left, self.by, bytes, counts) {
             Err(stop) => Err(stop),
             Ok((read, rest)) => {
                 let (ends, count) = read;
@@ -170,23 +166,24 @@ impl<'t> Elements for ArcsByEnds<'t> {
     }
 }
 
-/// The ends of the arcs of the array at the front, with the number of their positions, and what follows it; or why reading stops.
-pub(crate) fn arc_ends_at<'a>(
+/// The ends of the arcs of the array at the front whose cells are read so, with the number of their positions, and what follows it; or why
+/// reading stops.
+fn arc_ends_by<'a, N: NextCell>(
     alloc: Global,
     depth_left: u32,
-    transform: Option<&Transform>,
+    by: N,
     bytes: &'a [u8],
     counts: &mut Counts,
 ) -> Result<(KeptArcs, &'a [u8]), Stop<TopoFault>>
-    ensures { Answers (λ x. x) (arc_ends_list (option_copied transform.entry)) (prefix_value depth_left bytes.now) counts.old counts.new result }
+    ensures { Answers (λ x. x) (arc_ends_list (N.transform by)) (prefix_value depth_left bytes.now) counts.old counts.new result }
 {
     let list = Vec::new(alloc);
     let start = ArcsByEnds {
-        transform,
+        by,
         list,
         positions: 0,
     };
-    match folded_array_at::<ArcsByEnds>(
+    match folded_array_at::<ArcsByEnds<N>>(
         alloc,
         depth_left,
         start,
@@ -205,6 +202,25 @@ pub(crate) fn arc_ends_at<'a>(
                 positions: Some(positions),
             };
             Ok((kept, rest))
+        }
+    }
+}
+
+/// The ends of the arcs of the array at the front, with the number of their positions, and what follows it; or why reading stops.
+pub(crate) fn arc_ends_at<'a>(
+    alloc: Global,
+    depth_left: u32,
+    transform: Option<&Transform>,
+    bytes: &'a [u8],
+    counts: &mut Counts,
+) -> Result<(KeptArcs, &'a [u8]), Stop<TopoFault>>
+    ensures { Answers (λ x. x) (arc_ends_list (option_copied transform.entry)) (prefix_value depth_left bytes.now) counts.old counts.new result }
+{
+    match transform {
+        None => arc_ends_by(alloc, depth_left, ByPositions, bytes, counts),
+        Some(transform) => {
+            let by = ByDifferences { transform };
+            arc_ends_by(alloc, depth_left, by, bytes, counts)
         }
     }
 }

@@ -8,8 +8,8 @@ ghost use Rattle.topojson_decoder.specs.Cells.{ArcsSoFar, CellsSoFar, with_arc, 
 ghost use Rattle.topojson_decoder.specs.Kept.{kept_arc_list};
 
 use crate::arc_ends::{KeptArcs, arc_ends_at};
-use crate::cells::cell_at;
 use crate::keeping::Keeping;
+use crate::next_cells::{ByDifferences, ByPositions, NextCell};
 use geojson_types::Counts;
 use json_cursor::{Elements, Stop, folded_array_at};
 use json_value::Items;
@@ -21,19 +21,19 @@ use topojson_types::{Cell, Transform};
 
 /// The cells of an arc that were read so far.
 #[derive(Drop)]
-struct Cells<'t> {
-    transform: Option<&'t Transform>,
+struct Cells<N: NextCell> {
+    by: N,
     before: Cell,
     list: Vec<Cell>,
 }
 
-impl<'t> Model for Cells<'t> {
+impl<N: NextCell> Model for Cells<N> {
     ghost Value = { CellsSoFar };
 
-    ghost view = { λ s. ((option_copied s.transform, s.before), s.list.items) };
+    ghost view = { λ s. ((N.transform s.by, s.before), s.list.items) };
 }
 
-impl<'t> Elements for Cells<'t> {
+impl<N: NextCell> Elements for Cells<N> {
     type Fault = TopoFault;
 
     type With = ();
@@ -49,14 +49,10 @@ impl<'t> Elements for Cells<'t> {
         _with: (),
         counts: &mut Counts,
     ) -> Result<&'a [u8], Stop<TopoFault>> {
-        match cell_at(
-            alloc,
-            depth_left,
-            self.transform,
-            self.before,
-            bytes,
-            counts,
-        ) {
+        match self
+            .by
+            .next_at(alloc, depth_left, self.before, bytes, counts)
+        {
             Err(stop) => Err(stop),
             Ok((cell, rest)) => {
                 self.list.push(cell)?;
@@ -87,24 +83,24 @@ fn parted(alloc: Global, cells: Vec<Cell>) -> Result<(Items<Cell>, Vec<Cell>), A
 /// The arc at the front, beside a list that the next one may be read into, and what follows it; or why reading stops. Its cells are read into
 /// a list that was used before, so that it takes memory once.
 #[inline(always)]
-fn arc_through<'a>(
+fn arc_through<'a, N: NextCell>(
     alloc: Global,
     depth_left: u32,
-    transform: Option<&Transform>,
+    by: N,
     used: Vec<Cell>,
     bytes: &'a [u8],
     counts: &mut Counts,
 ) -> Result<((Items<Cell>, Vec<Cell>), &'a [u8]), Stop<TopoFault>>
-    ensures { Answers (λ x. x.0) (spec.arc (option_copied transform.entry)) (prefix_value depth_left bytes.now) counts.old counts.new result }
+    ensures { Answers (λ x. x.0) (spec.arc (N.transform by)) (prefix_value depth_left bytes.now) counts.old counts.new result }
 {
     let mut list = used;
     list.clear();
     let start = Cells {
-        transform,
+        by,
         before: Cell::at(0, 0),
         list,
     };
-    match folded_array_at::<Cells>(
+    match folded_array_at::<Cells<N>>(
         alloc,
         depth_left,
         start,
@@ -125,6 +121,27 @@ fn arc_through<'a>(
     }
 }
 
+/// The arc at the front whose cells are read so, and what follows it; or why reading stops.
+fn arc_by<'a, N: NextCell>(
+    alloc: Global,
+    depth_left: u32,
+    by: N,
+    bytes: &'a [u8],
+    counts: &mut Counts,
+) -> Result<(Items<Cell>, &'a [u8]), Stop<TopoFault>>
+    ensures { Answers (λ x. x) (spec.arc (N.transform by)) (prefix_value depth_left bytes.now) counts.old counts.new result }
+{
+    let none = Vec::new(alloc);
+    match arc_through(alloc, depth_left, by, none, bytes, counts) {
+        Err(stop) => Err(stop),
+        Ok((both, rest)) => {
+            let (arc, used) = both;
+            drop(used);
+            Ok((arc, rest))
+        }
+    }
+}
+
 /// The arc at the front, and what follows it; or why reading stops.
 pub fn arc_at<'a>(
     alloc: Global,
@@ -135,32 +152,30 @@ pub fn arc_at<'a>(
 ) -> Result<(Items<Cell>, &'a [u8]), Stop<TopoFault>>
     ensures { Answers (λ x. x) (spec.arc (option_copied transform.entry)) (prefix_value depth_left bytes.now) counts.old counts.new result }
 {
-    let none = Vec::new(alloc);
-    match arc_through(alloc, depth_left, transform, none, bytes, counts) {
-        Err(stop) => Err(stop),
-        Ok((both, rest)) => {
-            let (arc, used) = both;
-            drop(used);
-            Ok((arc, rest))
+    match transform {
+        None => arc_by(alloc, depth_left, ByPositions, bytes, counts),
+        Some(transform) => {
+            let by = ByDifferences { transform };
+            arc_by(alloc, depth_left, by, bytes, counts)
         }
     }
 }
 
 /// The arcs that were read so far, and a list that the cells of the next one are read into.
 #[derive(Drop)]
-struct Arcs<'t> {
-    transform: Option<&'t Transform>,
+struct Arcs<N: NextCell> {
+    by: N,
     list: Vec<Items<Cell>>,
     used: Vec<Cell>,
 }
 
-impl<'t> Model for Arcs<'t> {
+impl<N: NextCell> Model for Arcs<N> {
     ghost Value = { ArcsSoFar };
 
-    ghost view = { λ s. (option_copied s.transform, s.list.items) };
+    ghost view = { λ s. (N.transform s.by, s.list.items) };
 }
 
-impl<'t> Elements for Arcs<'t> {
+impl<N: NextCell> Elements for Arcs<N> {
     type Fault = TopoFault;
 
     type With = ();
@@ -177,7 +192,7 @@ impl<'t> Elements for Arcs<'t> {
         counts: &mut Counts,
     ) -> Result<&'a [u8], Stop<TopoFault>> {
         let used = mem::replace(&mut self.used, Vec::new(alloc));
-        match arc_through(alloc, depth_left, self.transform, used, bytes, counts) {
+        match arc_through(alloc, depth_left, self.by, used, bytes, counts) {
             Err(stop) => Err(stop),
             Ok((both, rest)) => {
                 let (arc, used) = both;
@@ -189,24 +204,20 @@ impl<'t> Elements for Arcs<'t> {
     }
 }
 
-/// The arcs of the array at the front, and what follows it; or why reading stops.
-pub fn arcs_at<'a>(
+/// The arcs of the array at the front whose cells are read so, and what follows it; or why reading stops.
+fn arcs_by<'a, N: NextCell>(
     alloc: Global,
     depth_left: u32,
-    transform: Option<&Transform>,
+    by: N,
     bytes: &'a [u8],
     counts: &mut Counts,
 ) -> Result<(Items<Items<Cell>>, &'a [u8]), Stop<TopoFault>>
-    ensures { Answers (λ x. x) (spec.arc_list (option_copied transform.entry)) (prefix_value depth_left bytes.now) counts.old counts.new result }
+    ensures { Answers (λ x. x) (spec.arc_list (N.transform by)) (prefix_value depth_left bytes.now) counts.old counts.new result }
 {
     let list = Vec::new(alloc);
     let used = Vec::new(alloc);
-    let start = Arcs {
-        transform,
-        list,
-        used,
-    };
-    match folded_array_at::<Arcs>(
+    let start = Arcs { by, list, used };
+    match folded_array_at::<Arcs<N>>(
         alloc,
         depth_left,
         start,
@@ -222,6 +233,25 @@ pub fn arcs_at<'a>(
             let mut arcs = read.list;
             arcs.shrink_to_fit();
             Ok((Items::of(arcs), rest))
+        }
+    }
+}
+
+/// The arcs of the array at the front, and what follows it; or why reading stops.
+pub fn arcs_at<'a>(
+    alloc: Global,
+    depth_left: u32,
+    transform: Option<&Transform>,
+    bytes: &'a [u8],
+    counts: &mut Counts,
+) -> Result<(Items<Items<Cell>>, &'a [u8]), Stop<TopoFault>>
+    ensures { Answers (λ x. x) (spec.arc_list (option_copied transform.entry)) (prefix_value depth_left bytes.now) counts.old counts.new result }
+{
+    match transform {
+        None => arcs_by(alloc, depth_left, ByPositions, bytes, counts),
+        Some(transform) => {
+            let by = ByDifferences { transform };
+            arcs_by(alloc, depth_left, by, bytes, counts)
         }
     }
 }

@@ -3,7 +3,7 @@ ghost use Rattle.std.specs.Prelude.{◌≡◌, ◌≤◌, ◌^◌};
 ghost use Rattle.std.specs.Option.{option_copied};
 ghost use Rattle.json_cursor.specs.Answers.{Answers};
 ghost use Rattle.json_cursor.specs.Arrays.{prefix_value};
-ghost use Rattle.topojson_types.specs.Transforms.{moved};
+ghost use Rattle.topojson_types.specs.Transforms.{grid_limit, moved, origin};
 ghost use Rattle.topojson_meaning.specs.Arcs as spec;
 ghost use Rattle.topojson_decoder.specs.Cells.{cell_from, whole};
 
@@ -155,8 +155,29 @@ fn cell_within<'a>(
     }
 }
 
-/// The place at the front, of a Point or in a MultiPoint, and what follows it. With a transform it is a cell that is no difference (section
-/// 2.1.2).
+/// The place at the front, which is a cell of the grid and no difference (section 2.1.2), and what follows it.
+#[inline(never)]
+fn grid_place_at<'a>(
+    alloc: Global,
+    depth_left: u32,
+    transform: &Transform,
+    bytes: &'a [u8],
+    counts: &mut Counts,
+) -> Result<(Cell, &'a [u8]), Stop<TopoFault>>
+    ensures { Answers (λ c. c) (spec.cell transform.now grid_limit origin) (prefix_value depth_left bytes.now) counts.old counts.new result }
+{
+    cell_within(
+        alloc,
+        depth_left,
+        transform,
+        GRID_LIMIT,
+        Cell::at(0, 0),
+        bytes,
+        counts,
+    )
+}
+
+/// The place at the front, of a Point or in a MultiPoint, and what follows it. With a transform it is a cell that is no difference.
 #[inline(always)]
 pub fn place_at<'a>(
     alloc: Global,
@@ -169,23 +190,35 @@ pub fn place_at<'a>(
 {
     match transform {
         None => position_at(alloc, depth_left, bytes, counts),
-        Some(transform) => {
-            cell_within(
-                alloc,
-                depth_left,
-                transform,
-                GRID_LIMIT,
-                Cell::at(0, 0),
-                bytes,
-                counts,
-            )
-        }
+        Some(transform) => grid_place_at(alloc, depth_left, transform, bytes, counts),
     }
+}
+
+/// The cell at the front, which stands as the difference from this one, which is before it in its arc, and what follows it (section 2.1.3).
+#[inline(always)]
+pub(crate) fn difference_at<'a>(
+    alloc: Global,
+    depth_left: u32,
+    transform: &Transform,
+    before: Cell,
+    bytes: &'a [u8],
+    counts: &mut Counts,
+) -> Result<(Cell, &'a [u8]), Stop<TopoFault>>
+    ensures { Answers (λ c. c) (spec.cell transform.now spec.difference_limit before) (prefix_value depth_left bytes.now) counts.old counts.new result }
+{
+    cell_within(
+        alloc,
+        depth_left,
+        transform,
+        DIFFERENCE_LIMIT,
+        before,
+        bytes,
+        counts,
+    )
 }
 
 /// The cell at the front, which is after this one in its arc, and what follows it. With a transform it stands as the difference from it
 /// (section 2.1.3).
-#[inline(always)]
 pub fn cell_at<'a>(
     alloc: Global,
     depth_left: u32,
@@ -198,16 +231,6 @@ pub fn cell_at<'a>(
 {
     match transform {
         None => position_at(alloc, depth_left, bytes, counts),
-        Some(transform) => {
-            cell_within(
-                alloc,
-                depth_left,
-                transform,
-                DIFFERENCE_LIMIT,
-                before,
-                bytes,
-                counts,
-            )
-        }
+        Some(transform) => difference_at(alloc, depth_left, transform, before, bytes, counts),
     }
 }

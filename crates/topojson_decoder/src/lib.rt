@@ -25,6 +25,7 @@ mod leaping;
 mod lines_and_rings;
 mod members;
 mod named_objects;
+mod next_cells;
 mod numbers;
 mod object_parts;
 mod occurrence;

@@ -1,17 +1,7 @@
-use Rattle.std.proofs.Common.{ap, refl}
-use Rattle.std.specs.Option.{option_copied}
-use Rattle.json_cursor.specs.Arrays.{array_by, prefix_value}
-use Rattle.json_cursor.specs.Folds.{fold}
-use Rattle.json_cursor.proofs.Steps.{then_stops}
-use Rattle.topojson_meaning.specs.declared.fault.TopoFault.TheVariants.{WrongKind}
-use Rattle.topojson_meaning.specs.Arcs.{arc_list}
-use Rattle.topojson_decoder.specs.Cells.{with_arc}
-use Rattle.topojson_decoder.proofs.Then.{then_reads}
-use Rattle.topojson_decoder.proofs.ArcParts.{arcs_are, arcs_of, no_arc}
 use Rattle.topojson_decoder.proofs.arcs.arcs_at.Goals as goal
 
-pub returns-in-Err : goal.returns-in-Err
-returns-in-Err c = then_stops (array_by WrongKind (fold with_arc (no_arc (option_copied c.args.transform)))) arcs_of (arc_list (option_copied c.args.transform)) (prefix_value c.args.depth_left c.args.bytes.now) c.args.counts.now (λ v. arcs_are (option_copied c.args.transform) v c.args.counts.now) c.in-Err.stop (rw c.new-list.ensures.items at c.in-Err.ensures)
+pub returns-in-None : goal.returns-in-None
+returns-in-None c = rw c.in-None.is c.arcs_by.ensures
 
-pub returns-in-Ok : goal.returns-in-Ok
-returns-in-Ok c = rw (c.of.ensures, c.shrink_to_fit.ensures.items, ap (λ s. s.1) c.read.view_is) (then_reads (array_by WrongKind (fold with_arc (no_arc (option_copied c.args.transform)))) arcs_of (arc_list (option_copied c.args.transform)) (prefix_value c.args.depth_left c.args.bytes.now) c.args.counts.now (λ v. arcs_are (option_copied c.args.transform) v c.args.counts.now) _ _ _ (rw c.new-list.ensures.items at c.in-Ok.ensures) _ _ refl)
+pub returns-in-Some : goal.returns-in-Some
+returns-in-Some c = rw c.in-Some.is c.arcs_by-in-Some.ensures

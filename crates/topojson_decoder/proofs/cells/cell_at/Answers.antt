@@ -4,4 +4,4 @@ pub returns-in-None : goal.returns-in-None
 returns-in-None c = rw c.in-None.is c.position_at.ensures
 
 pub returns-in-Some : goal.returns-in-Some
-returns-in-Some c = rw c.in-Some.is c.cell_within.ensures
+returns-in-Some c = rw c.in-Some.is c.difference_at.ensures

@@ -9,4 +9,4 @@ pub returns-in-None : goal.returns-in-None
 returns-in-None c = rw c.in-None.is (same_answers spec.position (spec.place _) (prefix_value c.args.depth_left c.args.bytes.now) c.args.counts.now (λ v. place_is_position v c.args.counts.now) (λ x. x) _ c.position_at.result c.position_at.ensures)
 
 pub returns-in-Some : goal.returns-in-Some
-returns-in-Some c = rw c.in-Some.is (same_answers (spec.cell c.in-Some.transform.now grid_limit origin) (spec.place _) (prefix_value c.args.depth_left c.args.bytes.now) c.args.counts.now (λ v. place_is_cell c.in-Some.transform.now v c.args.counts.now) (λ x. x) _ c.cell_within.result (rw c.at.ensures at c.cell_within.ensures))
+returns-in-Some c = rw c.in-Some.is (same_answers (spec.cell c.in-Some.transform.now grid_limit origin) (spec.place _) (prefix_value c.args.depth_left c.args.bytes.now) c.args.counts.now (λ v. place_is_cell c.in-Some.transform.now v c.args.counts.now) (λ x. x) _ c.grid_place_at.result c.grid_place_at.ensures)

@@ -5,4 +5,4 @@ use Rattle.topojson_decoder.proofs.Running.{one_stops}
 use Rattle.topojson_decoder.proofs.arcs.CellsElements.element.Goals as goal
 
 pub returns-in-Err : goal.returns-in-Err
-returns-in-Err c = one_stops next_cell after_cell (prefix_value c.args.depth_left c.args.bytes.now) c.args.counts.now c.in-Err.stop c.args.self.now (rw (ap (λ s. s.0.0) c.self.view_is, ap (λ s. s.0.1) c.self.view_is) at c.in-Err.ensures)
+returns-in-Err g c = one_stops next_cell after_cell (prefix_value c.args.depth_left c.args.bytes.now) c.args.counts.now c.in-Err.stop c.args.self.now (rw (ap (λ s. s.0.0) c.self.view_is, ap (λ s. s.0.1) c.self.view_is) at c.in-Err.ensures)

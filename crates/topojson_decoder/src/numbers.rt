@@ -73,6 +73,7 @@ pub(crate) fn textless_bound(bound: u64) -> u64
 }
 
 /// The number at the front at this scale, if it is within the limit, and what follows it.
+#[inline(always)]
 pub(crate) fn number_at<'a>(
     alloc: Global,
     depth_left: u32,

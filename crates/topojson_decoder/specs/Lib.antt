@@ -17,3 +17,4 @@ pub mod LinesAndRings
 pub mod Texts
 pub mod Topologies
 pub mod Transforms
+pub mod TypeNames

@@ -287,9 +287,9 @@ impl<'a> FeatureParts<'a> {
     }
 }
 
-/// The first letter of the name of the member at the front.
+/// The first letter of the string at the front.
 #[inline(always)]
-fn first_letter(bytes: &[u8]) -> u8 {
+pub(crate) fn first_letter(bytes: &[u8]) -> u8 {
     match bytes {
         [_, letter, ..] => *letter,
         _ => 0,

@@ -16,7 +16,7 @@ use crate::index::is_name;
 use crate::keeping::Keeping;
 use crate::occurrence::Occurrence;
 use crate::shapes::{arcs_shape_at, places_shape_at};
-use crate::types::geometry_type;
+use crate::types::{geometry_type, plain_type_at};
 use geojson_types::Counts;
 use json_cursor::{Kind, Stop, kind_at, string_at};
 use json_reading::{Fault, after_value};
@@ -95,8 +95,9 @@ fn textless_type(kind: Kind) -> Result<Option<GeometryType>, TopoFault>
     }
 }
 
-/// The type that the value at the front names, which is none where it is null, or its fault, and what follows it.
-fn type_at<'a>(
+/// The type that the value at the front names, however it stands there, which is none where it is null, or its fault, and what follows it.
+#[inline(never)]
+fn any_type_at<'a>(
     alloc: Global,
     depth_left: u32,
     bytes: &'a [u8],
@@ -110,6 +111,21 @@ fn type_at<'a>(
     match geometry_type(name.as_str()) {
         None => Ok((Err(TopoFault::UnknownType), rest)),
         Some(kind) => Ok((Ok(Some(kind)), rest)),
+    }
+}
+
+/// The type that the value at the front names, which is none where it is null, or its fault, and what follows it.
+#[inline(always)]
+fn type_at<'a>(
+    alloc: Global,
+    depth_left: u32,
+    bytes: &'a [u8],
+) -> Result<(Result<Option<GeometryType>, TopoFault>, &'a [u8]), Fault>
+    ensures { FindsValue IsType depth_left bytes.now result }
+{
+    match plain_type_at(bytes) {
+        Some((kind, rest)) => Ok((Ok(Some(kind)), rest)),
+        None => any_type_at(alloc, depth_left, bytes),
     }
 }
 

@@ -42,7 +42,8 @@ def lines_of(text):
 
 
 def write_lines(path, words):
-    text = subprocess.run(["gmt", "coast", "-Dh", "-R-180/180/-90/90", "-M", *words], check=True, capture_output=True, text=True).stdout
+    text = subprocess.run(["gmt", "coast", "-Dh", "-R-180/180/-90/90", "-M", *words], check=True, capture_output=True, text=True,
+                          cwd=path.parent).stdout
     features = [f'{{"type":"Feature","properties":{{}},"geometry":{{"type":"LineString","coordinates":[{",".join(line)}]}}}}' for line in lines_of(text)]
     path.write_text('{"type":"FeatureCollection","features":[' + ",\n".join(features) + "]}\n")
 

@@ -1,5 +1,5 @@
+mod Rows
 pub mod Agendas
-pub mod Alone
 pub mod Apart
 pub mod Box
 pub mod Counts
@@ -7,12 +7,11 @@ pub mod Crosses
 pub mod Ends
 pub mod First
 pub mod Free
+pub mod Gaps
 pub mod Higher
 pub mod Interiors
 pub mod Kept
 pub mod Lists
-pub mod Lone
-pub mod Marks
 pub mod Masks
 pub mod Names
 pub mod Neighbours
@@ -24,7 +23,6 @@ pub mod PartByPart
 pub mod Pasch
 pub mod Removal
 pub mod Rings
-mod Rows
 pub mod Shares
 pub mod Shorter
 pub mod Sides

@@ -1,6 +1,6 @@
 -- Lists of which some elements pass a test, or are left out.
-use Rattle.std.proofs.Common.{◌≡◌, Bool, true, false, List, [], ◌∷◌, ◌++◌, map, inl, inr, refl, ap, sym, ◌∙◌, subst, if◌then◌else◌}
-use Rattle.guarded_meaning.proofs.Names.{AllByRecursion, filter, chosen_of, In, sub_same, Sublist, none, keep, skip}
+use Rattle.std.proofs.Common.{◌≡◌, Bool, true, false, List, [], ◌∷◌, ◌++◌, length, map, suc, inl, inr, refl, ap, sym, ◌∙◌, subst, if◌then◌else◌}
+use Rattle.guarded_meaning.proofs.Names.{EachTo, AllByRecursion, filter, chosen_of, In, sub_same, Sublist, none, keep, skip}
 
 -- ---- those that pass
 
@@ -62,3 +62,11 @@ sub_passed p (skip {y} {xs} {ys} s) = on (p y) (sub_passed p s)
     on : (b : Bool) → Sublist (filter p xs) (filter p ys) → Sublist (filter p xs) (if b then y ∷ filter p ys else filter p ys)
     on true h = skip h
     on false h = h
+
+-- ---- lists of which each element stands so to the one in its place
+
+pub as_many : {X Y : Type 0} (R : X → Y → Type 0) (xs : List X) (ys : List Y) → EachTo R xs ys → length xs ≡ length ys
+as_many R [] [] h = refl
+as_many R [] (y ∷ ys) h = absurd h
+as_many R (x ∷ xs) [] h = absurd h
+as_many R (x ∷ xs) (y ∷ ys) h = ap suc (as_many R xs ys h.1)

@@ -1,5 +1,5 @@
 -- Parts of arcs, each of which is reduced apart from the others.
-use Rattle.std.specs.Prelude.{◌≡◌, ℕ, zero, suc, ◌==◌, ◌<◌, slice_index_or, slice_set, Bool, true, false, List, [], ◌∷◌, ◌++◌, length, map, replicate, if◌then◌else◌}
+use Rattle.std.specs.Prelude.{◌≡◌, ℕ, zero, suc, ◌==◌, Bool, true, false, List, [], ◌∷◌, length, map, if◌then◌else◌}
 use Rattle.geometry.specs.Lists.{In, joined}
 use Rattle.geometry.specs.Points.{Point}
 use Rattle.geometry.specs.Rings.{same}
@@ -50,18 +50,7 @@ PartsLaw = (parts : List ℕ) (t : ℕ) (arcs : List (List Point)) → length pa
 abbrev pub ApartEnough : Type 0
 ApartEnough = (others : List (List Point)) (t n : ℕ) (arcs : List (List Point)) → StaysApart others t (length (joined arcs)) (map (numbered 0) arcs) → StaysApart others t n (map (numbered 0) arcs)
 
--- arcs that have nothing, before an arc and after it
-abbrev pub lone : {X : Type 0} → ℕ → ℕ → List X → List (List X)
-lone k m xs = replicate k [] ++ (xs ∷ replicate m [])
-
--- they change nothing
-abbrev pub LoneApart : Type 0
-LoneApart = (others : List (List Point)) (t n k m : ℕ) (ps : List Point) → StaysApart others t n (map (numbered 0) (ps ∷ [])) → StaysApart others t n (map (numbered 0) (lone k m ps))
-
-abbrev pub LoneLaw : Type 0
-LoneLaw = (t k m : ℕ) (ps : List Point) → remaining_arcs (guarded_by true []) t (lone k m ps) ≡ replicate k [] ++ (remaining_arcs (guarded_by true []) t (ps ∷ []) ++ replicate m [])
-
--- ---- arcs that stand alone, and the others
+-- ---- gaps
 
 -- the marked arcs; the others have nothing
 abbrev pub marked : {X : Type 0} → List Bool → List (List X) → List (List X)
@@ -100,20 +89,3 @@ GapsLaw = (bs : List Bool) (t : ℕ) (arcs : List (List Point)) → length bs �
 abbrev pub GapsIndexLaw : Type 0
 GapsIndexLaw = (bs : List Bool) (t : ℕ) (arcs : List (List Point)) → length bs ≡ length arcs →
     reduce_arcs (guarded_by true []) t (marked bs arcs) ≡ spread bs (reduce_arcs (guarded_by true []) t (chosen bs arcs))
-
--- of so many arcs the one of this number is marked
-abbrev pub mark_of : ℕ → ℕ → List Bool
-mark_of n k = slice_set (replicate n false) k true
-
--- the arc of this number stays apart from all others, and these indexes stay of it
-pub record StandsAlone (t : ℕ) (arcs : List (List Point)) (k : ℕ) (kept : List ℕ) : Type 0 where
-  pub apart : StaysApart (unmarked (mark_of (length arcs) k) arcs) t (length (slice_index_or arcs k [])) (map (numbered 0) (slice_index_or arcs k [] ∷ []))
-  pub stays : kept ∷ [] ≡ reduce_arcs (guarded_by true []) t (slice_index_or arcs k [] ∷ [])
-
--- Where the marked arcs together stay apart from the others, and each of the others stands alone, what stays of all is what stays of these.
-abbrev pub AloneLaw : Type 0
-AloneLaw = (bs : List Bool) (t : ℕ) (arcs : List (List Point)) (kept : List (List ℕ)) → length bs ≡ length arcs → length kept ≡ length arcs →
-    StaysApart (unmarked bs arcs) t (length (joined (marked bs arcs))) (map (numbered 0) (marked bs arcs)) →
-    ((k : ℕ) → k < length arcs → slice_index_or bs k true ≡ true → slice_index_or kept k [] ≡ slice_index_or (reduce_arcs (guarded_by true []) t (marked bs arcs)) k []) →
-    ((k : ℕ) → k < length arcs → slice_index_or bs k true ≡ false → StandsAlone t arcs k (slice_index_or kept k [])) →
-    kept ≡ reduce_arcs (guarded_by true []) t arcs

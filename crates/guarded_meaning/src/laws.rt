@@ -1,6 +1,6 @@
 // Laws of the definitions. A function here does nothing: its contract is the law.
 ghost use Rattle.guarded_meaning.specs.Laws.{ArcsRise, BoxLaw, CountedByWeight, CrossingsNeverRise, EitherWay, FewerArcsLaw, HigherKeepsFewer, KeptByWeight, NoCrossingsLaw, NoneGoes, NoneStaysNone, RingsStay, ShareIsGreatest, ShareStays, SideLaw, StepLaw, ThinnedLaw, UnguardedIndexLaw, UnguardedLaw};
-ghost use Rattle.guarded_meaning.specs.Parts.{AloneLaw, ApartEnough, GapsApart, GapsIndexLaw, GapsLaw, LoneApart, LoneLaw, PartsLaw};
+ghost use Rattle.guarded_meaning.specs.Parts.{ApartEnough, GapsApart, GapsIndexLaw, GapsLaw, PartsLaw};
 
 /// What the segment in a corner's place meets badly, one of the two before it met badly.
 #[tactic(auto, using(crate::proofs::Step::step_law))]
@@ -128,38 +128,20 @@ pub fn apart_enough()
     ensures { ApartEnough }
 {}
 
-/// Arcs that have nothing, before an arc and after it, don't change what is left of it.
-#[tactic(auto, using(crate::proofs::Lone::lone_law))]
-pub fn lone_law()
-    ensures { LoneLaw }
-{}
-
-/// Nor do they change whether it stays apart.
-#[tactic(auto, using(crate::proofs::Lone::lone_apart))]
-pub fn lone_apart()
-    ensures { LoneApart }
-{}
-
 /// Where only some of the arcs have anything, what is left of these is what is left of them by themselves.
-#[tactic(auto, using(crate::proofs::Lone::gaps_law))]
+#[tactic(auto, using(crate::proofs::Gaps::gaps_law))]
 pub fn gaps_law()
     ensures { GapsLaw }
 {}
 
 /// So it is of the indexes that stay.
-#[tactic(auto, using(crate::proofs::Lone::gaps_index_law))]
+#[tactic(auto, using(crate::proofs::Gaps::gaps_index_law))]
 pub fn gaps_index_law()
     ensures { GapsIndexLaw }
 {}
 
 /// And these stay apart in their places, where they do by themselves.
-#[tactic(auto, using(crate::proofs::Lone::gaps_apart))]
+#[tactic(auto, using(crate::proofs::Gaps::gaps_apart))]
 pub fn gaps_apart()
     ensures { GapsApart }
-{}
-
-/// What stays of all arcs is what stays of those that stand alone, each by itself, and of the others together.
-#[tactic(auto, using(crate::proofs::Alone::alone_law))]
-pub fn alone_law()
-    ensures { AloneLaw }
 {}

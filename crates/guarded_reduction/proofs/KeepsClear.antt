@@ -15,14 +15,14 @@ use Rattle.guarded_meaning.proofs.Ends.{holds_after, holds_before}
 use Rattle.guarded_meaning.specs.Parts.{unmarked}
 use Rattle.guarded_reduction.specs.declared.extent.Extent.{Extent}
 use Rattle.guarded_reduction.specs.declared.query.Corner.{Corner}
-use Rattle.guarded_reduction.specs.Beside.{IsOver, is_at, is_beside, is_excused, is_marked, partner_index}
+use Rattle.guarded_reduction.specs.Beside.{is_at, is_beside, is_excused, is_marked, partner_index}
 use Rattle.guarded_reduction.specs.Extents.{HoldsPoint}
 use Rattle.guarded_reduction.specs.First.{links_of}
 use Rattle.guarded_reduction.specs.Indexes.{NoneMeets, origin, point_at}
 use Rattle.guarded_reduction.specs.Moves.{owners_of}
 use Rattle.guarded_reduction.specs.Numbers.{number, HasPlace}
 use Rattle.guarded_reduction.specs.Shown.{Shown, all_left}
-use Rattle.guarded_reduction.specs.Tests.{IsOutside, Reaches}
+use Rattle.guarded_reduction.specs.Tests.{IsOutside, Reaches, Test}
 use Rattle.guarded_reduction.proofs.Keeping.{owner_is}
 use Rattle.guarded_reduction.proofs.Numbers.{number_within}
 use Rattle.guarded_reduction.proofs.Placed.{point_here, point_later}
@@ -159,18 +159,25 @@ module _ (marks : List Bool) (arcs : List (List Point)) (c : Corner) (none : Non
         subst (λ a. same a d.after ≡ true) (sym e) (subst (λ b. same c.before b ≡ true) (sym g) (clear_ends ps x y m n o (subst (λ a. same a x ≡ true) e h) (subst (λ b. same b y ≡ true) g l)));
   }
 
+-- the same is asked of places
+pub same_test : (marks ms : List Bool) (owners os partners ns : List ℕ) (qs ps : List Point) (c k : Corner) → k ≡ c → ms ≡ marks → os ≡ owners → ns ≡ partners → ps ≡ qs → is_beside ms os ns ps k ≡ is_beside marks owners partners qs c
+same_test marks ms owners os partners ns qs ps c k corner mark owner partner place =
+    ap (λ x. is_beside ms os ns ps x) corner ∙ ap (λ x. is_beside x os ns ps c) mark ∙ ap (λ x. is_beside marks x ns ps c) owner ∙ ap (λ x. is_beside marks owners x ps c) partner ∙ ap (λ x. is_beside marks owners partners x c) place
+
 -- as the index is asked
-pub keeps_clear : (marks : List Bool) (arcs : List (List Point)) (index : Shown) (owners partners os ns : List ℕ) (ps : List Point) (c : Corner) → IsOver arcs index owners partners → os ≡ owners → ns ≡ partners → ps ≡ index.positions →
-    NoneMeets index.positions index.left (is_beside marks os ns ps c) → (d : ArcCorner) → d.before ≡ c.before → d.corner.point ≡ c.at → d.after ≡ c.after → IsClearOf (unmarked marks arcs) d
-keeps_clear marks arcs index owners partners os ns ps c over e f g none =
+pub keeps_clear : (marks : List Bool) (arcs : List (List Point)) (index : Shown) (test : Test) (c : Corner) → index ≡ all_left (joined arcs) → test ≡ is_beside marks (owners_of 0 arcs) (links_of partner_index 0 arcs) (joined arcs) c →
+    NoneMeets index.positions index.left test → (d : ArcCorner) → d.before ≡ c.before → d.corner.point ≡ c.at → d.after ≡ c.after → IsClearOf (unmarked marks arcs) d
+keeps_clear marks arcs index test c over same none =
     clear_here marks arcs c
-    (subst (λ (x : Shown). NoneMeets x.positions x.left (is_beside marks (owners_of 0 arcs) (links_of partner_index 0 arcs) (joined arcs) c)) over.index_is
-    (subst (λ qs. NoneMeets index.positions index.left (is_beside marks (owners_of 0 arcs) (links_of partner_index 0 arcs) qs c)) (g ∙ ap (λ (x : Shown). x.positions) over.index_is)
-    (subst (λ ks. NoneMeets index.positions index.left (is_beside marks (owners_of 0 arcs) ks ps c)) (f ∙ over.partners_are) (subst (λ ks. NoneMeets index.positions index.left (is_beside marks ks ns ps c)) (e ∙ over.owners_are) none))))
+    (subst (λ (x : Shown). NoneMeets x.positions x.left (is_beside marks (owners_of 0 arcs) (links_of partner_index 0 arcs) (joined arcs) c)) over (subst (λ (t : Test). NoneMeets index.positions index.left t) same none))
 
 pub none_found : {X : Type 0} (found : Option X) (P : Type 0) (b : Bool) → is_some found ≡ not b → b ≡ true → IfNone found P → P
 none_found None P b e h p = p
 none_found (Some x) P b e h p = absurd (both_ways true (e ∙ ap not h) refl)
+
+pub some_true : (b : Bool) → Some b ≡ Some true → b ≡ true
+some_true true e = refl
+some_true false e = absurd cc
 
 -- ---- where a place can be beside a corner
 

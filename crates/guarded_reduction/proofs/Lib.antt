@@ -14,6 +14,7 @@ pub mod Gathered
 pub mod Heap
 pub mod Indexes
 pub mod Joining
+pub mod JoinedParts
 pub mod Keeping
 pub mod KeepsClear
 pub mod KeptIndexes
@@ -28,7 +29,7 @@ pub mod Numbers
 pub mod Orders
 pub mod OtherSide
 pub mod Parting
-pub mod PartLists
+pub mod PartMembers
 pub mod Placed
 pub mod Queries
 pub mod Queues
@@ -39,6 +40,7 @@ pub mod Short
 pub mod Showing
 pub mod Sided
 pub mod Starts
+pub mod Standing
 pub mod Stretches
 pub mod Trees
 pub mod Units

@@ -10,9 +10,10 @@ use Rattle.guarded_meaning.proofs.Tests.{le_passes}
 use Rattle.guarded_reduction.specs.declared.cell_lists.Grid.{Grid}
 use Rattle.guarded_reduction.specs.declared.extent.Extent.{Extent}
 use Rattle.guarded_reduction.specs.declared.query.Corner.{Corner}
-use Rattle.guarded_reduction.specs.Beside.{AreNear, IsOver, is_beside, is_near}
+use Rattle.guarded_reduction.specs.Beside.{AreNear, IsOver, is_beside, is_near, partner_index}
 use Rattle.guarded_reduction.specs.Cells.{NoneMeetsInRow, NoneMeetsInRows, NoneMeetsOn}
 use Rattle.guarded_reduction.specs.Extents.{HoldsPoint, is_within}
+use Rattle.guarded_reduction.specs.First.{links_of}
 use Rattle.guarded_reduction.specs.Indexes.{NoneMeets, NoneMeetsOf, is_left_at, point_at}
 use Rattle.guarded_reduction.specs.Moves.{owners_of}
 use Rattle.guarded_reduction.specs.Shown.{Shown, all_left}
@@ -98,12 +99,15 @@ pub reaches_near : (marks : List Bool) (owners : List ℕ) (e : Extent) → Reac
 reaches_near marks owners e = record { holds = λ z p h. near_in marks owners e z p h }
 
 -- nothing is in a box that holds nothing
-pub none_near : (marks : List Bool) (arcs : List (List Point)) (e : Extent) → ((p : Point) → HoldsPoint e p → ⊥) → AreNear marks arcs e []
+none_near : (marks : List Bool) (arcs : List (List Point)) (e : Extent) → ((p : Point) → HoldsPoint e p → ⊥) → AreNear marks arcs e []
 none_near marks arcs e none = record { fails = λ z w l. on (is_near marks (owners_of 0 arcs) e z (point_at (joined arcs) z)) (λ h. none (point_at (joined arcs) z) (near_in marks (owners_of 0 arcs) e z (point_at (joined arcs) z) h)) }
   where
     on : (b : Bool) → (b ≡ true → ⊥) → (b && true) ≡ false
     on true h = absurd (h refl)
     on false h = refl
+
+pub nothing_near : (marks : List Bool) (arcs : List (List Point)) (e : Extent) (zs : List ℕ) → zs ≡ [] → ((p : Point) → HoldsPoint e p → ⊥) → AreNear marks arcs e zs
+nothing_near marks arcs e zs f none = subst (λ (l : List ℕ). AreNear marks arcs e l) (sym f) (none_near marks arcs e none)
 
 -- what is beside a corner in the box is near
 beside_near : (marks : List Bool) (owners partners : List ℕ) (ps : List Point) (c : Corner) (e : Extent) → ((q : Point) → in_triangle c.before c.at c.after q ≡ true → HoldsPoint e q) → (z : ℕ) (p : Point) →
@@ -129,12 +133,13 @@ near_listed marks arcs index owners partners os e zs over h none =
     (subst (λ (ks : List ℕ). NoneMeets index.positions index.left (unlisted (is_near marks ks e) zs)) (h ∙ over.owners_are) none)
 
 -- nothing is beside a corner in the box, if nothing on the list is
-pub none_listed : (marks : List Bool) (arcs : List (List Point)) (index : Shown) (owners partners os ns : List ℕ) (ps : List Point) (c : Corner) (e : Extent) (zs : List ℕ) → IsOver arcs index owners partners → os ≡ owners →
-    ((q : Point) → in_triangle c.before c.at c.after q ≡ true → HoldsPoint e q) → AreNear marks arcs e zs → NoneMeetsOf index.positions index.left (is_beside marks os ns ps c) zs → NoneMeets index.positions index.left (is_beside marks os ns ps c)
-none_listed marks arcs index owners partners os ns ps c e zs over h n near of_list =
-    none_left index.positions index.left (is_near marks os e) (is_beside marks os ns ps c) zs (beside_near marks os ns ps c e n)
-    (subst (λ (x : Shown). NoneMeets x.positions x.left (unlisted (is_near marks os e) zs)) (sym over.index_is)
-    (subst (λ (ks : List ℕ). NoneMeets (joined arcs) (all_left (joined arcs)).left (unlisted (is_near marks ks e) zs)) (sym (h ∙ over.owners_are)) near)) of_list
+pub none_listed : (marks : List Bool) (arcs : List (List Point)) (index : Shown) (test : Test) (c : Corner) (e : Extent) (zs : List ℕ) → index ≡ all_left (joined arcs) →
+    test ≡ is_beside marks (owners_of 0 arcs) (links_of partner_index 0 arcs) (joined arcs) c → ((q : Point) → in_triangle c.before c.at c.after q ≡ true → HoldsPoint e q) → AreNear marks arcs e zs →
+    NoneMeetsOf index.positions index.left test zs → NoneMeets index.positions index.left test
+none_listed marks arcs index test c e zs over same n near of_list =
+    none_left index.positions index.left (is_near marks (owners_of 0 arcs) e) test zs
+    (λ z p h. beside_near marks (owners_of 0 arcs) (links_of partner_index 0 arcs) (joined arcs) c e n z p (subst (λ (t : Test). t z p ≡ true) same h))
+    (subst (λ (x : Shown). NoneMeets x.positions x.left (unlisted (is_near marks (owners_of 0 arcs) e) zs)) (sym over) near) of_list
 
 -- ---- places that are looked at one after another
 

@@ -7,7 +7,7 @@ use Rattle.elimination_meaning.specs.Elimination.{Vertex, numbered}
 use Rattle.guarded_meaning.specs.Arcs.{ArcCorner, left_by}
 use Rattle.guarded_meaning.specs.Elimination.{Guard, goes, next_arcs}
 use Rattle.guarded_meaning.specs.Guards.{guarded_by}
-use Rattle.guarded_meaning.specs.Parts.{GoesFirst, IsClearOf, StaysApart}
+use Rattle.guarded_meaning.specs.Parts.{GoesFirst, IsClearOf, StaysApart, unmarked}
 use Rattle.guarded_meaning.proofs.First.{next_law}
 use Rattle.guarded_meaning.proofs.OneFirst.{first_is_one}
 use Rattle.guarded_reduction.specs.declared.query.Corner.{Corner}
@@ -25,6 +25,10 @@ use Rattle.guarded_reduction.proofs.Showing.{IsShownCorner, own_left, shown_corn
 -- a corner in code keeps clear of other arcs
 abbrev pub KeepsClear : List (List Point) → Corner → Type 0
 KeepsClear others corner = (c : ArcCorner) → c.before ≡ corner.before → c.corner.point ≡ corner.at → c.after ≡ corner.after → IsClearOf others c
+
+-- the same arcs lie beside it
+pub clear_same : (marks bs : List Bool) (whole arcs : List (List Point)) (corner : Corner) → bs ≡ marks → arcs ≡ whole → KeepsClear (unmarked bs arcs) corner → KeepsClear (unmarked marks whole) corner
+clear_same marks bs whole arcs corner e f h = subst (λ m. KeepsClear (unmarked m whole) corner) e (subst (λ w. KeepsClear (unmarked bs w) corner) f h)
 
 -- what is said of the corners that go from here on says it of all
 abbrev pub GoesOnApart : List (List Point) → ℕ → ℕ → List (List Point) → List (List Vertex) → Type 0

@@ -315,16 +315,16 @@ none_free t arcs b = record { covers = λ d m g. b.covers d m (free_goes t arcs 
 
 -- ---- corner after corner
 
--- of the arc these indexes are left, and so many corners go at most
-pub record IsLeft (others : List (List Point)) (t n : ℕ) (ps : List Point) (is : List ℕ) : Type 0 where
+-- of the arc these indexes are left, and so many corners go at most; those that went keep clear of the others, if that is said
+pub record IsLeft (others : List (List Point)) (clear : Bool) (t n : ℕ) (ps : List Point) (is : List ℕ) : Type 0 where
   pub inside : All (λ i. i < length ps) is
   pub own : AllByRecursion HasOwnIndexes (only_arc ps is)
   pub rest : eliminate_arcs (guarded_by true []) n t (only_arc ps is) ≡ remaining_arcs (guarded_by true []) t (ps ∷ [])
-  pub apart : GoesOnApart others t n (ps ∷ []) (only_arc ps is)
+  pub apart : clear ≡ true → GoesOnApart others t n (ps ∷ []) (only_arc ps is)
 
 module _ (others : List (List Point)) (t : ℕ) (ps : List Point) where
-  abbrev pub IsReduced : List ℕ → Type 0
-  IsReduced is = (is ∷ [] ≡ reduce_arcs (guarded_by true []) t (ps ∷ [])) × StaysApart others t (length (joined (ps ∷ []))) (map (numbered 0) (ps ∷ []))
+  abbrev pub IsReduced : Bool → List ℕ → Type 0
+  IsReduced clear is = (is ∷ [] ≡ reduce_arcs (guarded_by true []) t (ps ∷ [])) × (clear ≡ true → StaysApart others t (length (joined (ps ∷ []))) (map (numbered 0) (ps ∷ [])))
 
   whole : (is : List ℕ) → is ≡ range_with_len 0 (length ps) → only_arc ps is ≡ map (numbered 0) (ps ∷ [])
   whole is e = ap (λ l. l ∷ []) (ap (vertices ps) e ∙ all_vertices ps)
@@ -336,15 +336,15 @@ module _ (others : List (List Point)) (t : ℕ) (ps : List Point) where
       length-append_nil [] = refl
       length-append_nil (x ∷ xs) = ap suc (length-append_nil xs)
 
-  pub left_first : (n : ℕ) (is : List ℕ) → n ≡ length ps → is ≡ range_with_len 0 (length ps) → IsLeft others t n ps is
-  left_first n is e f = record {
+  pub left_first : (clear : Bool) (n : ℕ) (is : List ℕ) → n ≡ length ps → is ≡ range_with_len 0 (length ps) → IsLeft others clear t n ps is
+  left_first clear n is e f = record {
     inside = subst (λ (l : List ℕ). All (λ i. i < length ps) l) (sym f) (all_inside (length ps));
     own = subst (AllByRecursion HasOwnIndexes) (sym (whole is f)) (all_numbered_own (ps ∷ []));
     rest = ap (λ k. eliminate_arcs (guarded_by true []) k t (only_arc ps is)) (size n e) ∙ ap (eliminate_arcs (guarded_by true []) (length (joined (ps ∷ []))) t) (whole is f);
-    apart = λ s. subst (λ k. StaysApart others t k (map (numbered 0) (ps ∷ []))) (size n e) (subst (StaysApart others t n) (whole is f) s);
+    apart = λ _ s. subst (λ k. StaysApart others t k (map (numbered 0) (ps ∷ []))) (size n e) (subst (StaysApart others t n) (whole is f) s);
   }
 
-  module _ (n : ℕ) (is : List ℕ) (l : IsLeft others t n ps is) where
+  module _ (clear : Bool) (n : ℕ) (is : List ℕ) (l : IsLeft others clear t n ps is) where
     abbrev now : List (List Vertex)
     now = only_arc ps is
 
@@ -358,16 +358,17 @@ module _ (others : List (List Point)) (t : ℕ) (ps : List Point) where
     leaves : (c : Candidate) (js : List ℕ) → js ≡ filter (λ i. not (eqb i c.corner.place)) is → left_by now (corner_of c) ≡ only_arc ps js
     leaves c js e = ap (λ vs. vs ∷ []) (without_vertices ps c.corner.place is ∙ sym (ap (vertices ps) e))
 
-    pub left_next : (m : ℕ) (c : Candidate) (js : List ℕ) → n ≡ suc m → IsBest true t now (Some c) [] → KeepsClear others c.corner → js ≡ filter (λ i. not (eqb i c.corner.place)) is → IsLeft others t m ps js
-    left_next m c js e b clear f =
+    pub left_next : (still : Bool) (m : ℕ) (c : Candidate) (js : List ℕ) → n ≡ suc m → IsBest true t now (Some c) [] → (still ≡ true → clear ≡ true) → (still ≡ true → KeepsClear others c.corner) →
+        js ≡ filter (λ i. not (eqb i c.corner.place)) is → IsLeft others still t m ps js
+    left_next still m c js e b before keeps f =
         let g : GoesFirst t now (corner_of c) = goes_first c b in
         record {
           inside = subst (λ (l : List ℕ). All (λ i. i < length ps) l) (sym f) (All-filter (λ i. not (eqb i c.corner.place)) (λ i. i < length ps) is l.inside);
           own = subst (AllByRecursion HasOwnIndexes) (leaves c js f) (own_indexes_left 0 c.corner.place now l.own);
           rest = one_step (guarded_by true []) n m t now (only_arc ps js) (remaining_arcs (guarded_by true []) t (ps ∷ [])) e
               (next_law (guarded_by true []) t now (corner_of c) g.among g.passes g.none_before ∙ ap Some (leaves c js f)) l.rest;
-          apart = more_apart others t n m (ps ∷ []) now (only_arc ps js) e (λ s d h. subst (λ (x : ArcCorner). IsClearOf others x × StaysApart others t m (left_by now x)) (first_is_one t now (corner_of c) d l.own g h)
-              (clear (corner_of c) refl refl refl, subst (StaysApart others t m) (sym (leaves c js f)) s)) l.apart;
+          apart = λ k. more_apart others t n m (ps ∷ []) now (only_arc ps js) e (λ s d h. subst (λ (x : ArcCorner). IsClearOf others x × StaysApart others t m (left_by now x)) (first_is_one t now (corner_of c) d l.own g h)
+              (keeps k (corner_of c) refl refl refl, subst (StaysApart others t m) (sym (leaves c js f)) s)) (l.apart (before k));
         }
 
     reduced : now ≡ remaining_arcs (guarded_by true []) t (ps ∷ []) → is ∷ [] ≡ reduce_arcs (guarded_by true []) t (ps ∷ [])
@@ -381,14 +382,8 @@ module _ (others : List (List Point)) (t : ℕ) (ps : List Point) where
         on d (inl m) = elim m [ ]
         on d (inr h) = h
 
-    pub left_none : IsBest true t now None [] → IsReduced is
-    left_none b = (reduced (no_step (guarded_by true []) n t now (remaining_arcs (guarded_by true []) t (ps ∷ [])) (none_goes b) l.rest), l.apart (none_apart others t n now (none_goes b)))
+    pub left_none : IsBest true t now None [] → IsReduced clear is
+    left_none b = (reduced (no_step (guarded_by true []) n t now (remaining_arcs (guarded_by true []) t (ps ∷ [])) (none_goes b) l.rest), λ k. l.apart k (none_apart others t n now (none_goes b)))
 
-    pub left_all : n ≡ 0 → IsReduced is
-    left_all e = (reduced (all_steps (guarded_by true []) n t now (remaining_arcs (guarded_by true []) t (ps ∷ [])) e l.rest), all_apart others t n (ps ∷ []) now e l.apart)
-
--- the only one of a list
-pub only_of : {X : Type 0} (xs : List X) (x : X) → length xs ≡ 1 → x ≡ get_or xs 0 x → xs ≡ x ∷ []
-only_of [] x h e = absurd (omega (arith, h))
-only_of (y ∷ []) x h e = ap (λ z. z ∷ []) (sym e)
-only_of (y ∷ (z ∷ zs)) x h e = absurd (omega (arith, h))
+    pub left_all : n ≡ 0 → IsReduced clear is
+    left_all e = (reduced (all_steps (guarded_by true []) n t now (remaining_arcs (guarded_by true []) t (ps ∷ [])) e l.rest), λ k. all_apart others t n (ps ∷ []) now e (l.apart k))

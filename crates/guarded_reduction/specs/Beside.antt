@@ -51,3 +51,9 @@ pub record IsOver (arcs : List (List Point)) (index : Shown) (owners partners : 
   pub index_is : index ≡ all_left (joined arcs)
   pub owners_are : owners ≡ owners_of 0 arcs
   pub partners_are : partners ≡ links_of partner_index 0 arcs
+
+-- all arcs, which of them are marked, and whether no corner that was shown meets one of the others
+pub record Looked : Type 0 where
+  pub whole : List (List Point)
+  pub marks : List Bool
+  pub clear : Bool

@@ -10,10 +10,11 @@
 //! for all (`src/halving.rt`), and one path of a tree of boxes is gone up for each place that goes. `holding` asks it from the side of the
 //! corner where fewer places lie. `free_law` and `blocked_law` tie it to the guard. Rings are asked by how often their arcs move on from a position
 //! to another (`src/kept_rings.rt`). Each look is a search of the index and a step of the queue; how many there are, and how many cells or boxes each goes
-//! through, is not promised. Where no crossing may be made and no ring has to stay, each arc is reduced by itself, as long as no corner of it that goes
-//! meets another arc, and those together of which one does (`src/parts.rt`): `WholeArcs` has the cells of all places, of which none goes, for that.
-//! Of a short one all corners are looked at for each that goes, without an index or a queue (`src/short_arc.rt`); where many are under the threshold, the
-//! places of other arcs in its box are listed once, and each of its corners is looked at beside these alone.
+//! through, is not promised. Where no crossing may be made and no ring has to stay, the arcs are reduced in parts (`src/parts.rt`), each by
+//! itself: first each arc, then those together whose corners meet each other (`src/joins.rt`), until no part meets another. `OtherArcs` is shown each
+//! corner that goes, and notes which arcs of other parts it meets; `WholeArcs` has the cells of all places, of which none goes, for that. Of a short
+//! arc all corners are looked at for each that goes, without an index or a queue (`src/short_arc.rt`); where many are under the threshold, the places of
+//! other arcs in its box are listed once, and each of its corners is looked at beside these alone.
 //! `crossings_with` counts pairs of segments that meet badly, and gives the first of them. Up to eight segments of an arc, one after another, stay
 //! together, and these stretches are halved in the same way. A stretch, or a few short ones in that order, is a unit (`src/unit.rt`). Each unit has a
 //! box round it, and so do four units, four of these, and so on; and where all segments of such a block have one end, as those of a star, the others
@@ -40,6 +41,7 @@ mod gathering;
 mod halving;
 mod holding;
 mod index;
+mod joins;
 mod kept_rings;
 mod laws;
 mod levels;
@@ -47,10 +49,14 @@ mod line;
 mod linked_places;
 mod looking;
 mod meeting;
+mod meetings;
+mod members;
 mod neighbours;
 mod noted_areas;
 mod ordering;
+mod other_arcs;
 mod pairing;
+mod part;
 mod parts;
 mod probe;
 mod pushing;

@@ -1,198 +1,26 @@
-// Arcs that are reduced each by itself, as far as they keep clear of all others, and the others at once.
-ghost use Rattle.std.specs.Prelude.{◌≡◌, [], ◌∷◌, true, IfOk, OnOk, length, map};
+// Arcs that are reduced in parts.
+ghost use Rattle.std.specs.Prelude.{◌≡◌, ◌<◌, ℕ, [], All, IfOk, OnOk, Some, false, length, map, replicate, slice_index_or, true};
 ghost use Rattle.std.specs.Option.{IfSome};
 ghost use Rattle.elimination_meaning.specs.Elimination.{numbered};
 ghost use Rattle.geometry.specs.Lists.{joined};
 ghost use Rattle.guarded_meaning.specs.Elimination.{reduce_arcs};
 ghost use Rattle.guarded_meaning.specs.Guards.{guarded_by};
-ghost use Rattle.guarded_meaning.specs.Parts.{StaysApart, marked, unmarked};
-ghost use Rattle.guarded_reduction.specs.Parts.{AreAlone, MarksMore, PutsAlone};
+ghost use Rattle.guarded_meaning.specs.Parts.{StaysApart, unmarked};
+ghost use Rattle.guarded_reduction.specs.Parts.{AreStanding, of_numbers, with_lists, with_marks};
 
-use crate::extent::{Extent, around, empty_extent, joined, meets};
-use crate::reducing::reduce_beside;
-use crate::short_arc::reduced_short;
-use crate::surroundings::OtherArcs;
+use crate::joins::Joins;
+use crate::members::{copies, empty_lists, members_of, put};
+use crate::other_arcs::OtherArcs;
+use crate::part::reduced_part;
 use crate::whole_arcs::WholeArcs;
-use effective_area::cross;
+use effective_area::all_indexes;
 use geometry::Position;
 use owned_values::{Items, Memory};
 use std::alloc::Global;
-use std::{mem, slice};
+use std::slice;
 
-/// So many boxes are compared at most for each position, to find the arcs that may meet those that don't keep clear of others.
-const MOST_BOXES: usize = 32;
-
-/// An arc is short that has so many positions at most.
-const MOST_SHORT: usize = 64;
-
-/// So many places that lie near a short arc are listed at most.
-const MOST_NEAR: usize = 32;
-
-/// So many cells and places for each position of a short arc are gone through at most, to list what lies near it.
-const MOST_LOOKS: usize = 64;
-
-/// One of so many corners of a short arc is looked at, to see whether it pays to list what lies near the arc.
-const SAMPLE: usize = 4;
-
-/// It pays where one of so many of them is under the threshold, or more.
-const FEW_UNDER: usize = 4;
-
-/// Many corners of an arc are under the threshold, as far as they are looked at.
-fn are_many_under(arc: &[Position], threshold: u128) -> bool {
-    let looks = arc.len() / SAMPLE;
-    let mut count = 0usize;
-    for i in 0..looks {
-        let k = SAMPLE * i;
-        if cross(arc[k], arc[k + 1], arc[k + 2]).unsigned_abs() < threshold {
-            count = count.saturating_add(FEW_UNDER);
-        }
-    }
-    count > looks
-}
-
-/// Of one short arc the numbers of the positions that stay, where no corner that goes meets an arc that isn't marked.
-fn short_alone(
-    alloc: Global,
-    whole: &WholeArcs<'_>,
-    inside: &[bool],
-    arc: &[Position],
-    threshold: u128,
-    near: &mut Vec<usize>,
-) -> Result<Option<Vec<usize>>, Memory>
-    requires marks { length inside.now ≡ length whole.now }
-    ensures apart { IfOk result (λ found. IfSome found (λ _. StaysApart (unmarked inside.now whole.now) threshold (length (joined (arc.now ∷ []))) (map (numbered 0) (arc.now ∷ [])))) }
-    ensures kept { IfOk result (λ found. IfSome found (λ kept. kept.items ∷ [] ≡ reduce_arcs (guarded_by true []) threshold (arc.now ∷ []))) }
-{
-    if are_many_under(arc, threshold) {
-        let within = box_of(arc);
-        let most = arc.len().saturating_mul(MOST_LOOKS);
-        if whole.list_near(inside, &within, most, near) {
-            let beside = OtherArcs::listed(whole, inside, within, near.as_slice());
-            return reduced_short(alloc, arc, threshold, &beside);
-        }
-    }
-    let beside = OtherArcs::of(whole, inside);
-    reduced_short(alloc, arc, threshold, &beside)
-}
-
-/// Of one arc the numbers of the positions that stay, where no corner that goes meets an arc that isn't marked.
-fn reduced_alone(
-    alloc: Global,
-    whole: &WholeArcs<'_>,
-    inside: &[bool],
-    arc: &[Items<Position>],
-    threshold: u128,
-    near: &mut Vec<usize>,
-) -> Result<Option<Vec<usize>>, Memory>
-    requires marks { length inside.now ≡ length whole.now }
-    requires one { length arc.now ≡ 1 }
-    ensures apart { IfOk result (λ found. IfSome found (λ _. StaysApart (unmarked inside.now whole.now) threshold (length (joined arc.now)) (map (numbered 0) arc.now))) }
-    ensures kept { IfOk result (λ found. IfSome found (λ kept. kept.items ∷ [] ≡ reduce_arcs (guarded_by true []) threshold arc.now)) }
-{
-    let positions = arc[0].as_slice();
-    if positions.len() <= MOST_SHORT {
-        return short_alone(alloc, whole, inside, positions, threshold, near);
-    }
-    let beside = OtherArcs::of(whole, inside);
-    let Some(mut kept) = reduce_beside(alloc, arc, true, &[], threshold, &beside)? else {
-        return Ok(None);
-    };
-    Ok(kept.pop())
-}
-
-/// Of each arc the numbers of the positions that stay, where no corner of it that goes meets another arc. The others are marked.
-fn each_alone(
-    alloc: Global,
-    whole: &WholeArcs<'_>,
-    arcs: &[Items<Position>],
-    threshold: u128,
-    marks: &mut [bool],
-) -> Result<Vec<Vec<usize>>, Memory>
-    requires whole { whole.now ≡ arcs.now }
-    requires marks { length marks.old ≡ length arcs.now }
-    ensures many { OnOk result (length marks.new ≡ length arcs.now) }
-    ensures alone { IfOk result (λ all. AreAlone threshold arcs.now marks.new (length arcs.now) (map (λ v. v.items) all.items)) }
-{
-    let mut inside = vec![in alloc; false; arcs.len()]?;
-    let mut near = Vec::with_capacity(alloc, MOST_NEAR)?;
-    let mut all = Vec::with_capacity(alloc, arcs.len())?;
-    'arcs: for k in 0..arcs.len() {
-        let arc = slice::from_ref(&arcs[k]);
-        inside[k] = true;
-        let found = reduced_alone(alloc, whole, inside.as_slice(), arc, threshold, &mut near)?;
-        inside[k] = false;
-        match found {
-            Some(kept) => all.push(kept)?,
-            None => {
-                marks[k] = true;
-                all.push(Vec::new(alloc))?;
-            }
-        }
-    }
-    Ok(all)
-}
-
-/// The box round an arc.
-fn box_of(arc: &[Position]) -> Extent {
-    let mut e = empty_extent();
-    for position in arc {
-        e = joined(e, around(*position));
-    }
-    e
-}
-
-/// The boxes of the arcs that are marked.
-fn marked_boxes(
-    alloc: Global,
-    arcs: &[Items<Position>],
-    marks: &[bool],
-) -> Result<Vec<Extent>, Memory>
-    requires { length marks.now ≡ length arcs.now }
-{
-    let mut boxes = Vec::new(alloc);
-    for k in 0..arcs.len() {
-        if marks[k] {
-            boxes.push(box_of(arcs[k].as_slice()))?;
-        }
-    }
-    Ok(boxes)
-}
-
-/// One of the boxes meets this one.
-fn any_meets(boxes: &[Extent], e: Extent) -> bool {
-    for other in boxes {
-        if meets(*other, e) {
-            return true;
-        }
-    }
-    false
-}
-
-/// Marks the arcs whose boxes meet one of these.
-fn mark_near(arcs: &[Items<Position>], boxes: &[Extent], marks: &mut [bool])
-    requires { length marks.old ≡ length arcs.now }
-    ensures { MarksMore marks.old marks.new }
-{
-    'arcs: for k in 0..arcs.len() {
-        if !marks[k] && any_meets(boxes, box_of(arcs[k].as_slice())) {
-            marks[k] = true;
-        }
-    }
-}
-
-/// Marks the arcs that may meet those that are marked. The answer is no where it would take too long to find them.
-fn spread_marks(alloc: Global, arcs: &[Items<Position>], marks: &mut [bool]) -> Result<bool, Memory>
-    requires { length marks.old ≡ length arcs.now }
-    ensures { OnOk result (MarksMore marks.old marks.new) }
-{
-    let boxes = marked_boxes(alloc, arcs, marks)?;
-    let most = count_positions(arcs).saturating_mul(MOST_BOXES);
-    if boxes.len().saturating_mul(arcs.len()) > most {
-        return Ok(false);
-    }
-    mark_near(arcs, boxes.as_slice(), marks);
-    Ok(true)
-}
+/// The arcs are reduced in parts so often at most.
+const MOST_ROUNDS: usize = 16;
 
 /// How many positions the arcs have.
 fn count_positions(arcs: &[Items<Position>]) -> usize {
@@ -214,43 +42,186 @@ fn has_long_arc(arcs: &[Items<Position>]) -> bool {
     false
 }
 
-/// The marked arcs, with nothing in the place of the others.
-fn marked_copies(
+/// Of the arcs of these numbers, which are a part, the numbers of the positions that stay.
+fn reduced_members(
     alloc: Global,
     arcs: &[Items<Position>],
-    marks: &[bool],
-) -> Result<Vec<Items<Position>>, Memory>
-    requires { length marks.now ≡ length arcs.now }
-    ensures { IfOk result (λ all. all.items ≡ marked marks.now arcs.now) }
+    numbers: &[usize],
+    threshold: u128,
+    others: &mut OtherArcs<'_>,
+) -> Result<Vec<Vec<usize>>, Memory>
+    requires { All (λ k. k < length arcs.now) numbers.now }
+    ensures others { others.new.whole ≡ others.old.whole }
+    ensures marks { others.new.marks ≡ others.old.marks }
+    ensures kept { IfOk result (λ kept. map (λ v. v.items) kept.items ≡ reduce_arcs (guarded_by true []) threshold (of_numbers numbers.now arcs.now)) }
+    ensures apart { IfOk result (λ _. others.new.clear ≡ true → StaysApart (unmarked others.old.marks others.old.whole) threshold (length (joined (of_numbers numbers.now arcs.now))) (map (numbered 0) (of_numbers numbers.now arcs.now))) }
 {
-    let mut all = Vec::with_capacity(alloc, arcs.len())?;
-    'arcs: for k in 0..arcs.len() {
-        let mut positions = Vec::new(alloc);
-        if marks[k] {
-            positions.extend_from_slice(arcs[k].as_slice())?;
-        }
-        all.push(Items::of(positions))?;
+    if numbers.len() == 1 {
+        return reduced_part(alloc, slice::from_ref(&arcs[numbers[0]]), threshold, others);
     }
-    Ok(all)
+    let members = copies(alloc, arcs, numbers)?;
+    reduced_part(alloc, members.as_slice(), threshold, others)
 }
 
-/// Puts what stays of each arc that isn't marked in its place.
-fn put_alone(all: &mut [Vec<usize>], kept: &mut [Vec<usize>], marks: &[bool])
-    requires kept { length kept.old ≡ length all.old }
-    requires marks { length marks.now ≡ length all.old }
-    ensures { PutsAlone marks.now (map (λ v. v.items) kept.old) (map (λ v. v.items) all.old) (map (λ v. v.items) all.new) }
+/// Joins a part and those of the arcs that it meets.
+fn join_met(joins: &mut Joins, parts: &[usize], part: usize, met: &[usize])
+    requires part { part < length joins.old.joined }
+    requires within { All (λ p. p < length joins.old.joined) parts.now }
+    ensures { length joins.new.joined ≡ length joins.old.joined }
 {
-    'arcs: for k in 0..all.len() {
-        if !marks[k] {
-            mem::swap(&mut all[k], &mut kept[k]);
+    for arc in met {
+        if *arc < parts.len() {
+            joins.join(part, parts[*arc]);
         }
     }
 }
 
-/// Of each arc the numbers of the positions that stay, where no corner goes that would make a crossing: each arc is reduced by itself, unless a corner
-/// that goes meets another arc, whatever is left of that. Those of which one does, and those that may meet these, are reduced together. Nothing
-/// where that doesn't succeed: where one of them meets an arc that was reduced by itself, or too many don't stand alone. It isn't tried where one arc
-/// has half of all positions, which would be gone through twice.
+/// Reduces the arcs of a part, if they keep clear of the others.
+fn reduce_one(
+    alloc: Global,
+    arcs: &[Items<Position>],
+    threshold: u128,
+    others: &mut OtherArcs<'_>,
+    numbers: &[usize],
+    kept: &mut [Vec<usize>],
+) -> Result<bool, Memory>
+    requires whole { others.old.whole ≡ arcs.now }
+    requires marks { length others.old.marks ≡ length arcs.now }
+    requires within { All (λ k. k < length arcs.now) numbers.now }
+    requires kept { length kept.old ≡ length arcs.now }
+    ensures whole { others.new.whole ≡ arcs.now }
+    ensures marks { others.new.marks ≡ with_marks numbers.now true others.old.marks }
+    ensures kept { IfOk result (λ is_clear. is_clear ≡ true → map (λ v. v.items) kept.new ≡ with_lists numbers.now (reduce_arcs (guarded_by true []) threshold (of_numbers numbers.now arcs.now)) (map (λ v. v.items) kept.old)) }
+    ensures same { IfOk result (λ is_clear. is_clear ≡ false → kept.new ≡ kept.old) }
+    ensures apart { IfOk result (λ is_clear. is_clear ≡ true → StaysApart (unmarked (with_marks numbers.now true others.old.marks) arcs.now) threshold (length (joined (of_numbers numbers.now arcs.now))) (map (numbered 0) (of_numbers numbers.now arcs.now))) }
+{
+    others.mark(numbers, true);
+    let mut found = reduced_members(alloc, arcs, numbers, threshold, others)?;
+    let is_clear = others.meetings().is_clear;
+    if is_clear {
+        put(kept, numbers, found.as_mut_slice());
+    }
+    Ok(is_clear)
+}
+
+/// Reduces the parts that are pending, and joins each that meets others to these: then they are left. The answer is no where it takes too long to see
+/// which arcs are met.
+fn reduce_pending(
+    alloc: Global,
+    arcs: &[Items<Position>],
+    threshold: u128,
+    others: &mut OtherArcs<'_>,
+    parts: &[usize],
+    pending: &mut [bool],
+    joins: &mut Joins,
+    kept: &mut [Vec<usize>],
+) -> Result<bool, Memory>
+    requires standing { AreStanding threshold arcs.now parts.now pending.old (map (λ v. v.items) kept.old) }
+    requires whole { others.old.whole ≡ arcs.now }
+    requires marks { others.old.marks ≡ replicate (length arcs.now) false }
+    requires joins { length joins.old.joined ≡ length arcs.now }
+    ensures standing { IfOk result (λ found. found ≡ true → AreStanding threshold arcs.now parts.now pending.new (map (λ v. v.items) kept.new)) }
+    ensures whole { OnOk result (others.new.whole ≡ arcs.now) }
+    ensures marks { IfOk result (λ found. found ≡ true → others.new.marks ≡ replicate (length arcs.now) false) }
+    ensures joins { OnOk result (length joins.new.joined ≡ length arcs.now) }
+    ensures kept { OnOk result (length kept.new ≡ length kept.old) }
+    ensures pending { OnOk result (length pending.new ≡ length pending.old) }
+{
+    let members = members_of(alloc, parts, pending)?;
+    for part in 0..members.len() {
+        let numbers = members[part].as_slice();
+        if numbers.is_empty() || joins.is_joined(part) {
+            continue;
+        }
+        if reduce_one(alloc, arcs, threshold, others, numbers, kept)? {
+            pending[part] = false;
+        } else if others.meetings().is_over() {
+            return Ok(false);
+        } else {
+            join_met(joins, parts, part, others.meetings().arcs.as_slice());
+        }
+        others.mark(numbers, false);
+    }
+    Ok(true)
+}
+
+/// No part is pending.
+fn are_done(parts: &[usize], pending: &[bool]) -> bool
+    requires { All (λ p. p < length pending.now) parts.now }
+    ensures { result ≡ true → (k : ℕ) → k < length parts.now → slice_index_or pending.now (slice_index_or parts.now k 0) true ≡ false }
+{
+    for part in parts {
+        if pending[*part] {
+            return false;
+        }
+    }
+    true
+}
+
+/// Each part that is joined is pending again.
+fn reopen(pending: &mut [bool], joins: &Joins)
+    requires { length joins.now.joined ≡ length pending.old }
+    ensures many { length pending.new ≡ length pending.old }
+    ensures joined { (r : ℕ) → slice_index_or joins.now.joined r true ≡ true → slice_index_or pending.new r true ≡ true }
+    ensures others { (r : ℕ) → slice_index_or joins.now.joined r true ≡ false → slice_index_or pending.new r true ≡ slice_index_or pending.old r true }
+{
+    for part in 0..pending.len() {
+        if joins.is_joined(part) {
+            pending[part] = true;
+        }
+    }
+}
+
+/// Each arc is in the part that its part is joined to.
+fn relabel(parts: &mut [usize], joins: &mut Joins)
+    requires { All (λ p. p < length joins.old.joined) parts.old }
+    ensures many { length parts.new ≡ length parts.old }
+    ensures within { All (λ p. p < length joins.old.joined) parts.new }
+    ensures from { (k : ℕ) → slice_index_or joins.old.joined (slice_index_or parts.old k 0) true ≡ false → slice_index_or parts.new k 0 ≡ slice_index_or parts.old k 0 }
+    ensures to { (k : ℕ) → slice_index_or joins.old.joined (slice_index_or parts.new k 0) true ≡ false → slice_index_or parts.new k 0 ≡ slice_index_or parts.old k 0 }
+{
+    for k in 0..parts.len() {
+        let root = joins.root(parts[k]);
+        parts[k] = root;
+    }
+}
+
+/// One round: the parts that are pending are reduced, and those that meet each other are joined. The answer is yes where none is pending then, so that
+/// what stays of the parts is what stays of all arcs. There is none where it takes too long to see which arcs are met.
+fn reduce_round(
+    alloc: Global,
+    arcs: &[Items<Position>],
+    threshold: u128,
+    others: &mut OtherArcs<'_>,
+    parts: &mut [usize],
+    pending: &mut [bool],
+    kept: &mut [Vec<usize>],
+) -> Result<Option<bool>, Memory>
+    requires standing { AreStanding threshold arcs.now parts.old pending.old (map (λ v. v.items) kept.old) }
+    requires whole { others.old.whole ≡ arcs.now }
+    requires marks { others.old.marks ≡ replicate (length arcs.now) false }
+    ensures standing { IfOk result (λ found. IfSome found (λ _. AreStanding threshold arcs.now parts.new pending.new (map (λ v. v.items) kept.new))) }
+    ensures done { IfOk result (λ found. found ≡ Some true → map (λ v. v.items) kept.new ≡ reduce_arcs (guarded_by true []) threshold arcs.now) }
+    ensures whole { OnOk result (others.new.whole ≡ arcs.now) }
+    ensures marks { IfOk result (λ found. IfSome found (λ _. others.new.marks ≡ replicate (length arcs.now) false)) }
+{
+    let mut joins = Joins::none(alloc, arcs.len())?;
+    if !reduce_pending(
+        alloc, arcs, threshold, others, parts, pending, &mut joins, kept,
+    )? {
+        return Ok(None);
+    }
+    reopen(pending, &joins);
+    if are_done(parts, pending) {
+        return Ok(Some(true));
+    }
+    relabel(parts, &mut joins);
+    Ok(Some(false))
+}
+
+/// Of each arc the numbers of the positions that stay, where no corner goes that would make a crossing: the arcs are reduced in parts, first each by
+/// itself, then those that meet each other together, until no part meets another. Nothing where that doesn't succeed: where it takes too long to see
+/// which arcs are met, or too many rounds. It isn't tried where one arc has half of all positions, which would be gone through twice.
 pub fn reduce_by_parts(
     alloc: Global,
     arcs: &[Items<Position>],
@@ -261,18 +232,28 @@ pub fn reduce_by_parts(
     if has_long_arc(arcs) {
         return Ok(None);
     }
+    let n = arcs.len();
     let whole = WholeArcs::of(alloc, arcs)?;
-    let mut marks = vec![in alloc; false; arcs.len()]?;
-    let mut kept = each_alone(alloc, &whole, arcs, threshold, marks.as_mut_slice())?;
-    if !spread_marks(alloc, arcs, marks.as_mut_slice())? {
-        return Ok(None);
+    let mut others = OtherArcs::of(alloc, &whole, n, count_positions(arcs))?;
+    let mut kept = empty_lists(alloc, n)?;
+    let mut parts = all_indexes(alloc, n)?;
+    let mut pending = vec![in alloc; true; n]?;
+    'rounds: for _round in 0..MOST_ROUNDS {
+        let Some(is_done) = reduce_round(
+            alloc,
+            arcs,
+            threshold,
+            &mut others,
+            parts.as_mut_slice(),
+            pending.as_mut_slice(),
+            kept.as_mut_slice(),
+        )?
+        else {
+            return Ok(None);
+        };
+        if is_done {
+            return Ok(Some(kept));
+        }
     }
-    let others = marked_copies(alloc, arcs, marks.as_slice())?;
-    let beside = OtherArcs::of(&whole, marks.as_slice());
-    let Some(mut all) = reduce_beside(alloc, others.as_slice(), true, &[], threshold, &beside)?
-    else {
-        return Ok(None);
-    };
-    put_alone(all.as_mut_slice(), kept.as_mut_slice(), marks.as_slice());
-    Ok(Some(all))
+    Ok(None)
 }

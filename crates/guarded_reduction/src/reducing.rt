@@ -1,13 +1,12 @@
 // The reduction.
-ghost use Rattle.std.specs.Prelude.{◌≡◌, ◌+◌, ◌≤◌, [], IfOk, OnOk, is_some, true, length, map};
+ghost use Rattle.std.specs.Prelude.{◌≡◌, ◌+◌, ◌≤◌, [], IfOk, OnOk, true, length, map};
 ghost use Rattle.std.specs.List.{AllByRecursion};
-ghost use Rattle.std.specs.Option.{IfSome};
 ghost use Rattle.elimination_meaning.specs.Elimination.{numbered};
 ghost use Rattle.geometry.specs.Joins.{AreInRange, Meet, arc_at};
 ghost use Rattle.geometry.specs.Lists.{joined};
 ghost use Rattle.guarded_meaning.specs.Elimination.{reduce_arcs, remaining_arcs};
 ghost use Rattle.guarded_meaning.specs.Guards.{guarded_by, is_long};
-ghost use Rattle.guarded_meaning.specs.Parts.{StaysApart};
+ghost use Rattle.guarded_meaning.specs.Parts.{StaysApart, unmarked};
 ghost use Rattle.guarded_reduction.specs.First.{first_linked};
 ghost use Rattle.guarded_reduction.specs.Numbers.{all_kept_indexes, kept_indexes, left_arcs};
 
@@ -23,24 +22,25 @@ use geometry::{ArcRef, Position};
 use owned_values::{Items, Memory};
 use std::alloc::Global;
 
-/// The places go that are reduced at a threshold, as long as no corner that goes meets what lies beside the arcs. Whether none did.
+/// The places go that are reduced at a threshold. What lies beside the arcs is shown the corners that go.
 fn reduce_places<S: Surroundings>(
     alloc: Global,
     arcs: &[Items<Position>],
     rings: &[Items<ArcRef>],
     threshold: u128,
     places: &mut LinkedPlaces,
-    beside: &S,
-) -> Result<bool, Memory>
+    beside: &mut S,
+) -> Result<(), Memory>
     requires in_range { AllByRecursion (AreInRange (length arcs.now)) rings.now }
     requires meet { AllByRecursion (λ refs. Meet (map (arc_at arcs.now) refs)) rings.now }
     requires long { AllByRecursion (λ refs. is_long arcs.now refs ≡ true) rings.now }
     requires first { places.old ≡ first_linked places.old.no_crossings arcs.now }
     ensures positions { OnOk result (length places.new.positions ≡ length (joined arcs.now)) }
-    ensures left { IfOk result (λ apart. apart ≡ true → left_arcs arcs.now places.new.left ≡ remaining_arcs (guarded_by places.old.no_crossings rings.now) threshold arcs.now) }
-    ensures apart { IfOk result (λ apart. apart ≡ true → places.old.no_crossings ≡ true → rings.now ≡ []
-        → StaysApart (S.others beside.now) threshold (length (joined arcs.now)) (map (numbered 0) arcs.now)) }
-    ensures empty { S.are_empty beside.now ≡ true → IfOk result (λ apart. apart ≡ true) }
+    ensures left { OnOk result (left_arcs arcs.now places.new.left ≡ remaining_arcs (guarded_by places.old.no_crossings rings.now) threshold arcs.now) }
+    ensures whole { S.whole beside.new ≡ S.whole beside.old }
+    ensures marks { S.marks beside.new ≡ S.marks beside.old }
+    ensures apart { OnOk result (S.are_clear beside.new ≡ true → places.old.no_crossings ≡ true → rings.now ≡ []
+        → StaysApart (unmarked (S.marks beside.old) (S.whole beside.old)) threshold (length (joined arcs.now)) (map (numbered 0) arcs.now)) }
 {
     let mut kept = KeptRings::of(alloc, arcs, rings)?;
     let n = places.len();
@@ -60,41 +60,37 @@ fn reduce_places<S: Surroundings>(
         )?;
         places.law();
         let Some(entry) = next else {
-            return Ok(true);
+            return Ok(());
         };
         let stretch = entry.after.wrapping_sub(entry.before);
-        if !beside.are_clear_of(&places.corner(entry.place), stretch) {
-            return Ok(false);
-        }
+        beside.show(&places.corner(entry.place), stretch)?;
         take_out(&mut queue, places, &waiting, round, entry)?;
     }
-    Ok(true)
+    Ok(())
 }
 
-/// The places that stay, where no corner that goes meets what lies beside the arcs.
+/// The places that stay. What lies beside the arcs is shown the corners that go.
 fn reduced_places<S: Surroundings>(
     alloc: Global,
     arcs: &[Items<Position>],
     no_crossings: bool,
     rings: &[Items<ArcRef>],
     threshold: u128,
-    beside: &S,
-) -> Result<Option<LinkedPlaces>, Memory>
+    beside: &mut S,
+) -> Result<LinkedPlaces, Memory>
     requires in_range { AllByRecursion (AreInRange (length arcs.now)) rings.now }
     requires meet { AllByRecursion (λ refs. Meet (map (arc_at arcs.now) refs)) rings.now }
     requires long { AllByRecursion (λ refs. is_long arcs.now refs ≡ true) rings.now }
-    ensures positions { IfOk result (λ found. IfSome found (λ s. length s.positions ≡ length (joined arcs.now))) }
-    ensures left { IfOk result (λ found. IfSome found (λ s. left_arcs arcs.now s.left ≡ remaining_arcs (guarded_by no_crossings rings.now) threshold arcs.now)) }
-    ensures apart { IfOk result (λ found. IfSome found (λ _. no_crossings ≡ true → rings.now ≡ []
-        → StaysApart (S.others beside.now) threshold (length (joined arcs.now)) (map (numbered 0) arcs.now))) }
-    ensures empty { S.are_empty beside.now ≡ true → IfOk result (λ found. is_some found ≡ true) }
+    ensures positions { IfOk result (λ s. length s.positions ≡ length (joined arcs.now)) }
+    ensures left { IfOk result (λ s. left_arcs arcs.now s.left ≡ remaining_arcs (guarded_by no_crossings rings.now) threshold arcs.now) }
+    ensures whole { S.whole beside.new ≡ S.whole beside.old }
+    ensures marks { S.marks beside.new ≡ S.marks beside.old }
+    ensures apart { IfOk result (λ _. S.are_clear beside.new ≡ true → no_crossings ≡ true → rings.now ≡ []
+        → StaysApart (unmarked (S.marks beside.old) (S.whole beside.old)) threshold (length (joined arcs.now)) (map (numbered 0) arcs.now)) }
 {
     let mut places = LinkedPlaces::of(alloc, arcs, no_crossings)?;
-    if reduce_places(alloc, arcs, rings, threshold, &mut places, beside)? {
-        Ok(Some(places))
-    } else {
-        Ok(None)
-    }
+    reduce_places(alloc, arcs, rings, threshold, &mut places, beside)?;
+    Ok(places)
 }
 
 /// Of n places from a first one on the indexes of those that are left.
@@ -137,28 +133,26 @@ fn all_kept(
     Ok(all)
 }
 
-/// Of each arc the numbers of the positions that stay, where no corner that goes meets what lies beside the arcs.
+/// Of each arc the numbers of the positions that stay. What lies beside the arcs is shown the corners that go.
 pub fn reduce_beside<S: Surroundings>(
     alloc: Global,
     arcs: &[Items<Position>],
     no_crossings: bool,
     rings: &[Items<ArcRef>],
     threshold: u128,
-    beside: &S,
-) -> Result<Option<Vec<Vec<usize>>>, Memory>
+    beside: &mut S,
+) -> Result<Vec<Vec<usize>>, Memory>
     requires in_range { AllByRecursion (AreInRange (length arcs.now)) rings.now }
     requires meet { AllByRecursion (λ refs. Meet (map (arc_at arcs.now) refs)) rings.now }
     requires long { AllByRecursion (λ refs. is_long arcs.now refs ≡ true) rings.now }
-    ensures kept { IfOk result (λ found. IfSome found (λ kept. map (λ k. k.items) kept.items ≡ reduce_arcs (guarded_by no_crossings rings.now) threshold arcs.now)) }
-    ensures apart { IfOk result (λ found. IfSome found (λ _. no_crossings ≡ true → rings.now ≡ []
-        → StaysApart (S.others beside.now) threshold (length (joined arcs.now)) (map (numbered 0) arcs.now))) }
-    ensures empty { S.are_empty beside.now ≡ true → IfOk result (λ found. is_some found ≡ true) }
+    ensures kept { IfOk result (λ kept. map (λ k. k.items) kept.items ≡ reduce_arcs (guarded_by no_crossings rings.now) threshold arcs.now) }
+    ensures whole { S.whole beside.new ≡ S.whole beside.old }
+    ensures marks { S.marks beside.new ≡ S.marks beside.old }
+    ensures apart { IfOk result (λ _. S.are_clear beside.new ≡ true → no_crossings ≡ true → rings.now ≡ []
+        → StaysApart (unmarked (S.marks beside.old) (S.whole beside.old)) threshold (length (joined arcs.now)) (map (numbered 0) arcs.now)) }
 {
-    let Some(places) = reduced_places(alloc, arcs, no_crossings, rings, threshold, beside)? else {
-        return Ok(None);
-    };
-    let kept = all_kept(alloc, &places, arcs)?;
-    Ok(Some(kept))
+    let places = reduced_places(alloc, arcs, no_crossings, rings, threshold, beside)?;
+    all_kept(alloc, &places, arcs)
 }
 
 /// Of each arc the numbers of the positions that stay, where all arcs are reduced at once, no corner goes that would make a crossing, where crossings
@@ -181,8 +175,5 @@ pub fn reduce_guarded(
             return Ok(kept);
         }
     }
-    match reduce_beside(alloc, arcs, no_crossings, rings, threshold, &Nothing)? {
-        Some(kept) => Ok(kept),
-        None => unreachable!(),
-    }
+    reduce_beside(alloc, arcs, no_crossings, rings, threshold, &mut Nothing)
 }

@@ -11,7 +11,7 @@ ghost use Rattle.guarded_meaning.specs.Elimination as meaning;
 ghost use Rattle.guarded_meaning.specs.Elimination.{reduce_arcs};
 ghost use Rattle.guarded_meaning.specs.Guards as guards;
 ghost use Rattle.guarded_meaning.specs.Guards.{guarded_by};
-ghost use Rattle.guarded_meaning.specs.Parts.{StaysApart};
+ghost use Rattle.guarded_meaning.specs.Parts.{StaysApart, unmarked};
 ghost use Rattle.guarded_meaning.specs.Triangles.{in_triangle};
 ghost use Rattle.guarded_reduction.specs.Extents.{HoldsPoint};
 ghost use Rattle.guarded_reduction.specs.Noted.{AreNoted, area_between};
@@ -271,27 +271,28 @@ fn take_out(left: &mut Vec<usize>, index: usize)
     left.retain(move |i| !(*i == index));
 }
 
-/// Of an arc the indexes that stay, where no corner goes that would make a crossing, and none that goes meets what lies beside it. Each time all corners
-/// that are left are looked at, which suits short arcs: nothing has to be made ready for it.
+/// Of an arc the indexes that stay, where no corner goes that would make a crossing. What lies beside it is shown the corners that go. Each time all
+/// corners that are left are looked at, which suits short arcs: nothing has to be made ready for it.
 pub fn reduced_short<S: Surroundings>(
     alloc: Global,
     arc: &[Position],
     threshold: u128,
-    beside: &S,
-) -> Result<Option<Vec<usize>>, Memory>
-    ensures apart { IfOk result (λ found. IfSome found (λ _. StaysApart (S.others beside.now) threshold (length (joined (arc.now ∷ []))) (map (numbered 0) (arc.now ∷ [])))) }
-    ensures kept { IfOk result (λ found. IfSome found (λ kept. kept.items ∷ [] ≡ reduce_arcs (guarded_by true []) threshold (arc.now ∷ []))) }
+    beside: &mut S,
+) -> Result<Vec<usize>, Memory>
+    ensures kept { IfOk result (λ kept. kept.items ∷ [] ≡ reduce_arcs (guarded_by true []) threshold (arc.now ∷ [])) }
+    ensures whole { S.whole beside.new ≡ S.whole beside.old }
+    ensures marks { S.marks beside.new ≡ S.marks beside.old }
+    ensures apart { IfOk result (λ _. S.are_clear beside.new ≡ true
+        → StaysApart (unmarked (S.marks beside.old) (S.whole beside.old)) threshold (length (joined (arc.now ∷ []))) (map (numbered 0) (arc.now ∷ []))) }
 {
     let mut left = all_indexes(alloc, arc.len())?;
     let mut notes = first_notes(alloc, arc)?;
     'corners: for _step in 0..arc.len() {
         let Some(found) = next_candidate(arc, left.as_slice(), &mut notes, threshold) else {
-            return Ok(Some(left));
+            return Ok(left);
         };
-        if !beside.are_clear_of(&found.corner, found.stretch) {
-            return Ok(None);
-        }
+        beside.show(&found.corner, found.stretch)?;
         take_out(&mut left, found.corner.place);
     }
-    Ok(Some(left))
+    Ok(left)
 }

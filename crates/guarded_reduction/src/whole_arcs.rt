@@ -1,16 +1,21 @@
 // All arcs, whole.
-ghost use Rattle.std.specs.Prelude.{◌≡◌, IfOk, length, true};
+ghost use Rattle.std.specs.Prelude.{◌≡◌, IfOk, Some, length, true};
+ghost use Rattle.geometry.specs.Lists.{joined};
 ghost use Rattle.geometry.specs.Points.{Point};
 ghost use Rattle.guarded_meaning.specs.Arcs.{ArcCorner};
 ghost use Rattle.guarded_meaning.specs.Parts.{IsClearOf, unmarked};
 ghost use Rattle.guarded_meaning.specs.Triangles.{in_triangle};
-ghost use Rattle.guarded_reduction.specs.Beside.{AreNear};
+ghost use Rattle.guarded_reduction.specs.Beside.{AreNear, partner_index};
 ghost use Rattle.guarded_reduction.specs.Extents.{HoldsPoint};
+ghost use Rattle.guarded_reduction.specs.First.{links_of};
+ghost use Rattle.guarded_reduction.specs.Moves as moves;
 
 use crate::beside::{Beside, Near};
+use crate::blocking::number_or;
 use crate::cell_index::CellIndex;
 use crate::extent::{Extent, holds};
 use crate::flattening::{all_positions, partners_of};
+use crate::meetings::Meetings;
 use crate::query::{Corner, reach_of};
 use crate::ring_moves::owners_of;
 use geometry::Position;
@@ -64,6 +69,23 @@ impl<'a> WholeArcs<'a> {
         })
     }
 
+    /// The corner beside the arcs that aren't marked.
+    fn beside<'b>(&'b self, inside: &'b [bool], corner: &Corner) -> Beside<'b>
+        ensures corner { result.corner ≡ corner.now }
+        ensures marks { result.marks.now ≡ inside.now }
+        ensures owners { result.owners.now ≡ moves.owners_of 0 self.now }
+        ensures partners { result.partners.now ≡ links_of partner_index 0 self.now }
+        ensures positions { result.positions.now ≡ joined self.now }
+    {
+        Beside {
+            corner: *corner,
+            marks: inside,
+            owners: self.owners.as_slice(),
+            partners: self.partners.as_slice(),
+            positions: self.index.positions(),
+        }
+    }
+
     /// Lists the places in a box of the arcs that aren't marked, if the answer is yes. It is no where the list has no room for them, or more than so many
     /// cells or places are to be gone through to find them.
     pub fn list_near(
@@ -88,8 +110,8 @@ impl<'a> WholeArcs<'a> {
     }
 
     /// A corner keeps clear of the arcs that aren't marked, if the answer is yes: none of their positions is in its triangle, but at those before and
-    /// after it, and none of these arcs has both. The places of these arcs in a box are listed. For a corner that isn't in that box it is no where more
-    /// than so many cells or places are to be gone through to see it.
+    /// after it, and none of these arcs has both. The places of these arcs in a box are listed. For a corner that isn't in that box there is no answer
+    /// where more than so many cells or places are to be gone through to see it.
     pub fn is_clear_of(
         &self,
         inside: &[bool],
@@ -97,25 +119,38 @@ impl<'a> WholeArcs<'a> {
         within: &Extent,
         near: &[usize],
         most: usize,
-    ) -> bool
+    ) -> Option<bool>
         requires marks { length inside.now ≡ length self.now }
         requires near { AreNear inside.now self.now within.now near.now }
-        ensures { result ≡ true → (c : ArcCorner) → c.before ≡ corner.now.before → c.corner.point ≡ corner.now.at → c.after ≡ corner.now.after
+        ensures { result ≡ Some true → (c : ArcCorner) → c.before ≡ corner.now.before → c.corner.point ≡ corner.now.at → c.after ≡ corner.now.after
             → IsClearOf (unmarked inside.now self.now) c }
     {
-        let beside = Beside {
-            corner: *corner,
-            marks: inside,
-            owners: self.owners.as_slice(),
-            partners: self.partners.as_slice(),
-            positions: self.index.positions(),
-        };
+        let query = self.beside(inside, corner);
         if is_inside(corner, within) {
-            return !self.index.has_met(near, &beside);
+            return Some(!self.index.has_met(near, &query));
         }
         if !self.index.is_quick(&reach_of(corner), most) {
-            return false;
+            return None;
         }
-        self.index.find(&beside).is_none()
+        Some(self.index.find(&query).is_none())
+    }
+
+    /// Notes arcs that the corner meets.
+    pub fn note_met(
+        &self,
+        inside: &[bool],
+        corner: &Corner,
+        meetings: &mut Meetings,
+    ) -> Result<(), Memory>
+        ensures { meetings.new.is_clear ≡ meetings.old.is_clear }
+    {
+        meetings.places.clear();
+        self.index
+            .note(&self.beside(inside, corner), &mut meetings.places);
+        'places: for i in 0..meetings.places.len() {
+            let place = meetings.places[i];
+            meetings.note(number_or(self.owners.as_slice(), place, 0))?;
+        }
+        Ok(())
     }
 }

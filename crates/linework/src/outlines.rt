@@ -16,7 +16,7 @@ use std::alloc::Global;
 pub type Outline = (bool, Items<Position>);
 
 /// The lines and rings that have enough positions with equal neighbours as one, and for each that is given whether it has too few. Their
-/// positions are moved, and each address is that of the first feature.
+/// positions are moved. Whose they were isn't known here, and nothing is said of their addresses.
 pub fn lines_of_outlines(
     alloc: Global,
     outlines: Vec<Outline>,

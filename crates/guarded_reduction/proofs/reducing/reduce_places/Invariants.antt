@@ -1,6 +1,7 @@
 use Rattle.std.proofs.Common.{◌≡◌, ◌-◌, ◌≤◌, [], true}
 use Rattle.guarded_meaning.specs.Elimination.{eliminate_arcs, remaining_arcs}
 use Rattle.guarded_meaning.specs.Guards.{guarded_by}
+use Rattle.guarded_meaning.specs.Parts.{unmarked}
 use Rattle.guarded_reduction.specs.Keeping.{IsKeeping}
 use Rattle.guarded_reduction.specs.Linking.{IsShowing}
 use Rattle.guarded_reduction.specs.Numbers.{left_arcs}
@@ -17,5 +18,8 @@ invariant-corners g l = record {
   flag : l.places.no_crossings ≡ l.fn.places.no_crossings;
   keeping : IsKeeping l.arcs l.rings l.places l.kept;
   rest : eliminate_arcs (guarded_by l.fn.places.no_crossings l.rings) (l.n - l._step) l.threshold (left_arcs l.arcs l.places.left) ≡ remaining_arcs (guarded_by l.fn.places.no_crossings l.rings) l.threshold l.arcs;
-  apart : l.fn.places.no_crossings ≡ true → l.rings ≡ [] → GoesOnApart (g.S.Surroundings.others l.beside) l.threshold (l.n - l._step) l.arcs (left_arcs l.arcs l.places.left);
+  whole : g.S.Surroundings.whole l.beside ≡ g.S.Surroundings.whole l.fn.beside;
+  marks : g.S.Surroundings.marks l.beside ≡ g.S.Surroundings.marks l.fn.beside;
+  apart : g.S.Surroundings.are_clear l.beside ≡ true → l.fn.places.no_crossings ≡ true → l.rings ≡ [] →
+      GoesOnApart (unmarked (g.S.Surroundings.marks l.fn.beside) (g.S.Surroundings.whole l.fn.beside)) l.threshold (l.n - l._step) l.arcs (left_arcs l.arcs l.places.left);
 }

@@ -80,7 +80,7 @@ unfolding in_triangle
 on_triangle a b q h = or_left (is_on a b q) _ h
 
 -- a position on a segment is in the box of its ends
-in_box : (a b q : Point) → touches a b q ≡ true → IsInBox a a b q
+pub in_box : (a b q : Point) → touches a b q ≡ true → IsInBox a a b q
 in_box a b q h = box_law a a b q (on_triangle a b q (touches_says a b q h).0)
 
 -- two segments that neither are one, nor cross, nor touch don't meet badly

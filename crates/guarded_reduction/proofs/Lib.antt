@@ -47,4 +47,5 @@ pub mod Units
 pub mod Unlinking
 pub mod Users
 pub mod Waits
+pub mod Ways
 pub mod Weighed

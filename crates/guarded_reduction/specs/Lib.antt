@@ -29,4 +29,5 @@ pub mod States
 pub mod Tests
 pub mod Trees
 pub mod Waiting
+pub mod Ways
 pub mod Weighing

@@ -1,19 +1,21 @@
 // Counting.
-ghost use Rattle.std.specs.Prelude.{◌≡◌, ◌+◌, ◌-◌, ◌<◌, ◌≤◌, length, map, min};
+ghost use Rattle.std.specs.Prelude.{◌≡◌, ◌+◌, ◌-◌, ◌<◌, ◌≤◌, ℕ, length, min};
 ghost use Rattle.std.specs.List.{All};
-ghost use Rattle.guarded_meaning.specs.Segments.{bad_pairs};
 ghost use Rattle.guarded_reduction.specs.Levels.{AreStarts, IsOver, start_at};
-ghost use Rattle.guarded_reduction.specs.Lines.{as_segment, bad_across, bad_from, bad_inside};
+ghost use Rattle.guarded_reduction.specs.Lines.{as_segment, bad_across, bad_from, bad_inside, line_at};
+ghost use Rattle.guarded_reduction.specs.Probes.{EndsIn};
 
+use crate::extent::{Extent, meets};
 use crate::levels::Level;
-use crate::line::{Line, is_bad_pair, read_line};
+use crate::line::{Line, extent_of, is_bad_pair, read_line};
 use crate::probe::with_box;
 use crate::run::{Run, extent_round};
 use crate::skipping::{skip_from, skip_unit};
+use crate::straight::is_straight;
 use crate::unit::run_of;
 
-/// After so many units that may have something for the segments of one, each of these goes on by itself.
-const MOST_UNITS: usize = 64;
+/// So many segments are not halved.
+const FEW: usize = 8;
 
 /// So many, and as many as segments of this unit and later ones meet a segment badly; or the limit.
 pub fn count_from(
@@ -65,8 +67,8 @@ fn count_before(lines: &[Line], line: &Line, rank: usize, end: usize, sofar: u64
     count
 }
 
-/// So many, and the pairs of two segments of a run that meet badly; or the limit.
-fn count_inside(lines: &[Line], run: Run, sofar: u64, limit: u64) -> u64
+/// So many, and the pairs of two segments of a run that meet badly, each pair by itself; or the limit.
+fn count_few(lines: &[Line], run: Run, sofar: u64, limit: u64) -> u64
     requires run { run.end ≤ length lines.now }
     requires sofar { sofar ≤ limit }
     ensures { result ≡ min limit (sofar + bad_inside lines.now run.first (run.end - run.first) run.end) }
@@ -85,6 +87,85 @@ fn count_inside(lines: &[Line], run: Run, sofar: u64, limit: u64) -> u64
     count
 }
 
+/// The same, unless all go on one way, and have none.
+fn count_part(lines: &[Line], run: Run, sofar: u64, limit: u64) -> u64
+    requires some { run.first < run.end }
+    requires run { run.end ≤ length lines.now }
+    requires sofar { sofar ≤ limit }
+    ensures { result ≡ min limit (sofar + bad_inside lines.now run.first (run.end - run.first) run.end) }
+{
+    if is_straight(lines, run) {
+        return sofar;
+    }
+    count_few(lines, run, sofar, limit)
+}
+
+/// So many, and as many as segments of a run, which are in a box, meet a segment badly; or the limit.
+fn count_in_box(
+    lines: &[Line],
+    line: &Line,
+    run: Run,
+    extent: &Extent,
+    sofar: u64,
+    limit: u64,
+) -> u64
+    requires order { run.first ≤ run.end }
+    requires run { run.end ≤ length lines.now }
+    requires extent { (r : ℕ) → run.first ≤ r → r < run.end → EndsIn extent.now (as_segment (line_at lines.now r)) }
+    requires sofar { sofar ≤ limit }
+    ensures { result ≡ min limit (sofar + (bad_from lines.now line.now run.first - bad_from lines.now line.now run.end)) }
+{
+    if meets(extent_of(line), *extent) {
+        return count_before(lines, line, run.first, run.end, sofar, limit);
+    }
+    sofar
+}
+
+/// So many, and the pairs of a segment of a run and one of another run that meet badly; or the limit.
+fn count_between(lines: &[Line], run: Run, other: Run, sofar: u64, limit: u64) -> u64
+    requires run { run.end ≤ length lines.now }
+    requires order { other.first ≤ other.end }
+    requires other { other.end ≤ length lines.now }
+    requires sofar { sofar ≤ limit }
+    ensures { result ≡ min limit (sofar + (bad_across lines.now run.first (run.end - run.first) other.first - bad_across lines.now run.first (run.end - run.first) other.end)) }
+{
+    let extent = extent_round(lines, other);
+    let mut count = sofar;
+    for rank in run.first..run.end {
+        let line = read_line(lines, rank);
+        count = count_in_box(lines, line, other, &extent, count, limit);
+    }
+    count
+}
+
+/// So many, and the pairs of two segments of a run that meet badly; or the limit. Of many that don't go on one way each half may.
+pub fn count_inside(lines: &[Line], run: Run, sofar: u64, limit: u64) -> u64
+    requires some { run.first < run.end }
+    requires run { run.end ≤ length lines.now }
+    requires sofar { sofar ≤ limit }
+    ensures { result ≡ min limit (sofar + bad_inside lines.now run.first (run.end - run.first) run.end) }
+{
+    let many = run.end - run.first;
+    if many <= FEW {
+        return count_part(lines, run, sofar, limit);
+    }
+    if is_straight(lines, run) {
+        return sofar;
+    }
+    let middle = run.first + many / 2;
+    let first = Run {
+        first: run.first,
+        end: middle,
+    };
+    let second = Run {
+        first: middle,
+        end: run.end,
+    };
+    let mut count = count_part(lines, first, sofar, limit);
+    count = count_part(lines, second, count, limit);
+    count_between(lines, first, second, count, limit)
+}
+
 /// So many, and as many as segments of a unit meet a segment badly; or the limit.
 fn count_near(
     lines: &[Line],
@@ -101,7 +182,7 @@ fn count_near(
     requires sofar { sofar ≤ limit }
     ensures { result ≡ min limit (sofar + (bad_from lines.now line.now (start_at starts.now unit) - bad_from lines.now line.now (start_at starts.now (unit + 1)))) }
 {
-    if skip_unit(lines, starts, levels, &with_box(line), unit) > unit {
+    if skip_unit(lines, starts, levels, &extent_of(line), unit) > unit {
         return sofar;
     }
     let run = run_of(lines, starts, unit);
@@ -109,7 +190,7 @@ fn count_near(
 }
 
 /// So many, and the pairs of a segment of a run and one of a unit that meet badly; or the limit.
-fn count_across(
+pub fn count_across(
     lines: &[Line],
     starts: &[usize],
     levels: &[Level],
@@ -141,7 +222,7 @@ fn count_across(
 }
 
 /// So many, and the pairs of a segment of a run and one of this unit or a later one that meet badly, each segment of the run by itself; or the limit.
-fn count_each(
+pub fn count_each(
     lines: &[Line],
     starts: &[usize],
     levels: &[Level],
@@ -157,6 +238,9 @@ fn count_each(
     requires sofar { sofar ≤ limit }
     ensures { result ≡ min limit (sofar + bad_across lines.now run.first (run.end - run.first) (start_at starts.now unit)) }
 {
+    if unit + 1 == starts.len() {
+        return sofar;
+    }
     let mut count = sofar;
     for own in run.first..run.end {
         count = count_from(
@@ -168,57 +252,6 @@ fn count_each(
             count,
             limit,
         );
-    }
-    count
-}
-
-/// So many, and the pairs of a segment of a run and one of this unit or a later one that meet badly; or the limit.
-fn count_behind(
-    lines: &[Line],
-    starts: &[usize],
-    levels: &[Level],
-    run: Run,
-    unit: usize,
-    sofar: u64,
-    limit: u64,
-) -> u64
-    requires starts { AreStarts (length lines.now) starts.now }
-    requires levels { All (IsOver lines.now starts.now) levels.now }
-    requires run { run.end ≤ length lines.now }
-    requires unit { unit < length starts.now }
-    requires sofar { sofar ≤ limit }
-    ensures { result ≡ min limit (sofar + bad_across lines.now run.first (run.end - run.first) (start_at starts.now unit)) }
-{
-    let extent = extent_round(lines, run);
-    let mut count = sofar;
-    let mut other = unit;
-    let mut units = 0;
-    while other + 1 < starts.len() && units < MOST_UNITS && count < limit {
-        let next = skip_from(lines, starts, levels, &extent, other);
-        if next > other {
-            other = next;
-            continue;
-        }
-        count = count_across(lines, starts, levels, run, other, count, limit);
-        other += 1;
-        units += 1;
-    }
-    count_each(lines, starts, levels, run, other, count, limit)
-}
-
-/// How many pairs of segments meet badly, or the limit, if they are more.
-pub fn count_pairs(lines: &[Line], starts: &[usize], levels: &[Level], limit: u64) -> u64
-    requires starts { AreStarts (length lines.now) starts.now }
-    requires levels { All (IsOver lines.now starts.now) levels.now }
-    ensures { result ≡ min limit (bad_pairs (map as_segment lines.now)) }
-{
-    let mut count = 0;
-    let mut unit = 0;
-    while unit + 1 < starts.len() {
-        let run = run_of(lines, starts, unit);
-        count = count_inside(lines, run, count, limit);
-        count = count_behind(lines, starts, levels, run, unit + 1, count, limit);
-        unit += 1;
     }
     count
 }

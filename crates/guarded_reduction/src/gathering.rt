@@ -14,7 +14,7 @@ use owned_values::{Items, Memory};
 use std::alloc::Global;
 
 /// At most so many segments, each of which begins where the last one ends, stay together.
-const MOST_TOGETHER: usize = 8;
+const MOST_TOGETHER: usize = 16;
 
 /// None of them is more than so many times as long as the first, and the first not as one of them.
 const MOST_TIMES: u64 = 8;

@@ -15,12 +15,14 @@
 //! corner that goes, and notes which arcs of other parts it meets; `WholeArcs` has the cells of all places, of which none goes, for that. Of a short
 //! arc all corners are looked at for each that goes, without an index or a queue (`src/short_arc.rt`); where many are under the threshold, the places of
 //! other arcs in its box are listed once, and each of its corners is looked at beside these alone.
-//! `crossings_with` counts pairs of segments that meet badly, and gives the first of them. Up to eight segments of an arc, one after another, stay
+//! `crossings_with` counts pairs of segments that meet badly, and gives the first of them. Up to sixteen segments of an arc, one after another, stay
 //! together, and these stretches are halved in the same way. A stretch, or a few short ones in that order, is a unit (`src/unit.rt`). Each unit has a
 //! box round it, and so do four units, four of these, and so on; and where all segments of such a block have one end, as those of a star, the others
-//! have a box of their own. For the segments of a unit at once the later units are gone through, without the blocks whose boxes are apart from theirs,
-//! and then for each of them without those of which such a box shows that no segment meets it badly; after many units each goes on by itself. How many
-//! are left is not promised. The pairs are looked for in the order of the arcs, among the segments that others meet badly.
+//! have a box of their own. For four units at once the later units are gone through, without the blocks whose boxes are apart from theirs
+//! (`src/grouping.rt`), and of a later unit those segments are asked about whose boxes meet its box; after many units each segment goes on by itself,
+//! without the blocks of which such a box shows that no segment meets it badly. Where all segments of a unit go on one way (`src/straight.rt`), none of
+//! its pairs is asked about. How many are left is not promised. The pairs are looked for in the order of the arcs, among the segments that others meet
+//! badly.
 #![tactic(auto)]
 
 mod beside;
@@ -38,6 +40,7 @@ mod entry;
 mod extent;
 mod flattening;
 mod gathering;
+mod grouping;
 mod halving;
 mod holding;
 mod index;
@@ -71,6 +74,7 @@ mod short_arc;
 mod shown_places;
 mod sides;
 mod skipping;
+mod straight;
 mod surroundings;
 mod triangle;
 mod turns;

@@ -7,9 +7,10 @@ ghost use Rattle.guarded_reduction.specs.Gathering.{AreSame};
 ghost use Rattle.guarded_reduction.specs.Levels.{AreStarts, IsOver};
 ghost use Rattle.guarded_reduction.specs.Lines.{as_segment, bad_from, line_at, pairs_from};
 
-use crate::counting::{count_from, count_pairs};
+use crate::counting::count_from;
 use crate::crossing::{Crossing, pair_of};
 use crate::gathering::{lines_in_order, lines_of};
+use crate::grouping::count_pairs;
 use crate::levels::{Level, levels_over};
 use crate::line::{Line, is_bad_pair, read_line};
 use crate::unit::starts_of;

@@ -1,8 +1,8 @@
-use Rattle.std.proofs.Common.{ap, arith}
+use Rattle.std.proofs.Common.{◌-◌, ap, arith}
 use Rattle.guarded_reduction.specs.declared.line.Line.{Line}
 use Rattle.guarded_reduction.specs.Levels.{start_at}
 use Rattle.guarded_reduction.specs.Lines.{bad_from}
-use Rattle.guarded_reduction.proofs.Across.{across_ahead, across_none}
+use Rattle.guarded_reduction.proofs.Across.{across_ahead, across_none, across_past}
 use Rattle.guarded_reduction.proofs.counting.count_each.Goals as goal
 
 pub loop-own-preserved : goal.loop-own-preserved
@@ -19,3 +19,11 @@ pub returns : goal.returns
 returns c =
     let none = across_none c.args.lines.now c.loop-own.own c.args.run.end (start_at c.args.starts.now c.args.unit) (omega (arith, c.loop-own-test.false)) in
     omega (arith, c.loop-own.invariant.all, c.loop-own.invariant.count, none)
+
+-- there are no later units
+pub returns-then-unit-starts : goal.returns-then-unit-starts
+returns-then-unit-starts c =
+    let o = start_at c.args.starts.now c.args.unit in
+    let last = c.requires.starts.last c.args.unit (omega (arith, c.if-unit-starts.true)) in
+    let none = across_past c.args.lines.now (c.args.run.end - c.args.run.first) c.args.run.first o (omega (arith, last)) in
+    omega (arith, none, c.requires.sofar)

@@ -1,20 +1,17 @@
-use Rattle.std.proofs.Common.{◌+◌, ◌-◌, ap, arith}
-use Rattle.guarded_reduction.specs.declared.line.Line.{Line}
-use Rattle.guarded_reduction.specs.Lines.{bad_from}
-use Rattle.guarded_reduction.proofs.Across.{inside_ahead, inside_none}
+use Rattle.std.proofs.Common.{◌≡◌, ◌+◌, ◌-◌, ◌/◌, ◌<◌, arith}
+use Rattle.guarded_reduction.proofs.Across.{across_fewer, inside_cut}
 use Rattle.guarded_reduction.proofs.counting.count_inside.Goals as goal
-
-pub loop-rank-preserved : goal.loop-rank-preserved
-loop-rank-preserved c =
-    let next = inside_ahead c.args.lines.now c.loop-rank.rank c.args.run.end c.loop-rank-test.true in
-    let same = ap (λ (l : Line). bad_from c.args.lines.now l (c.loop-rank.rank + 1) - bad_from c.args.lines.now l c.args.run.end) c.read_line.ensures in
-    let e = c.count_before-count.ensures in
-    record {
-      count = omega (arith, e);
-      all = omega (arith, c.loop-rank.invariant.all, e, same, next);
-    }
 
 pub returns : goal.returns
 returns c =
-    let none = inside_none c.args.lines.now c.loop-rank.rank c.args.run.end (omega (arith, c.loop-rank-test.false)) in
-    omega (arith, c.loop-rank.invariant.all, c.loop-rank.invariant.count, none)
+    let ls = c.args.lines.now in
+    let r = c.args.run.first in
+    let e = c.args.run.end in
+    let m = r + (e - r) / 2 in
+    let less : m < e = omega (arith, c.requires.some) in
+    let cut = inside_cut ls r m e (omega arith) (omega (arith, less)) in
+    let fewer = across_fewer ls (m - r) r m e (omega (arith, less)) in
+    let first = c.count_part-count.ensures in
+    let second = c.count_part-count-2.ensures in
+    let both = c.count_between.ensures in
+    omega (arith, cut, fewer, first, second, both)

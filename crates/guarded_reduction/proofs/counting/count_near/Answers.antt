@@ -13,6 +13,6 @@ returns-then-skip_unit-unit c =
     let next = c.skip_unit.result in
     let there = c.skip_unit.ensures.within in
     let from = not_before _ ss c.args.unit next c.requires.starts c.skip_unit.ensures.from (omega (arith, there)) in
-    let e = skipped ls l (start_at ss c.args.unit) (start_at ss next) from (c.skip_unit.ensures.none l c.with_box.ensures.among) in
+    let e = skipped ls l (start_at ss c.args.unit) (start_at ss next) from (c.skip_unit.ensures.none l (record { from = c.extent_of.ensures.from; to = c.extent_of.ensures.to })) in
     let f = later_fewer ls l (start_at ss (c.args.unit + 1)) (start_at ss next) (not_before _ ss (c.args.unit + 1) next c.requires.starts (omega (arith, c.if-skip_unit-unit.true)) (omega (arith, there))) in
     omega (arith, e, f, c.requires.sofar)

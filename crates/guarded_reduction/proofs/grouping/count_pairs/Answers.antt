@@ -1,10 +1,11 @@
-use Rattle.std.proofs.Common.{◌≡◌, ◌-◌, drop, map, ap, arith}
+use Rattle.std.proofs.Common.{◌≡◌, ◌-◌, ◌<◌, drop, length, map, ap, arith}
 use Rattle.guarded_meaning.specs.Segments.{bad_pairs}
 use Rattle.guarded_reduction.specs.Levels.{start_at}
-use Rattle.guarded_reduction.specs.Lines.{as_segment, bad_across}
+use Rattle.guarded_reduction.specs.Lines.{as_segment}
 use Rattle.guarded_reduction.proofs.Across.{pairs_split}
 use Rattle.guarded_reduction.proofs.Lines.{no_pairs_ahead}
-use Rattle.guarded_reduction.proofs.counting.count_pairs.Goals as goal
+use Rattle.guarded_reduction.proofs.Units.{all_within, not_before}
+use Rattle.guarded_reduction.proofs.grouping.count_pairs.Goals as goal
 
 pub loop-unit-init : goal.loop-unit-init
 loop-unit-init c =
@@ -14,17 +15,19 @@ loop-unit-init c =
 pub loop-unit-preserved : goal.loop-unit-preserved
 loop-unit-preserved c =
     let ls = c.args.lines.now in
-    let run = c.run_of-run.result in
-    let split = pairs_split ls (run.end - run.first) run.first run.end (omega (arith, c.run_of-run.ensures.some)) c.run_of-run.ensures.within in
-    let first = ap (λ r. bad_pairs (map as_segment (drop r ls))) c.run_of-run.ensures.first in
-    let end = ap (λ r. bad_pairs (map as_segment (drop r ls))) c.run_of-run.ensures.end in
-    let behind = ap (bad_across ls run.first (run.end - run.first)) c.run_of-run.ensures.end in
-    let e = c.count_inside-count.ensures in
+    let ss = c.args.starts.now in
+    let u = c.loop-unit.unit in
+    let v = c.min-end.result in
+    let more : u < v = omega (arith, c.min-end.ensures, c.saturating_add.ensures, c.loop-unit-test.true) in
+    let there : v < length ss = omega (arith, c.min-end.ensures, c.loop-unit-test.true) in
+    let own = not_before _ ss u v c.requires.starts (omega (arith, more)) there in
+    let split = pairs_split ls (start_at ss v - start_at ss u) (start_at ss u) (start_at ss v) (omega (arith, own)) (all_within _ ss v c.requires.starts there) in
+    let e = c.count_within-count.ensures in
     let f = c.count_behind-count.ensures in
     record {
-      within = omega (arith, c.loop-unit-test.true);
+      within = there;
       count = omega (arith, f);
-      all = omega (arith, c.loop-unit.invariant.all, e, f, split, first, end, behind);
+      all = omega (arith, c.loop-unit.invariant.all, e, f, split);
     }
 
 pub returns : goal.returns

@@ -1,6 +1,6 @@
 use Rattle.std.proofs.Common.{◌≡◌, ◌+◌, ◌-◌, ◌≤◌, min}
 use Rattle.guarded_reduction.specs.Lines.{bad_inside}
-use Rattle.guarded_reduction.proofs.counting.count_inside.Given as goal
+use Rattle.guarded_reduction.proofs.counting.count_few.Given as goal
 
 -- with those ahead they are all
 abbrev pub invariant-loop-rank : goal.invariant-loop-rank

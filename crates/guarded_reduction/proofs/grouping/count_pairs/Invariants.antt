@@ -2,7 +2,7 @@ use Rattle.std.proofs.Common.{◌≡◌, ◌+◌, ◌-◌, ◌<◌, ◌≤◌, d
 use Rattle.guarded_meaning.specs.Segments.{bad_pairs}
 use Rattle.guarded_reduction.specs.Levels.{start_at}
 use Rattle.guarded_reduction.specs.Lines.{as_segment}
-use Rattle.guarded_reduction.proofs.counting.count_pairs.Given as goal
+use Rattle.guarded_reduction.proofs.grouping.count_pairs.Given as goal
 
 -- with those ahead they are all
 abbrev pub invariant-loop-unit : goal.invariant-loop-unit

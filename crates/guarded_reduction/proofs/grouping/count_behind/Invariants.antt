@@ -1,14 +1,15 @@
 use Rattle.std.proofs.Common.{◌≡◌, ◌+◌, ◌-◌, ◌<◌, ◌≤◌, length, min}
 use Rattle.guarded_reduction.specs.Levels.{start_at}
 use Rattle.guarded_reduction.specs.Lines.{bad_across}
-use Rattle.guarded_reduction.proofs.counting.count_behind.Given as goal
+use Rattle.guarded_reduction.proofs.grouping.count_behind.Given as goal
 
 -- with those ahead they are all
 abbrev pub invariant-loop-other : goal.invariant-loop-other
 invariant-loop-other l = record {
   within : l.other < length l.starts;
   count : l.count ≤ l.limit;
-  all : min l.limit (l.count + bad_across l.lines l.run.first (l.run.end - l.run.first) (start_at l.starts l.other)) ≡ min l.limit (l.sofar + bad_across l.lines l.run.first (l.run.end - l.run.first) (start_at l.starts l.unit));
+  all : min l.limit (l.count + bad_across l.lines (start_at l.starts l.units.first) (start_at l.starts l.units.end - start_at l.starts l.units.first) (start_at l.starts l.other))
+      ≡ min l.limit (l.sofar + bad_across l.lines (start_at l.starts l.units.first) (start_at l.starts l.units.end - start_at l.starts l.units.first) (start_at l.starts l.units.end));
 }
 
 abbrev pub decreases-loop-other : goal.decreases-loop-other

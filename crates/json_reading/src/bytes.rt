@@ -35,6 +35,7 @@ pub fn next(bytes: &[u8]) -> Option<(u8, &[u8])>
 }
 
 /// What follows the word, where it stands at the front.
+#[inline(always)]
 pub fn after_word<'a>(word: &[u8], bytes: &'a [u8]) -> Option<&'a [u8]>
     ensures { option_copied result ≡ spec.after_word word.now bytes.now }
 {

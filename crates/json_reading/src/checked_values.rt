@@ -22,9 +22,10 @@ fn too_deep(bytes: &[u8]) -> Fault
     }
 }
 
-/// What follows the value at the front, in which arrays and objects may nest so deep. No value is made.
+/// What follows the value at the front, in which arrays and objects may nest so deep. Where it is neither, nothing is called for it.
 #[cycle(passing)]
-pub fn after_value<'a>(alloc: Global, deepest: u32, bytes: &'a [u8]) -> Result<&'a [u8], Fault>
+#[inline(always)]
+fn passed_value<'a>(alloc: Global, deepest: u32, bytes: &'a [u8]) -> Result<&'a [u8], Fault>
     ensures { Passes result (spec.value_at is_utf8 deepest bytes.now) }
 {
     let Some((first, rest)) = next(bytes) else {
@@ -52,8 +53,16 @@ pub fn after_value<'a>(alloc: Global, deepest: u32, bytes: &'a [u8]) -> Result<&
     after_number(bytes)
 }
 
+/// What follows the value at the front, in which arrays and objects may nest so deep. No value is made.
+pub fn after_value<'a>(alloc: Global, deepest: u32, bytes: &'a [u8]) -> Result<&'a [u8], Fault>
+    ensures { Passes result (spec.value_at is_utf8 deepest bytes.now) }
+{
+    passed_value(alloc, deepest, bytes)
+}
+
 /// What follows the array, after the bracket that opens it.
 #[cycle(passing)]
+#[inline(never)]
 fn after_array<'a>(alloc: Global, deepest: u32, bytes: &'a [u8]) -> Result<&'a [u8], Fault>
     ensures { Passes result (spec.array_at is_utf8 deepest bytes.now) }
 {
@@ -70,7 +79,7 @@ fn after_elements<'a>(alloc: Global, deepest: u32, bytes: &'a [u8]) -> Result<&'
 {
     let mut rest = bytes;
     for _ in 0..bytes.len() {
-        let after = after_value(alloc, deepest, skip(rest))?;
+        let after = passed_value(alloc, deepest, skip(rest))?;
         let after = skip(after);
         let Some((mark, more)) = next(after) else {
             return Err(stopped(after));
@@ -88,6 +97,7 @@ fn after_elements<'a>(alloc: Global, deepest: u32, bytes: &'a [u8]) -> Result<&'
 
 /// What follows the object, after the brace that opens it.
 #[cycle(passing)]
+#[inline(never)]
 fn after_object<'a>(alloc: Global, deepest: u32, bytes: &'a [u8]) -> Result<&'a [u8], Fault>
     ensures { Passes result (spec.object_at is_utf8 deepest bytes.now) }
 {
@@ -127,7 +137,7 @@ fn after_member<'a>(alloc: Global, deepest: u32, bytes: &'a [u8]) -> Result<&'a 
 {
     let rest = after_name(alloc, bytes)?;
     let rest = expected(b':', skip(rest))?;
-    after_value(alloc, deepest, skip(rest))
+    passed_value(alloc, deepest, skip(rest))
 }
 
 /// What follows the string, with its quotation marks.

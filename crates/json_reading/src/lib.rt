@@ -27,7 +27,7 @@ pub use checking::check;
 pub use fault::{Fault, JsonFault, Why};
 pub use lanes::rest_after_first;
 pub use laws::{prefix_values_are_well_formed, written_text_is_read};
-pub use numbers::after_number;
+pub use numbers::{after_number, number_at};
 pub use parser::{LAYER_DEPTH, TOPOLOGY_DEPTH, one_value, parse};
 pub use property_reading::property_values;
 pub use strings::{plain_run, string_at};

@@ -82,6 +82,7 @@ fn after_exponent(bytes: &[u8]) -> Result<&[u8], Fault>
 }
 
 /// What follows the number at the front.
+#[inline(always)]
 #[tactic(auto, unfolding(json_value::specs::Reading::after_number))]
 pub fn after_number(bytes: &[u8]) -> Result<&[u8], Fault>
     ensures { Gives (λ x. x.now) result (spec.after_number bytes.now) }
@@ -91,6 +92,7 @@ pub fn after_number(bytes: &[u8]) -> Result<&[u8], Fault>
     after_exponent(rest)
 }
 
+/// The number at the front, by its text, and what follows it.
 #[tactic(auto, unfolding(json_value::specs::Reading::number_at))]
 pub fn number_at<'a>(alloc: Global, bytes: &'a [u8]) -> Result<(NumText, &'a [u8]), Fault>
     ensures { Gives (λ x. (x.0, x.1.now)) result (spec.number_at bytes.now) }

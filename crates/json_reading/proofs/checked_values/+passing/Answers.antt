@@ -14,38 +14,38 @@ use Rattle.json_reading.proofs.checked_values.+passing.Goals as goal
 
 -- ---- values
 
-pub after_value-returns-in_default : goal.after_value-returns-in_default
-after_value-returns-in_default t c = none_fails _ _ (opened.at_nothing is_utf8 c.args.deepest c.args.bytes.now c.in_default.ensures)
+pub passed_value-returns-in_default : goal.passed_value-returns-in_default
+passed_value-returns-in_default t c = none_fails _ _ (opened.at_nothing is_utf8 c.args.deepest c.args.bytes.now c.in_default.ensures)
 
-pub after_value-returns-in-110 : goal.after_value-returns-in-110
-after_value-returns-in-110 t c = rw (opened.at_n is_utf8 c.args.deepest _ c.args.bytes.now _ c.in-Some.ensures c.in-110.is) (word_passed (codes "ull") j.Null _ c.expected_word.result c.expected_word.ensures)
+pub passed_value-returns-in-110 : goal.passed_value-returns-in-110
+passed_value-returns-in-110 t c = rw (opened.at_n is_utf8 c.args.deepest _ c.args.bytes.now _ c.in-Some.ensures c.in-110.is) (word_passed (codes "ull") j.Null _ c.expected_word.result c.expected_word.ensures)
 
-pub after_value-returns-in-116 : goal.after_value-returns-in-116
-after_value-returns-in-116 t c = rw (opened.at_t is_utf8 c.args.deepest _ c.args.bytes.now _ c.in-Some.ensures c.in-116.is) (word_passed (codes "rue") (j.Bool true) _ c.expected_word-in-116.result c.expected_word-in-116.ensures)
+pub passed_value-returns-in-116 : goal.passed_value-returns-in-116
+passed_value-returns-in-116 t c = rw (opened.at_t is_utf8 c.args.deepest _ c.args.bytes.now _ c.in-Some.ensures c.in-116.is) (word_passed (codes "rue") (j.Bool true) _ c.expected_word-in-116.result c.expected_word-in-116.ensures)
 
-pub after_value-returns-in-102 : goal.after_value-returns-in-102
-after_value-returns-in-102 t c = rw (opened.at_f is_utf8 c.args.deepest _ c.args.bytes.now _ c.in-Some.ensures c.in-102.is) (word_passed (codes "alse") (j.Bool false) _ c.expected_word-in-102.result c.expected_word-in-102.ensures)
+pub passed_value-returns-in-102 : goal.passed_value-returns-in-102
+passed_value-returns-in-102 t c = rw (opened.at_f is_utf8 c.args.deepest _ c.args.bytes.now _ c.in-Some.ensures c.in-102.is) (word_passed (codes "alse") (j.Bool false) _ c.expected_word-in-102.result c.expected_word-in-102.ensures)
 
-pub after_value-returns-in-34 : goal.after_value-returns-in-34
-after_value-returns-in-34 t c =
+pub passed_value-returns-in-34 : goal.passed_value-returns-in-34
+passed_value-returns-in-34 t c =
     passes_on j.Text _ _ (opened.text_found is_utf8 c.args.deepest _ c.args.bytes.now _ c.in-Some.ensures c.in-34.is) (opened.text_fails is_utf8 c.args.deepest _ c.args.bytes.now _ c.in-Some.ensures c.in-34.is) c.after_string.result c.after_string.ensures
 
-pub after_value-returns-then-deepest-eq0 : goal.after_value-returns-then-deepest-eq0
-after_value-returns-then-deepest-eq0 t c = none_fails _ _ (opened.array_too_deep is_utf8 c.args.deepest _ c.args.bytes.now _ c.in-Some.ensures c.in-91.is c.if-deepest-eq0.true)
+pub passed_value-returns-then-deepest-eq0 : goal.passed_value-returns-then-deepest-eq0
+passed_value-returns-then-deepest-eq0 t c = none_fails _ _ (opened.array_too_deep is_utf8 c.args.deepest _ c.args.bytes.now _ c.in-Some.ensures c.in-91.is c.if-deepest-eq0.true)
 
-pub after_value-returns-in-91 : goal.after_value-returns-in-91
-after_value-returns-in-91 t c =
+pub passed_value-returns-in-91 : goal.passed_value-returns-in-91
+passed_value-returns-in-91 t c =
     passes_on j.Array _ _ (opened.array_found is_utf8 c.args.deepest _ c.args.bytes.now _ c.in-Some.ensures c.in-91.is c.if-deepest-eq0.false) (opened.array_fails is_utf8 c.args.deepest _ c.args.bytes.now _ c.in-Some.ensures c.in-91.is c.if-deepest-eq0.false) c.after_array.result c.after_array.ensures
 
-pub after_value-returns-then-deepest-eq0-2 : goal.after_value-returns-then-deepest-eq0-2
-after_value-returns-then-deepest-eq0-2 t c = none_fails _ _ (opened.object_too_deep is_utf8 c.args.deepest _ c.args.bytes.now _ c.in-Some.ensures c.in-123.is c.if-deepest-eq0-2.true)
+pub passed_value-returns-then-deepest-eq0-2 : goal.passed_value-returns-then-deepest-eq0-2
+passed_value-returns-then-deepest-eq0-2 t c = none_fails _ _ (opened.object_too_deep is_utf8 c.args.deepest _ c.args.bytes.now _ c.in-Some.ensures c.in-123.is c.if-deepest-eq0-2.true)
 
-pub after_value-returns-in-123 : goal.after_value-returns-in-123
-after_value-returns-in-123 t c =
+pub passed_value-returns-in-123 : goal.passed_value-returns-in-123
+passed_value-returns-in-123 t c =
     passes_on j.Object _ _ (opened.object_found is_utf8 c.args.deepest _ c.args.bytes.now _ c.in-Some.ensures c.in-123.is c.if-deepest-eq0-2.false) (opened.object_fails is_utf8 c.args.deepest _ c.args.bytes.now _ c.in-Some.ensures c.in-123.is c.if-deepest-eq0-2.false) c.after_object.result c.after_object.ensures
 
-pub after_value-returns : goal.after_value-returns
-after_value-returns t c =
+pub passed_value-returns : goal.passed_value-returns
+passed_value-returns t c =
     passes_on j.Number _ _ (opened.number_found is_utf8 c.args.deepest _ c.args.bytes.now _ c.in-Some.ensures (omega arith) (omega arith) (omega arith) (omega arith) (omega arith) (omega arith)) (opened.number_fails is_utf8 c.args.deepest _ c.args.bytes.now _ c.in-Some.ensures (omega arith) (omega arith) (omega arith) (omega arith) (omega arith) (omega arith)) c.after_number.result
     (number_passed c.args.bytes.now c.after_number.result c.after_number.ensures)
 
@@ -125,5 +125,5 @@ pub after_member-returns : goal.after_member-returns
 after_member-returns t c =
     let named = c.in_ok-rest.ensures.1 in
     let colon = sym (rw c.skip.ensures at c.in_ok-rest-2.ensures) in
-    passes_on (λ v. (c.in_ok-rest.ensures.0, v)) _ _ (opened.member_found is_utf8 (spec.value_at is_utf8 c.args.deepest) c.args.bytes.now _ _ named _ colon) (opened.value_fails is_utf8 (spec.value_at is_utf8 c.args.deepest) c.args.bytes.now _ _ named _ colon) c.after_value.result
-    (rw c.skip-2.ensures at c.after_value.ensures)
+    passes_on (λ v. (c.in_ok-rest.ensures.0, v)) _ _ (opened.member_found is_utf8 (spec.value_at is_utf8 c.args.deepest) c.args.bytes.now _ _ named _ colon) (opened.value_fails is_utf8 (spec.value_at is_utf8 c.args.deepest) c.args.bytes.now _ _ named _ colon) c.passed_value.result
+    (rw c.skip-2.ensures at c.passed_value.ensures)

@@ -5,8 +5,8 @@ use Rattle.json_value.specs.Reading as spec
 use Rattle.json_reading.proofs.StringLoop.{with_prefix}
 use Rattle.json_reading.proofs.checked_values.+passing.Given as goal
 
-abbrev pub decreases-after_value : goal.decreases-after_value
-decreases-after_value l = 4 * l.deepest
+abbrev pub decreases-passed_value : goal.decreases-passed_value
+decreases-passed_value l = 4 * l.deepest
 
 abbrev pub decreases-after_member : goal.decreases-after_member
 decreases-after_member l = 4 * l.deepest + 1

@@ -46,6 +46,7 @@ fn rest_after_string(bytes: &[u8]) -> Option<&[u8]>
 
 /// What follows the value at the front, in which arrays and objects may nest so deep, where it stands as it is written.
 #[cycle(spanning)]
+#[inline(always)]
 pub(crate) fn rest_after_value(deepest: u32, bytes: &[u8]) -> Option<&[u8]>
     ensures { IfSome result (λ rest. SpansFirst (reading.value_at any deepest) json_text bytes.now rest.now) }
 {
@@ -86,6 +87,7 @@ pub(crate) fn rest_after_value(deepest: u32, bytes: &[u8]) -> Option<&[u8]>
 
 /// What follows the elements of an array after its bracket, where they stand as they are written.
 #[cycle(spanning)]
+#[inline(never)]
 fn rest_after_array(deepest: u32, inside: &[u8]) -> Option<&[u8]>
     ensures { IfSome result (λ rest. Spans (reading.array_at any deepest) elements_text inside.now rest.now) }
 {
@@ -118,6 +120,7 @@ fn rest_after_elements(deepest: u32, inside: &[u8]) -> Option<&[u8]>
 
 /// What follows the members of an object after its brace, where they stand as they are written.
 #[cycle(spanning)]
+#[inline(never)]
 fn rest_after_object(deepest: u32, inside: &[u8]) -> Option<&[u8]>
     ensures { IfSome result (λ rest. Spans (reading.object_at any deepest) members_text inside.now rest.now) }
 {

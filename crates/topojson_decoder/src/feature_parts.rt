@@ -19,7 +19,7 @@ use crate::keeping::Keeping;
 use crate::occurrence::Occurrence;
 use geojson_types::{Counts, Id, Properties};
 use json_cursor::{Kind, Members, Stop, kind_at, name_at, named_at, read_properties};
-use json_reading::{Fault, after_value, value_at};
+use json_reading::{Fault, after_value, next, number_at, value_at};
 use json_value::Json;
 use std::alloc::Global;
 use std::mem;
@@ -81,8 +81,9 @@ fn blank_properties(kind: Kind) -> Result<Option<Properties>, TopoFault>
     }
 }
 
-/// The identifier that the value at the front is, or its fault, and what follows it.
-fn whole_id_at<'a>(
+/// The identifier that the value at the front is, whatever it is, or its fault, and what follows it.
+#[inline(never)]
+fn any_id_at<'a>(
     alloc: Global,
     depth_left: u32,
     bytes: &'a [u8],
@@ -103,6 +104,26 @@ fn whole_id_at<'a>(
             Ok((identifier(Some(value)), rest))
         }
     }
+}
+
+/// The identifier that the value at the front is, or its fault, and what follows it: a number is read with no value around it. Between the
+/// minus sign and the digits two bytes stand with which no value begins.
+#[inline(always)]
+fn whole_id_at<'a>(
+    alloc: Global,
+    depth_left: u32,
+    bytes: &'a [u8],
+) -> Result<(Result<Option<Id>, TopoFault>, &'a [u8]), Fault>
+    ensures { FindsValue (IsFound identifier_in) depth_left bytes.now result }
+{
+    let Some((first, _)) = next(bytes) else {
+        return any_id_at(alloc, depth_left, bytes);
+    };
+    if first < b'-' || first > b'9' {
+        return any_id_at(alloc, depth_left, bytes);
+    }
+    let (number, rest) = number_at(alloc, bytes)?;
+    Ok((Ok(Some(Id::Number(number))), rest))
 }
 
 /// Whether the identifier has a fault that the value at the front is, and what follows it: none is kept.

@@ -1,7 +1,7 @@
 // Crossings counted up to limits that no command has. That the answer is the definition's is proved: these show that memory isn't always refused.
 use geometry::Position;
-use guarded_reduction::crossings_with;
 use owned_values::{Items, Memory};
+use segment_crossings::crossings_with;
 use std::alloc::Global;
 
 /// Two lines cross each of five segments, and two of these lie on two others.

@@ -2,7 +2,7 @@
 //! tests `byte_ends`, `json` tests `decimal_json`, `walking` tests `topojson_decoder` and the walk along arcs that it passes on,
 //! `keeping` tests what `json_cursor` keeps and `json_reading` reads again, `reducing` and `weighing` test
 //! `effective_area`, `sharing` tests what `junctions` and `arc_table` say of their tables, `simplifying` and `protecting` test `topo_model`,
-//! `finding`, `guarding` and `crossing` test `guarded_reduction`, `counting` tests how often the reducer is called that
+//! `finding` and `guarding` test `guarded_reduction`, `crossing` tests `segment_crossings`, `counting` tests how often the reducer is called that
 //! `mapchain_engine` is lent, and `unused` tests calls of `byte_ends`,
 //! `decimal_text`, `effective_area`, `linework` and `topojson_types`.
 #![tactic(auto)]

@@ -2,9 +2,9 @@
 use crate::building::decimal_of_units;
 use crate::owners::{Owner, owners_of};
 use geojson_types::Position;
-use guarded_reduction::Crossing;
 use json_value::Items;
 use reports::features_in;
+use segment_crossings::Crossing;
 use std::alloc::{AllocError, Global};
 use topojson_decoder::{add_label, quoted};
 use topojson_types::Topology;

@@ -7,7 +7,7 @@ use Rattle.std.proofs.lemmas.Nat.{le-div, pow_pos}
 use Rattle.geometry.specs.Points.{Point}
 use Rattle.guarded_reduction.specs.declared.cell_lists.Grid.{Grid}
 use Rattle.guarded_reduction.specs.declared.cell_search.CellRange.{CellRange}
-use Rattle.guarded_reduction.specs.declared.extent.Extent.{Extent}
+use Rattle.planar_predicates.specs.declared.extent.Extent.{Extent}
 use Rattle.guarded_reduction.specs.Cells.{AreCellsOf, AreChained, IsGrid, IsOn, NoneMeetsInRow, NoneMeetsInRows, NoneMeetsOn, cell_along, least, list_at, list_of}
 use Rattle.guarded_reduction.specs.Indexes.{NoneMeets, is_left_at, point_at}
 use Rattle.guarded_reduction.specs.Tests.{Reaches, Test}

@@ -5,8 +5,8 @@ use Rattle.geometry.specs.Points.{Point}
 use Rattle.geometry.specs.Rings.{same}
 use Rattle.geometry.proofs.Points.{same_is}
 use Rattle.guarded_reduction.specs.declared.query.Corner.{Corner}
-use Rattle.guarded_reduction.specs.declared.extent.Extent.{Extent}
-use Rattle.guarded_reduction.specs.Extents.{HoldsPoint}
+use Rattle.planar_predicates.specs.declared.extent.Extent.{Extent}
+use Rattle.planar_predicates.specs.Extents.{HoldsPoint}
 use Rattle.guarded_reduction.specs.Blocking.{is_blocked_by, is_joined_at, joins_ends}
 use Rattle.guarded_reduction.specs.Tests.{Reaches, IsOutside, is_held_by}
 

@@ -13,10 +13,10 @@ use Rattle.guarded_meaning.specs.Parts.{IsClearOf}
 use Rattle.guarded_meaning.specs.Triangles.{in_triangle, is_clear}
 use Rattle.guarded_meaning.proofs.Ends.{holds_after, holds_before}
 use Rattle.guarded_meaning.specs.Parts.{unmarked}
-use Rattle.guarded_reduction.specs.declared.extent.Extent.{Extent}
+use Rattle.planar_predicates.specs.declared.extent.Extent.{Extent}
 use Rattle.guarded_reduction.specs.declared.query.Corner.{Corner}
 use Rattle.guarded_reduction.specs.Beside.{is_at, is_beside, is_excused, is_marked, partner_index}
-use Rattle.guarded_reduction.specs.Extents.{HoldsPoint}
+use Rattle.planar_predicates.specs.Extents.{HoldsPoint}
 use Rattle.guarded_reduction.specs.First.{links_of}
 use Rattle.guarded_reduction.specs.Indexes.{NoneMeets, origin, point_at}
 use Rattle.guarded_reduction.specs.Moves.{owners_of}

@@ -8,11 +8,11 @@ use Rattle.geometry.specs.Points.{Point}
 use Rattle.guarded_meaning.specs.Triangles.{in_triangle}
 use Rattle.guarded_meaning.proofs.Tests.{le_passes}
 use Rattle.guarded_reduction.specs.declared.cell_lists.Grid.{Grid}
-use Rattle.guarded_reduction.specs.declared.extent.Extent.{Extent}
+use Rattle.planar_predicates.specs.declared.extent.Extent.{Extent}
 use Rattle.guarded_reduction.specs.declared.query.Corner.{Corner}
 use Rattle.guarded_reduction.specs.Beside.{AreNear, IsOver, is_beside, is_near, partner_index}
 use Rattle.guarded_reduction.specs.Cells.{NoneMeetsInRow, NoneMeetsInRows, NoneMeetsOn}
-use Rattle.guarded_reduction.specs.Extents.{HoldsPoint, is_within}
+use Rattle.planar_predicates.specs.Extents.{HoldsPoint, is_within}
 use Rattle.guarded_reduction.specs.First.{links_of}
 use Rattle.guarded_reduction.specs.Indexes.{NoneMeets, NoneMeetsOf, is_left_at, point_at}
 use Rattle.guarded_reduction.specs.Moves.{owners_of}

@@ -8,7 +8,7 @@ use Rattle.effective_area.specs.Vertices.{vertex_at}
 use Rattle.effective_area.proofs.ChainLaws.{same_or_not}
 use Rattle.guarded_reduction.specs.Noted.{AreNoted, area_between}
 use Rattle.guarded_reduction.specs.declared.noted_areas.Noted.{Noted}
-use Rattle.guarded_reduction.proofs.Sided.{flat_first}
+use Rattle.planar_predicates.proofs.Flat.{flat_first}
 
 abbrev none : Noted
 none = record { before = 0; after = 0; area = 0 }

@@ -1,5 +1,5 @@
 -- The order of places.
-use Rattle.std.proofs.Common.{◌≡◌, ℕ, ◌+◌, ◌<◌, zero, suc, List, [], ◌∷◌, ◌++◌, length, map, take, drop, slice_index, slice_index_or, slice_set, sym, ap, subst, ◌∙◌, ◌⊎◌, inl, inr, arith, zero-add, add-one, get_or-set_same, get_or-set_other}
+use Rattle.std.proofs.Common.{◌≡◌, ℕ, ◌+◌, ◌<◌, zero, suc, List, [], ◌∷◌, ◌++◌, length, map, slice_index, slice_index_or, slice_set, sym, ap, subst, ◌∙◌, ◌⊎◌, inl, inr, arith, zero-add, add-one, get_or-set_same, get_or-set_other}
 use Rattle.std.specs.List.{range_with_len, All, Contains}
 use Rattle.std.specs.List.Sorted.{IsPermutation}
 use Rattle.std.proofs.lemmas.Bool.{cases_eq}
@@ -7,16 +7,9 @@ use Rattle.std.proofs.lemmas.List.{get_or_default, map-append}
 use Rattle.std.proofs.lemmas.List.Elements.{All-get_or, All-from_get_or, Contains-get_or}
 use Rattle.std.proofs.lemmas.List.FromFn.{length-range_with_len, get_or-range_with_len}
 use Rattle.std.proofs.lemmas.List.Sorted.{All-permutation, Contains-permutation, length_permutation, IsPermutation-map}
-use Rattle.effective_area.proofs.Stopped.{written_over}
 use Rattle.guarded_reduction.specs.declared.ordering.Key.{Key}
 use Rattle.guarded_reduction.specs.Orders.{AreRanks, place_of}
 use Rattle.guarded_reduction.specs.Indexes.{IsOrder}
-
--- what is put in another order is written back whole
-pub permuted : {X : Type 0} (n : ℕ) (xs ys zs : List X) → n ≡ length xs → ys ≡ xs → IsPermutation ys zs → IsPermutation xs (take n (zs ++ drop (length zs) xs))
-permuted n xs ys zs h e p =
-    let q = subst (λ ws. IsPermutation ws zs) e p in
-    subst (IsPermutation xs) (sym (written_over n zs xs (h ∙ sym (length_permutation xs zs q)))) q
 
 range_more : (a n : ℕ) → range_with_len a (suc n) ≡ range_with_len a n ++ (a + n) ∷ []
 range_more a zero = ap (λ (k : ℕ). k ∷ []) (omega arith)

@@ -4,9 +4,9 @@ use Rattle.std.proofs.lemmas.Bool.{and_parts}
 use Rattle.geometry.specs.Points.{Point}
 use Rattle.guarded_meaning.specs.Laws.{IsInBox, BoxLaw}
 use Rattle.guarded_meaning.specs.Triangles.{is_clear, in_triangle}
-use Rattle.guarded_reduction.specs.declared.extent.Extent.{Extent}
+use Rattle.planar_predicates.specs.declared.extent.Extent.{Extent}
 use Rattle.guarded_reduction.specs.declared.query.Corner.{Corner}
-use Rattle.guarded_reduction.specs.Extents.{HoldsPoint}
+use Rattle.planar_predicates.specs.Extents.{HoldsPoint}
 use Rattle.guarded_reduction.specs.Tests.{Reaches, IsOutside, is_held_by}
 
 not_clear : (a p c q : Point) → not (is_clear a p c q) ≡ true → in_triangle a p c q ≡ true

@@ -3,9 +3,9 @@ use Rattle.std.proofs.Common.{◌≡◌, ◌≢◌, ℕ, ◌+◌, ◌-◌, ◌*�
 use Rattle.std.specs.Option.{IfNone}
 use Rattle.std.proofs.lemmas.Bool.{cases_eq}
 use Rattle.geometry.specs.Points.{Point}
-use Rattle.guarded_reduction.specs.declared.extent.Extent.{Extent}
+use Rattle.planar_predicates.specs.declared.extent.Extent.{Extent}
 use Rattle.guarded_reduction.specs.declared.box_tree.BoxTree.{BoxTree}
-use Rattle.guarded_reduction.specs.Extents.{HoldsPoint}
+use Rattle.planar_predicates.specs.Extents.{HoldsPoint}
 use Rattle.guarded_reduction.specs.Tests.{IsOutside, Test, Reaches}
 use Rattle.guarded_reduction.specs.Indexes.{NoneMeets, IsIndex, NoneMeetsUnder, is_left_at, point_at}
 use Rattle.guarded_reduction.specs.Trees.{extent_at, Under}

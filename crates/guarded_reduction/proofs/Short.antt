@@ -23,9 +23,9 @@ use Rattle.guarded_meaning.proofs.First.{next_law, no_next_law}
 use Rattle.guarded_meaning.proofs.OneFirst.{first_is_one}
 use Rattle.guarded_meaning.proofs.Order.{goes_order}
 use Rattle.guarded_meaning.proofs.Removal.{all_numbered_own, own_indexes_left}
-use Rattle.guarded_reduction.specs.declared.extent.Extent.{Extent}
+use Rattle.planar_predicates.specs.declared.extent.Extent.{Extent}
 use Rattle.guarded_reduction.specs.declared.short_arc.Candidate.{Candidate}
-use Rattle.guarded_reduction.specs.Extents.{HoldsPoint}
+use Rattle.planar_predicates.specs.Extents.{HoldsPoint}
 use Rattle.guarded_reduction.specs.Short.{IsBest, IsNotBefore, corner_of, corner_of_left, goes_ahead, is_sooner, only_arc, opens}
 use Rattle.guarded_reduction.specs.Tests.{is_held_by}
 use Rattle.guarded_reduction.proofs.Next.{all_steps, no_step, not_before_less, one_step}

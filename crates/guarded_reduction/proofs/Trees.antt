@@ -3,10 +3,10 @@ use Rattle.std.proofs.Common.{◌≡◌, ◌≢◌, ℕ, ◌+◌, ◌-◌, ◌*�
 use Rattle.std.proofs.lemmas.Bool.{cases_eq, cases_order}
 use Rattle.geometry.specs.Points.{Point}
 use Rattle.guarded_reduction.specs.Indexes.{AreFitted, HoldsLeft, is_left_at, point_at}
-use Rattle.guarded_reduction.specs.declared.extent.Extent.{Extent}
-use Rattle.guarded_reduction.specs.Extents.{HoldsPoint, LiesIn}
+use Rattle.planar_predicates.specs.declared.extent.Extent.{Extent}
+use Rattle.planar_predicates.specs.Extents.{HoldsPoint, LiesIn}
 use Rattle.guarded_reduction.specs.Trees.{extent_at, DiffersAt, Under, at_node, by_left, by_right}
-use Rattle.guarded_reduction.proofs.Boxes.{holds_in}
+use Rattle.planar_predicates.proofs.Boxes.{holds_in}
 
 -- ---- what is under a node
 

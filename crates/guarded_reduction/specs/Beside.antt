@@ -5,8 +5,8 @@ use Rattle.geometry.specs.Points.{Point}
 use Rattle.geometry.specs.Rings.{same}
 use Rattle.guarded_meaning.specs.Triangles.{in_triangle}
 use Rattle.guarded_reduction.specs.declared.query.Corner.{Corner}
-use Rattle.guarded_reduction.specs.declared.extent.Extent.{Extent}
-use Rattle.guarded_reduction.specs.Extents.{is_within}
+use Rattle.planar_predicates.specs.declared.extent.Extent.{Extent}
+use Rattle.planar_predicates.specs.Extents.{is_within}
 use Rattle.guarded_reduction.specs.First.{Neighbour, links_of}
 use Rattle.guarded_reduction.specs.Indexes.{NoneMeets, point_at}
 use Rattle.guarded_reduction.specs.Moves.{owners_of}

@@ -5,7 +5,7 @@ use Rattle.geometry.specs.Points.{Point}
 use Rattle.guarded_reduction.specs.declared.cell_lists.CellLists.{CellLists}
 use Rattle.guarded_reduction.specs.declared.cell_lists.Grid.{Grid}
 use Rattle.guarded_reduction.specs.declared.cell_search.CellRange.{CellRange}
-use Rattle.guarded_reduction.specs.declared.extent.Extent.{Extent}
+use Rattle.planar_predicates.specs.declared.extent.Extent.{Extent}
 use Rattle.guarded_reduction.specs.Indexes.{is_left_at, point_at}
 use Rattle.guarded_reduction.specs.Tests.{Test}
 

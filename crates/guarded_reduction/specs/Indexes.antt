@@ -1,9 +1,9 @@
 -- An index: boxes over the places that are left.
 use Rattle.std.specs.Prelude.{◌≡◌, ℕ, pos, ◌+◌, ◌<◌, ◌≤◌, Bool, true, false, List, length, slice_index_or, slice_index}
 use Rattle.geometry.specs.Points.{Point}
-use Rattle.guarded_reduction.specs.declared.extent.Extent.{Extent}
+use Rattle.planar_predicates.specs.declared.extent.Extent.{Extent}
 use Rattle.guarded_reduction.specs.declared.box_tree.BoxTree.{BoxTree}
-use Rattle.guarded_reduction.specs.Extents.{HoldsPoint}
+use Rattle.planar_predicates.specs.Extents.{HoldsPoint}
 use Rattle.guarded_reduction.specs.Tests.{Test, is_listed}
 use Rattle.guarded_reduction.specs.Trees.{extent_at, Under}
 

@@ -1,17 +1,11 @@
 pub mod Beside
 pub mod Blocking
-pub mod Blocks
 pub mod Cells
-pub mod Crossings
 pub mod Entries
-pub mod Extents
 pub mod First
-pub mod Gathering
 pub mod Indexes
 pub mod Keeping
 pub mod Laws
-pub mod Levels
-pub mod Lines
 pub mod Linking
 pub mod Moves
 pub mod Noted
@@ -21,7 +15,6 @@ pub mod Orders
 pub mod Parts
 pub mod Placed
 pub mod PlacedLists
-pub mod Probes
 pub mod Queues
 pub mod Short
 pub mod Shown
@@ -29,5 +22,4 @@ pub mod States
 pub mod Tests
 pub mod Trees
 pub mod Waiting
-pub mod Ways
 pub mod Weighing

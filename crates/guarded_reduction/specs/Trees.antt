@@ -1,9 +1,7 @@
 -- A tree in numbers: the children of the node i are 2 i and 2 i + 1. As many as come last are leaves; the first have a box each, in a list.
-use Rattle.std.specs.Prelude.{◌≡◌, ◌≢◌, ℕ, pos, ◌+◌, ◌*◌, List, slice_index_or}
-use Rattle.guarded_reduction.specs.declared.extent.Extent.{Extent}
-
-abbrev pub no_extent : Extent
-no_extent = record { low_x = pos 0; low_y = pos 0; high_x = pos 0; high_y = pos 0 }
+use Rattle.std.specs.Prelude.{◌≡◌, ◌≢◌, ℕ, ◌+◌, ◌*◌, List, slice_index_or}
+use Rattle.planar_predicates.specs.declared.extent.Extent.{Extent}
+use Rattle.planar_predicates.specs.Extents.{no_extent}
 
 unfoldable pub extent_at : List Extent → ℕ → Extent
 extent_at es i = slice_index_or es i no_extent

@@ -3,12 +3,10 @@ ghost use Rattle.std.specs.Prelude.{◌≡◌};
 ghost use Rattle.guarded_reduction.specs.Beside as spec;
 
 use crate::blocking::number_or;
-use crate::extent::{Extent, holds};
 use crate::query::{Corner, Query, reach_of};
 use crate::searching::position_of;
-use crate::sides::is_aside;
-use crate::triangle::in_triangle;
 use geometry::{Position, is_same};
+use planar_predicates::{Extent, holds, in_triangle, is_aside};
 
 /// A corner, and the places of whole arcs, of which some are marked: the number of each place's arc, the place of the other end for each end of an arc,
 /// and the positions of all places. A place of an arc that isn't marked is beside the corner where it lies in its triangle, unless it is an end of its

@@ -3,12 +3,11 @@ ghost use Rattle.std.specs.Prelude.{◌≡◌, slice_index_or};
 ghost use Rattle.guarded_reduction.specs.Blocking.{is_blocked_by, is_joined_at, joins_ends, leads_on};
 ghost use Rattle.guarded_reduction.specs.SideBySide.{afters_in, befores_in};
 
-use crate::extent::{Extent, around, is_point};
 use crate::neighbours::{Neighbours, after_or, before_or};
 use crate::query::{Corner, Query, is_held_by, reach_of};
 use crate::searching::position_of;
-use crate::sides::is_aside;
 use geometry::{Position, is_same};
+use planar_predicates::{Extent, around, is_aside, is_point};
 
 /// The positions of places, and their neighbours.
 #[derive(Drop)]

@@ -3,13 +3,13 @@ ghost use Rattle.std.specs.Prelude.{◌≡◌, ◌+◌, ◌*◌, ◌<◌, ◌^�
 ghost use Rattle.std.specs.Option.{IfNone, IfSome};
 ghost use Rattle.guarded_reduction.specs.Indexes.{IsIndex, Meets, NoneMeets};
 
-use crate::extent::Extent;
 use crate::ordering::{places_in_order, ranks_of};
 use crate::query::Query;
 use crate::refitting::{boxes_over, refit_over};
 use crate::searching::{find_beside, find_under};
 use geometry::Position;
 use owned_values::Memory;
+use planar_predicates::Extent;
 use std::alloc::Global;
 
 /// The positions of places, which of them are left, the places in the order of the leaves, the rank of each among these, and a tree over them: the

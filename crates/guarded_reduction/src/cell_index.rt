@@ -6,11 +6,11 @@ ghost use Rattle.guarded_reduction.specs.Indexes.{Meets, NoneMeets, NoneMeetsOf,
 ghost use Rattle.guarded_reduction.specs.Tests.{unlisted};
 
 use crate::cell_lists::{CellLists, cell_lists_of};
-use crate::extent::Extent;
 use crate::index::PositionIndex;
 use crate::query::Query;
 use geometry::Position;
 use owned_values::Memory;
+use planar_predicates::Extent;
 use std::alloc::Global;
 use std::marker::Model;
 

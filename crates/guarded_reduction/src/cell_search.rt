@@ -6,10 +6,10 @@ ghost use Rattle.guarded_reduction.specs.Indexes.{Meets, NoneMeets, NoneMeetsOf,
 ghost use Rattle.guarded_reduction.specs.Tests.{IsLonger, Reaches, is_listed, unlisted};
 
 use crate::cell_lists::{CellLists, Grid, cell_along, list_of};
-use crate::extent::Extent;
 use crate::query::Query;
 use crate::searching::is_met_at;
 use geometry::Position;
+use planar_predicates::Extent;
 
 /// So many small cells are looked through at most: for more of them there are large ones.
 const FEW_CELLS: u64 = 16;

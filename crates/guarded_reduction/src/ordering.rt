@@ -4,9 +4,9 @@ ghost use Rattle.std.specs.List.{range_with_len};
 ghost use Rattle.std.specs.List.Sorted.{IsPermutation};
 ghost use Rattle.guarded_reduction.specs.Orders.{AreRanks, place_of};
 
-use crate::halving::{Located, arrange};
 use geometry::Position;
 use owned_values::Memory;
+use planar_predicates::{Located, arrange};
 use std::alloc::Global;
 
 /// A place and its position.

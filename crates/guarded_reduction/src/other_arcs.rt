@@ -5,12 +5,12 @@ ghost use Rattle.guarded_meaning.specs.Parts.{IsClearOf, unmarked};
 ghost use Rattle.guarded_reduction.specs.Beside.{AreNear};
 ghost use Rattle.guarded_reduction.specs.Parts.{with_marks};
 
-use crate::extent::{Extent, empty_extent};
 use crate::meetings::Meetings;
 use crate::query::Corner;
 use crate::surroundings::Surroundings;
 use crate::whole_arcs::WholeArcs;
 use owned_values::Memory;
+use planar_predicates::{Extent, empty_extent};
 use std::alloc::Global;
 use std::marker::Model;
 

@@ -6,13 +6,13 @@ ghost use Rattle.guarded_meaning.specs.Elimination.{reduce_arcs};
 ghost use Rattle.guarded_meaning.specs.Guards.{guarded_by};
 ghost use Rattle.guarded_meaning.specs.Parts.{StaysApart, unmarked};
 
-use crate::extent::{Extent, around, empty_extent, joined};
 use crate::other_arcs::OtherArcs;
 use crate::reducing::reduce_beside;
 use crate::short_arc::reduced_short;
 use effective_area::cross;
 use geometry::Position;
 use owned_values::{Items, Memory};
+use planar_predicates::{Extent, around, empty_extent, joined};
 use std::alloc::Global;
 
 /// An arc is short that has so many positions at most.

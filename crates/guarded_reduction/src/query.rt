@@ -2,14 +2,12 @@
 ghost use Rattle.std.specs.Prelude.{◌≡◌, ℕ, Bool, true, false};
 ghost use Rattle.geometry.specs.Points.{Point};
 ghost use Rattle.guarded_meaning.specs.Triangles.{in_triangle};
-ghost use Rattle.guarded_reduction.specs.Extents.{HoldsPoint};
+ghost use Rattle.planar_predicates.specs.Extents.{HoldsPoint};
 ghost use Rattle.guarded_reduction.specs.Tests.{IsOutside, Reaches, is_held_by};
 ghost use Rattle.guarded_reduction.specs.Tests as spec;
 
-use crate::extent::{Extent, around, joined};
-use crate::sides::is_aside;
-use crate::triangle::is_clear;
 use geometry::Position;
+use planar_predicates::{Extent, around, is_aside, is_clear, joined};
 
 /// What is asked of places and their positions.
 pub trait Query {

@@ -3,10 +3,10 @@ ghost use Rattle.std.specs.Prelude.{◌≡◌, ◌-◌, ◌+◌, ◌*◌, ◌<�
 ghost use Rattle.guarded_reduction.specs.Indexes.{AreFitted, AreLeaves, HoldsLeft, is_left_at, point_at};
 ghost use Rattle.guarded_reduction.specs.Trees.{extent_at, DiffersAt};
 
-use crate::extent::{Extent, around, empty_extent, joined};
 use crate::searching::{is_left, position_of, read_extent};
 use geometry::Position;
 use owned_values::Memory;
+use planar_predicates::{Extent, around, empty_extent, joined};
 use std::alloc::Global;
 
 /// The box of a leaf, which holds nothing where its place is gone.

@@ -6,9 +6,9 @@ ghost use Rattle.guarded_reduction.specs.Tests.{Reaches};
 ghost use Rattle.guarded_reduction.specs.Trees.{extent_at};
 
 use crate::box_tree::BoxTree;
-use crate::extent::{Extent, around, meets};
 use crate::query::Query;
 use geometry::Position;
+use planar_predicates::{Extent, around, meets};
 
 /// Whether the place is left.
 #[tactic(auto, unfolding(crate::specs::Indexes::is_left_at))]

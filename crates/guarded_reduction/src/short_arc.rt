@@ -13,18 +13,17 @@ ghost use Rattle.guarded_meaning.specs.Guards as guards;
 ghost use Rattle.guarded_meaning.specs.Guards.{guarded_by};
 ghost use Rattle.guarded_meaning.specs.Parts.{StaysApart, unmarked};
 ghost use Rattle.guarded_meaning.specs.Triangles.{in_triangle};
-ghost use Rattle.guarded_reduction.specs.Extents.{HoldsPoint};
+ghost use Rattle.planar_predicates.specs.Extents.{HoldsPoint};
 ghost use Rattle.guarded_reduction.specs.Noted.{AreNoted, area_between};
 ghost use Rattle.guarded_reduction.specs.Short.{IsBest, corner_of, corner_of_left, goes_ahead, is_sooner, only_arc, opens};
 
-use crate::extent::{Extent, holds};
-use crate::meeting::same_ends;
 use crate::noted_areas::{Noted, first_notes, noted_area};
 use crate::query::{Corner, is_held_by, reach_of};
 use crate::surroundings::Surroundings;
 use effective_area::all_indexes;
 use geometry::{Position, is_same};
 use owned_values::Memory;
+use planar_predicates::{Extent, holds, same_ends};
 use std::alloc::Global;
 
 /// A corner that may go, with twice the area of its triangle, and how many places its neighbours are apart.

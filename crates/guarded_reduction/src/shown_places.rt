@@ -5,11 +5,11 @@ ghost use Rattle.guarded_reduction.specs.Indexes.{Meets, NoneMeets, is_left_at};
 ghost use Rattle.guarded_reduction.specs.PlacedLists.{all_placed, without_placed};
 
 use crate::cell_index::CellIndex;
-use crate::extent::Extent;
 use crate::index::PositionIndex;
 use crate::query::Query;
 use geometry::Position;
 use owned_values::Memory;
+use planar_predicates::Extent;
 use std::alloc::Global;
 use std::marker::Model;
 

@@ -6,20 +6,20 @@ ghost use Rattle.guarded_meaning.specs.Arcs.{ArcCorner};
 ghost use Rattle.guarded_meaning.specs.Parts.{IsClearOf, unmarked};
 ghost use Rattle.guarded_meaning.specs.Triangles.{in_triangle};
 ghost use Rattle.guarded_reduction.specs.Beside.{AreNear, partner_index};
-ghost use Rattle.guarded_reduction.specs.Extents.{HoldsPoint};
+ghost use Rattle.planar_predicates.specs.Extents.{HoldsPoint};
 ghost use Rattle.guarded_reduction.specs.First.{links_of};
 ghost use Rattle.guarded_reduction.specs.Moves as moves;
 
 use crate::beside::{Beside, Near};
 use crate::blocking::number_or;
 use crate::cell_index::CellIndex;
-use crate::extent::{Extent, holds};
 use crate::flattening::{all_positions, partners_of};
 use crate::meetings::Meetings;
 use crate::query::{Corner, reach_of};
 use crate::ring_moves::owners_of;
 use geometry::Position;
 use owned_values::{Items, Memory};
+use planar_predicates::{Extent, holds};
 use std::alloc::Global;
 use std::marker::Model;
 

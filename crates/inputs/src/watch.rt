@@ -1,7 +1,7 @@
 // Looking on while inputs are read.
 use geojson_meaning::{Dropped, Layer, Position};
-use guarded_reduction::Crossing;
 use owned_values::Items;
+use segment_crossings::Crossing;
 use std::alloc::Global;
 use topojson_types::Topology;
 

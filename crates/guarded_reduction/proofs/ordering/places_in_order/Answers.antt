@@ -1,5 +1,6 @@
 use Rattle.std.proofs.Common.{◌∙◌, ap, map}
-use Rattle.guarded_reduction.proofs.Orders.{permuted, places_ordered}
+use Rattle.planar_predicates.proofs.Arranged.{permuted}
+use Rattle.guarded_reduction.proofs.Orders.{places_ordered}
 use Rattle.guarded_reduction.specs.Orders.{place_of}
 use Rattle.guarded_reduction.proofs.ordering.places_in_order.Goals as goal
 

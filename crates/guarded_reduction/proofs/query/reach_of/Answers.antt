@@ -1,4 +1,4 @@
-use Rattle.guarded_reduction.proofs.Boxes.{holds_in, lies_in_trans}
+use Rattle.planar_predicates.proofs.Boxes.{holds_in, lies_in_trans}
 use Rattle.guarded_reduction.proofs.Queries.{holds_triangle, reaches}
 use Rattle.guarded_meaning.proofs.Box.{box_law}
 use Rattle.guarded_reduction.proofs.query.reach_of.Goals as goal

@@ -1,6 +1,6 @@
 use Rattle.std.proofs.Common.{◌≡◌, true, false, refl, ◌∙◌, subst}
 use Rattle.geometry.specs.Points.{Point}
-use Rattle.guarded_reduction.specs.Extents.{HoldsPoint}
+use Rattle.planar_predicates.specs.Extents.{HoldsPoint}
 use Rattle.guarded_reduction.proofs.Trees.{leaf_holds}
 use Rattle.guarded_reduction.proofs.refitting.leaf_extent.Goals as goal
 

@@ -1,5 +1,5 @@
 use Rattle.std.proofs.Common.{arith, subst, sym}
-use Rattle.guarded_reduction.specs.declared.extent.Extent.{Extent}
+use Rattle.planar_predicates.specs.declared.extent.Extent.{Extent}
 use Rattle.guarded_reduction.specs.Indexes.{HoldsLeft}
 use Rattle.guarded_reduction.proofs.Trees.{both_hold}
 use Rattle.guarded_reduction.proofs.refitting.refit.Goals as goal

@@ -1,5 +1,6 @@
 use Rattle.std.proofs.Common.{get_or-set_same, get_or-set_other}
-use Rattle.guarded_reduction.specs.Trees.{extent_at, no_extent}
+use Rattle.planar_predicates.specs.Extents.{no_extent}
+use Rattle.guarded_reduction.specs.Trees.{extent_at}
 use Rattle.guarded_reduction.proofs.refitting.set_extent.Goals as goal
 
 pub returns-clause-there : goal.returns-clause-there

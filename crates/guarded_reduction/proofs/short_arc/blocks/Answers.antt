@@ -1,5 +1,5 @@
 use Rattle.std.proofs.Common.{◌∙◌, ◌||◌, ap, get_or, sym}
-use Rattle.guarded_reduction.specs.Extents.{is_within}
+use Rattle.planar_predicates.specs.Extents.{is_within}
 use Rattle.guarded_reduction.specs.Tests.{is_held_by}
 use Rattle.std.proofs.lemmas.Bool.{both_ways}
 use Rattle.guarded_reduction.proofs.Near.{within_from}

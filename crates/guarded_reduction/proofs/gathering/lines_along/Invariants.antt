@@ -1,8 +1,0 @@
-use Rattle.std.proofs.Common.{◌≡◌, ◌++◌, drop}
-use Rattle.std.specs.Prelude.{flat_map}
-use Rattle.guarded_reduction.specs.Gathering.{lines_in}
-use Rattle.guarded_reduction.proofs.gathering.lines_along.Given as goal
-
--- with those ahead they are all
-abbrev pub invariant-stretches : goal.invariant-stretches
-invariant-stretches l = l.put.items ++ flat_map (lines_in l.lines) (drop l.stretch-index l.stretches) ≡ flat_map (lines_in l.lines) l.stretches

@@ -1,5 +1,0 @@
-use Rattle.guarded_reduction.proofs.Gathered.{all_put}
-use Rattle.guarded_reduction.proofs.gathering.lines_of.Goals as goal
-
-pub returns : goal.returns
-returns c = all_put c.args.arcs.now c.arcs.arc-index c.arcs.lines.items c.arcs-test.false c.arcs.invariant

@@ -1,5 +1,0 @@
-use Rattle.std.proofs.Common.{length}
-use Rattle.guarded_reduction.proofs.halving.+halve.Given as goal
-
-abbrev pub decreases-halve : goal.decreases-halve
-decreases-halve g l = length l.items.now

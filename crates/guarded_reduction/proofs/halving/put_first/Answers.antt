@@ -1,9 +1,0 @@
-use Rattle.std.proofs.Common.{rules}
-use Rattle.std.proofs.lemmas.List.Sorted.{IsPermutation-trans}
-use Rattle.guarded_reduction.proofs.halving.put_first.Goals as goal
-
-pub items-preserved : goal.items-preserved
-items-preserved g c = record {
-  permutation = IsPermutation-trans _ _ _ c.items.invariant.permutation c.swap.ensures.permutation;
-  within = search rules;
-}

@@ -1,0 +1,4 @@
+pub mod Arranged
+pub mod Beyond
+pub mod Boxes
+pub mod Flat

@@ -1,0 +1,12 @@
+pub mod Across
+pub mod Apart
+pub mod Blocks
+pub mod Counts
+pub mod Covering
+pub mod Crossings
+pub mod Gathered
+pub mod Lines
+pub mod Sided
+pub mod Stretches
+pub mod Units
+pub mod Ways

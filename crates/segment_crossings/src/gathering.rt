@@ -1,0 +1,158 @@
+// The segments of arcs, near ones close together.
+ghost use Rattle.std.specs.Prelude.{◌≡◌, ◌++◌, ◌<◌, ◌≤◌, IfOk, OnOk, flat_map, length, map, slice_range};
+ghost use Rattle.std.specs.List.{All, filter};
+ghost use Rattle.guarded_meaning.specs.Arcs.{segments};
+ghost use Rattle.guarded_meaning.specs.Segments.{has_length};
+ghost use Rattle.segment_crossings.specs.Gathering.{AreSame, EndsBy, lines_in};
+ghost use Rattle.segment_crossings.specs.Lines.{as_segment, line_segments};
+
+use crate::line::{Line, read_line};
+use crate::run::Run;
+use geometry::{Position, is_same};
+use owned_values::{Items, Memory};
+use planar_predicates::{Located, arrange};
+use std::alloc::Global;
+
+/// At most so many segments, each of which begins where the last one ends, stay together.
+const MOST_TOGETHER: usize = 16;
+
+/// None of them is more than so many times as long as the first, and the first not as one of them.
+const MOST_TIMES: u64 = 8;
+
+/// Segments that stay together, and the middle of one in their middle: many may have one end.
+#[derive(Clone, Copy, Debug, PartialEq, Eq)]
+pub struct Stretch {
+    pub x: i64,
+    pub y: i64,
+    pub run: Run,
+}
+
+impl Located for Stretch {
+    fn spot(&self) -> (i64, i64) {
+        (self.x, self.y)
+    }
+}
+
+/// Puts the segments of an arc after the others.
+fn put_lines(lines: &mut Vec<Line>, arc: &[Position]) -> Result<(), Memory>
+    ensures { OnOk result (map as_segment lines.new.items ≡ map as_segment lines.old.items ++ filter has_length (line_segments arc.now)) }
+{
+    for next in 1..arc.len() {
+        let from = arc[next - 1];
+        let to = arc[next];
+        if !is_same(from, to) {
+            lines.push(Line { from, to })?;
+        }
+    }
+    Ok(())
+}
+
+/// The segments of arcs.
+pub fn lines_of(alloc: Global, arcs: &[Items<Position>]) -> Result<Vec<Line>, Memory>
+    ensures { IfOk result (λ lines. map as_segment lines.items ≡ segments arcs.now) }
+{
+    let mut lines = Vec::new(alloc);
+    'arcs: for arc in arcs {
+        put_lines(&mut lines, arc.as_slice())?;
+    }
+    Ok(lines)
+}
+
+/// How far a segment goes by the coordinate by which it goes the farther.
+fn span_of(line: &Line) -> u64 {
+    let across = line.to.x().abs_diff(line.from.x());
+    let up = line.to.y().abs_diff(line.from.y());
+    across.max(up)
+}
+
+/// Two segments are about as long: with a long one a short one would lie in too great a box.
+fn are_alike(line: &Line, other: &Line) -> bool {
+    let span = span_of(line);
+    let other_span = span_of(other);
+    span / MOST_TIMES <= other_span && other_span / MOST_TIMES <= span
+}
+
+/// The segment of this rank begins where the one before it ends, and is about as long as the first.
+fn goes_on(lines: &[Line], first: usize, rank: usize) -> bool
+    requires first { first < rank }
+    requires rank { rank < length lines.now }
+{
+    let line = read_line(lines, rank);
+    is_same(line.from, read_line(lines, rank - 1).to) && are_alike(line, read_line(lines, first))
+}
+
+/// Where the segments end that stay together with the one of this rank, from there on.
+pub fn end_together(lines: &[Line], first: usize) -> usize
+    requires { first < length lines.now }
+    ensures more { first < result }
+    ensures within { result ≤ length lines.now }
+{
+    let most = first.saturating_add(MOST_TOGETHER).min(lines.len());
+    let mut end = first + 1;
+    while end < most && goes_on(lines, first, end) {
+        end += 1;
+    }
+    end
+}
+
+/// The segments of a run, which stay together.
+fn stretch_of(lines: &[Line], run: Run) -> Stretch
+    requires some { run.first < run.end }
+    requires within { run.end ≤ length lines.now }
+    ensures { result.run ≡ run }
+{
+    let middle = read_line(lines, run.first + (run.end - run.first) / 2);
+    Stretch {
+        x: middle.from.x() / 2 + middle.to.x() / 2,
+        y: middle.from.y() / 2 + middle.to.y() / 2,
+        run,
+    }
+}
+
+/// All segments, in stretches.
+fn stretches_of(alloc: Global, lines: &[Line]) -> Result<Vec<Stretch>, Memory>
+    ensures all { IfOk result (λ v. flat_map (lines_in lines.now) v.items ≡ lines.now) }
+    ensures within { IfOk result (λ v. All (EndsBy (length lines.now)) v.items) }
+{
+    let mut stretches = Vec::new(alloc);
+    let mut first = 0;
+    while first < lines.len() {
+        let end = end_together(lines, first);
+        stretches.push(stretch_of(lines, Run { first, end }))?;
+        first = end;
+    }
+    Ok(stretches)
+}
+
+/// Puts the segments of a run after the others.
+fn put_run(put: &mut Vec<Line>, lines: &[Line], run: Run) -> Result<(), Memory>
+    requires order { run.first ≤ run.end }
+    requires within { run.end ≤ length lines.now }
+    ensures { OnOk result (put.new.items ≡ put.old.items ++ slice_range lines.now run.first run.end) }
+{
+    put.extend_from_slice(&lines[run.first..run.end])?;
+    Ok(())
+}
+
+/// The segments of stretches, one stretch after another.
+fn lines_along(alloc: Global, lines: &[Line], stretches: &[Stretch]) -> Result<Vec<Line>, Memory>
+    requires { All (EndsBy (length lines.now)) stretches.now }
+    ensures { IfOk result (λ v. v.items ≡ flat_map (lines_in lines.now) stretches.now) }
+{
+    let mut put = Vec::with_capacity(alloc, lines.len())?;
+    'stretches: for stretch in stretches {
+        put_run(&mut put, lines, stretch.run)?;
+    }
+    Ok(put)
+}
+
+/// The segments of arcs, in stretches of which near ones are close together.
+pub fn lines_in_order(alloc: Global, arcs: &[Items<Position>]) -> Result<Vec<Line>, Memory>
+    ensures { IfOk result (λ lines. AreSame (segments arcs.now) (map as_segment lines.items)) }
+{
+    let lines = lines_of(alloc, arcs)?;
+    let mut stretches = stretches_of(alloc, &lines)?;
+    arrange(alloc, &mut stretches)?;
+    let placed = lines_along(alloc, &lines, &stretches)?;
+    Ok(placed)
+}

@@ -1,0 +1,108 @@
+// Blocks of segments, one for each unit, and blocks of blocks.
+ghost use Rattle.std.specs.Prelude.{◌≡◌, ◌+◌, ◌<◌, ◌≤◌, ℕ, IfOk, OnOk, length};
+ghost use Rattle.std.specs.List.{All};
+ghost use Rattle.guarded_meaning.specs.Segments.{Segment};
+ghost use Rattle.segment_crossings.specs.Blocks.{Covers};
+ghost use Rattle.segment_crossings.specs.Levels.{AreStarts, IsOver, block_at};
+
+use crate::block::{Block, block_of_both};
+use crate::line::Line;
+use crate::run::block_round;
+use crate::unit::run_of;
+use owned_values::Memory;
+use std::alloc::Global;
+
+/// A block of the first level has one unit, and one of the next two to this many blocks.
+pub const FAN_BITS: u32 = 2;
+
+/// Two to this many units are more than memory holds.
+const MOST_BITS: u32 = 56;
+
+/// Blocks of units, one after another, each of two to so many: the last may have fewer.
+#[derive(Drop)]
+pub struct Level {
+    pub bits: u32,
+    pub blocks: Vec<Block>,
+}
+
+/// The block of a number.
+#[tactic(auto, unfolding(crate::specs::Levels::block_at))]
+pub fn read_block(blocks: &[Block], at: usize) -> &Block
+    requires { at < length blocks.now }
+    ensures { result.now ≡ block_at blocks.now at }
+{
+    &blocks[at]
+}
+
+/// Adds to the block of this number, which is there or comes next.
+fn add(blocks: &mut Vec<Block>, at: usize, more: &Block) -> Result<(), Memory>
+    requires { at ≤ length blocks.old.items }
+    ensures within { OnOk result (at < length blocks.new.items) }
+    ensures grows { OnOk result (length blocks.old.items ≤ length blocks.new.items) }
+    ensures there { OnOk result ((t : Segment) → Covers more.now t → Covers (block_at blocks.new.items at) t) }
+    ensures kept { OnOk result ((i : ℕ) (t : Segment) → i < length blocks.old.items → Covers (block_at blocks.old.items i) t → Covers (block_at blocks.new.items i) t) }
+{
+    if at < blocks.len() {
+        let both = block_of_both(read_block(blocks, at), more);
+        blocks[at] = both;
+        return Ok(());
+    }
+    blocks.push(*more)?;
+    Ok(())
+}
+
+/// A block of each unit.
+fn first_level(alloc: Global, lines: &[Line], starts: &[usize]) -> Result<Level, Memory>
+    requires { AreStarts (length lines.now) starts.now }
+    ensures over { IfOk result (λ level. IsOver lines.now starts.now level) }
+{
+    let mut blocks = Vec::with_capacity(alloc, starts.len())?;
+    let mut unit = 0;
+    while unit + 1 < starts.len() {
+        blocks.push(block_round(lines, run_of(lines, starts, unit)))?;
+        unit += 1;
+    }
+    Ok(Level { bits: 0, blocks })
+}
+
+/// Blocks of four blocks.
+fn next_level(
+    alloc: Global,
+    lines: &[Line],
+    starts: &[usize],
+    level: &Level,
+) -> Result<Level, Memory>
+    requires over { IsOver lines.now starts.now level.now }
+    requires bits { level.now.bits < 56 }
+    ensures over { IfOk result (λ next. IsOver lines.now starts.now next) }
+    ensures bits { IfOk result (λ next. next.bits ≡ level.now.bits + 2) }
+{
+    let mut blocks = Vec::with_capacity(alloc, (level.blocks.len() >> FAN_BITS) + 1)?;
+    for number in 0..level.blocks.len() {
+        add(
+            &mut blocks,
+            number >> FAN_BITS,
+            read_block(&level.blocks, number),
+        )?;
+    }
+    Ok(Level {
+        bits: level.bits + FAN_BITS,
+        blocks,
+    })
+}
+
+/// Blocks of units, blocks of these, and so on until there is one.
+pub fn levels_over(alloc: Global, lines: &[Line], starts: &[usize]) -> Result<Vec<Level>, Memory>
+    requires { AreStarts (length lines.now) starts.now }
+    ensures { IfOk result (λ levels. All (IsOver lines.now starts.now) levels.items) }
+{
+    let mut levels = Vec::new(alloc);
+    let mut level = first_level(alloc, lines, starts)?;
+    while level.blocks.len() > 1 && level.bits < MOST_BITS {
+        let next = next_level(alloc, lines, starts, &level)?;
+        levels.push(level)?;
+        level = next;
+    }
+    levels.push(level)?;
+    Ok(levels)
+}

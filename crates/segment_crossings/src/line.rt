@@ -1,0 +1,74 @@
+// Segments of arcs.
+ghost use Rattle.std.specs.Prelude.{◌≡◌, ◌<◌, true, false, length};
+ghost use Rattle.geometry.specs.Points.{IsPosition};
+ghost use Rattle.planar_predicates.specs.Extents.{HoldsPoint};
+ghost use Rattle.segment_crossings.specs.Lines.{as_segment, line_at};
+ghost use Rattle.guarded_meaning.specs.Segments as spec;
+
+use geometry::{Position, is_same};
+use planar_predicates::{Extent, around, is_left, is_right, joined, meets, meets_badly};
+
+/// A segment of an arc.
+#[derive(Clone, Copy, Debug, PartialEq, Eq)]
+pub struct Line {
+    pub from: Position,
+    pub to: Position,
+}
+
+/// The segment of a rank.
+#[tactic(auto, unfolding(crate::specs::Lines::line_at))]
+pub fn read_line(lines: &[Line], rank: usize) -> &Line
+    requires { rank < length lines.now }
+    ensures { result.now ≡ line_at lines.now rank }
+{
+    &lines[rank]
+}
+
+/// The ends of a segment are positions. A call does nothing.
+pub fn ends_are_positions(line: &Line)
+    ensures from { IsPosition line.now.from }
+    ensures to { IsPosition line.now.to }
+{
+    let _ = (line.from.x(), line.from.y());
+    let _ = (line.to.x(), line.to.y());
+}
+
+/// The box round a segment.
+pub fn extent_of(line: &Line) -> Extent
+    ensures from { HoldsPoint result line.now.from }
+    ensures to { HoldsPoint result line.now.to }
+{
+    joined(around(line.from), around(line.to))
+}
+
+/// The second segment ends to the left of the first one's line, and begins there, too, or where the first one ends: then they don't meet badly.
+fn lies_left(line: &Line, other: &Line) -> bool
+    ensures { result ≡ true → spec.meets_badly (as_segment line.now) (as_segment other.now) ≡ false }
+{
+    is_left(line.from, line.to, other.to)
+        && (is_same(other.from, line.to) || is_left(line.from, line.to, other.from))
+}
+
+/// The same to the right.
+fn lies_right(line: &Line, other: &Line) -> bool
+    ensures { result ≡ true → spec.meets_badly (as_segment line.now) (as_segment other.now) ≡ false }
+{
+    is_right(line.from, line.to, other.to)
+        && (is_same(other.from, line.to) || is_right(line.from, line.to, other.from))
+}
+
+/// The same on one of the two sides.
+fn lies_aside(line: &Line, other: &Line) -> bool
+    ensures { result ≡ true → spec.meets_badly (as_segment line.now) (as_segment other.now) ≡ false }
+{
+    lies_left(line, other) || lies_right(line, other)
+}
+
+/// Two segments meet badly. Most pairs that are asked of have boxes that lie apart, and most of the others follow one another.
+#[inline(always)]
+pub fn is_bad_pair(line: &Line, other: &Line) -> bool
+    ensures { result ≡ spec.meets_badly (as_segment line.now) (as_segment other.now) }
+{
+    meets(extent_of(other), extent_of(line))
+        && (!lies_aside(line, other) && meets_badly(line.from, line.to, other.from, other.to))
+}

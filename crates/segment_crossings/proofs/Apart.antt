@@ -19,11 +19,11 @@ use Rattle.guarded_meaning.proofs.Tests.{cross_ways}
 -- ---- what four positions have to do with one another
 
 -- on either side of zero
-abbrev Opposed : ℤ → ℤ → Type 0
+abbrev pub Opposed : ℤ → ℤ → Type 0
 Opposed x y = ((pos 0 <ℤ x) × (y <ℤ pos 0)) ⊎ ((x <ℤ pos 0) × (pos 0 <ℤ y))
 
 -- two that are weighed over zero lie before one that is weighed by nothing, and another is not before it
-never_weighed : (j k l m r s t : ℤ) → j *ℤ r +ℤ (k *ℤ s +ℤ l *ℤ t) ≡ pos 0 → j +ℤ k ≡ m -ℤ l → Opposed j (pos 0 -ℤ k) → Opposed m l → (r <ℤ pos 0) → (s <ℤ pos 0) → (pos 0 ≤ℤ t) → ⊥
+pub never_weighed : (j k l m r s t : ℤ) → j *ℤ r +ℤ (k *ℤ s +ℤ l *ℤ t) ≡ pos 0 → j +ℤ k ≡ m -ℤ l → Opposed j (pos 0 -ℤ k) → Opposed m l → (r <ℤ pos 0) → (s <ℤ pos 0) → (pos 0 ≤ℤ t) → ⊥
 never_weighed j k l m r s t e f (inl h) (inl g) hr hs ht = omega (arith, ints, e, over_under j r h.0 hr, over_under k s (omega (arith, ints, h.1)) hs, under_weak l t g.1 ht)
   where
     under_weak : (x y : ℤ) → (x <ℤ pos 0) → (pos 0 ≤ℤ y) → ((x *ℤ y) ≤ℤ pos 0)
@@ -36,23 +36,23 @@ never_weighed j k l m r s t e f (inl h) (inr g) hr hs ht = omega (arith, ints, f
 never_weighed j k l m r s t e f (inr h) (inl g) hr hs ht = omega (arith, ints, f, h.0, h.1, g.0, g.1)
 
 module _ (a b c d : Point) where
-  across : cross d b c *ℤ (a.x -ℤ d.x) +ℤ (cross d c a *ℤ (b.x -ℤ d.x) +ℤ cross d a b *ℤ (c.x -ℤ d.x)) ≡ pos 0
+  pub across : cross d b c *ℤ (a.x -ℤ d.x) +ℤ (cross d c a *ℤ (b.x -ℤ d.x) +ℤ cross d a b *ℤ (c.x -ℤ d.x)) ≡ pos 0
   across = rw (cross_ways d b c, cross_ways d c a, cross_ways d a b) (three_ways (a.x -ℤ d.x) (a.y -ℤ d.y) (b.x -ℤ d.x) (b.y -ℤ d.y) (c.x -ℤ d.x) (c.y -ℤ d.y))
 
-  up : cross d b c *ℤ (a.y -ℤ d.y) +ℤ (cross d c a *ℤ (b.y -ℤ d.y) +ℤ cross d a b *ℤ (c.y -ℤ d.y)) ≡ pos 0
+  pub up : cross d b c *ℤ (a.y -ℤ d.y) +ℤ (cross d c a *ℤ (b.y -ℤ d.y) +ℤ cross d a b *ℤ (c.y -ℤ d.y)) ≡ pos 0
   up = rw (cross_ways d b c, cross_ways d c a, cross_ways d a b) (three_ways_up (a.x -ℤ d.x) (a.y -ℤ d.y) (b.x -ℤ d.x) (b.y -ℤ d.y) (c.x -ℤ d.x) (c.y -ℤ d.y))
 
-  weights : cross d b c +ℤ cross d c a ≡ cross a b c -ℤ cross d a b
+  pub weights : cross d b c +ℤ cross d c a ≡ cross a b c -ℤ cross d a b
   weights = omega (arith, ints, cross_is d b c, cross_is d c a, cross_is a b c, cross_is d a b)
 
   round : cross d a b ≡ cross a b d
   round = omega (arith, ints, cross_is d a b, cross_is a b d)
 
-  line_opposed : Parted c d a b → Opposed (cross d b c) (pos 0 -ℤ cross d c a)
+  pub line_opposed : Parted c d a b → Opposed (cross d b c) (pos 0 -ℤ cross d c a)
   line_opposed (inl h) = inr (omega (arith, ints, h.1, cross_is d b c, cross_is c d b), omega (arith, ints, h.0, swapped c d a))
   line_opposed (inr h) = inl (omega (arith, ints, h.1, cross_is d b c, cross_is c d b), omega (arith, ints, h.0, swapped c d a))
 
-  opposed : Parted a b c d → Opposed (cross a b c) (cross d a b)
+  pub opposed : Parted a b c d → Opposed (cross a b c) (cross d a b)
   opposed (inl h) = inl (h.0, omega (arith, ints, h.1, round))
   opposed (inr h) = inr (h.0, omega (arith, ints, h.1, round))
 
@@ -95,14 +95,14 @@ never s t no_same no_cross no_touch no_touch_by b = on (bad_says s t b)
     on (inr (inr (inr k))) = no_touch_by (or_cases (touches t.from t.to s.from) (touches t.from t.to s.to) k)
 
 -- a coordinate, by which what lies on a segment is between its ends
-record Axis : Type 0 where
-  along : Point → ℤ
-  low : (a b q : Point) → touches a b q ≡ true → (k : ℤ) → (k ≤ℤ along a) → (k ≤ℤ along b) → (k ≤ℤ along q)
-  high : (a b q : Point) → touches a b q ≡ true → (k : ℤ) → (along a ≤ℤ k) → (along b ≤ℤ k) → (along q ≤ℤ k)
-  uncrossed : (a b c d : Point) → Parted a b c d → Parted c d a b → (along a <ℤ along d) → (along b <ℤ along d) → (along d ≤ℤ along c) → ⊥
+pub record Axis : Type 0 where
+  pub along : Point → ℤ
+  pub low : (a b q : Point) → touches a b q ≡ true → (k : ℤ) → (k ≤ℤ along a) → (k ≤ℤ along b) → (k ≤ℤ along q)
+  pub high : (a b q : Point) → touches a b q ≡ true → (k : ℤ) → (along a ≤ℤ k) → (along b ≤ℤ k) → (along q ≤ℤ k)
+  pub uncrossed : (a b c d : Point) → Parted a b c d → Parted c d a b → (along a <ℤ along d) → (along b <ℤ along d) → (along d ≤ℤ along c) → ⊥
 
 module _ (axis : Axis) (s t : Segment) where
-  abbrev Before : Type 0
+  abbrev pub Before : Type 0
   Before = (axis.along s.from <ℤ axis.along t.from) × (axis.along s.from <ℤ axis.along t.to) × (axis.along s.to <ℤ axis.along t.from) × (axis.along s.to <ℤ axis.along t.to)
 
   before_same : Before → ((s.from ≡ t.from) × (s.to ≡ t.to)) ⊎ ((s.from ≡ t.to) × (s.to ≡ t.from)) → ⊥
@@ -124,7 +124,7 @@ module _ (axis : Axis) (s t : Segment) where
   before_touching h (inl k) = let m = axis.low t.from t.to s.from k (axis.along s.from +ℤ pos 1) (omega (arith, ints, h.0)) (omega (arith, ints, h.1)) in omega (arith, ints, m)
   before_touching h (inr k) = let m = axis.low t.from t.to s.to k (axis.along s.to +ℤ pos 1) (omega (arith, ints, h.2)) (omega (arith, ints, h.3)) in omega (arith, ints, m)
 
-  before_never : Before → meets_badly s t ≡ true → ⊥
+  pub before_never : Before → meets_badly s t ≡ true → ⊥
   before_never h = never s t (before_same h) (before_crosses h) (before_touched h) (before_touching h)
 
 pub left_never : (s t : Segment) → (s.from.x <ℤ t.from.x) × (s.from.x <ℤ t.to.x) × (s.to.x <ℤ t.from.x) × (s.to.x <ℤ t.to.x) → meets_badly s t ≡ true → ⊥

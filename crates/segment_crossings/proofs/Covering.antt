@@ -1,5 +1,6 @@
 -- Blocks while they are made, and what they show.
 use Rattle.std.proofs.Common.{◌≡◌, ℕ, ◌+◌, ◌-◌, ◌<◌, ◌≤◌, ◌/◌, ◌^◌, List, [], ◌∷◌, ◌++◌, length, slice_set, get_or-set_same, get_or-set_other, refl, sym, subst, ◌∙◌, ◌⊎◌, inl, inr, arith}
+use Rattle.std.specs.List.{All}
 use Rattle.std.proofs.lemmas.Bool.{cases_eq}
 use Rattle.std.proofs.lemmas.List.{get_or_append_left, get_or_push}
 use Rattle.std.proofs.lemmas.Nat.{shr-shr}
@@ -10,6 +11,7 @@ use Rattle.segment_crossings.specs.declared.line.Line.{Line}
 use Rattle.segment_crossings.specs.Blocks.{Covers}
 use Rattle.segment_crossings.specs.Levels.{IsOver, NoneBadWithin, block_at, no_block}
 use Rattle.segment_crossings.specs.Lines.{as_segment, line_at}
+use Rattle.segment_crossings.specs.Strips.{HoldsRun}
 
 -- what the first n blocks cover, the others do, by four
 pub record AreGathered (bs cs : List Block) (n : ℕ) : Type 0 where
@@ -38,11 +40,12 @@ gathered_more bs cs ds n h g k w c = record { within = λ i p. within i p (cases
     covers i t p (inr m) q = k (i / 4) t (h.within i (omega (arith, p, m))) (h.covers i t (omega (arith, p, m)) q)
 
 -- the next level is over the units that this one is over
-pub over_next : (ls : List Line) (ss : List ℕ) (level next : Level) → IsOver ls ss level → AreGathered level.blocks.items next.blocks.items (length level.blocks.items) → next.bits ≡ level.bits + 2 → level.bits < 56 → IsOver ls ss next
-over_next ls ss level next o g e small = record {
+pub over_next : (ls : List Line) (ss : List ℕ) (level next : Level) → IsOver ls ss level → AreGathered level.blocks.items next.blocks.items (length level.blocks.items) → next.bits ≡ level.bits + 2 → level.bits < 56 → All (HoldsRun ls) next.strips.items → IsOver ls ss next
+over_next ls ss level next o g e small k = record {
   bits = omega (arith, e, small);
   within = λ u p. subst (λ i. i < length next.blocks.items) (same u) (g.within (u / 2 ^ level.bits) (o.within u p));
   covers = λ u r p a b. subst (λ i. Covers (block_at next.blocks.items i) (as_segment (line_at ls r))) (same u) (g.covers (u / 2 ^ level.bits) (as_segment (line_at ls r)) (o.within u p) (o.covers u r p a b));
+  strips = k;
 }
   where
     same : (u : ℕ) → u / 2 ^ level.bits / 4 ≡ u / 2 ^ next.bits

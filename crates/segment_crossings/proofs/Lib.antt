@@ -1,5 +1,6 @@
 pub mod Across
 pub mod Apart
+pub mod Beside
 pub mod Blocks
 pub mod Counts
 pub mod Covering

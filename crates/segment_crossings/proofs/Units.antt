@@ -1,5 +1,6 @@
 -- Units of segments, one after another.
 use Rattle.std.proofs.Common.{◌≡◌, ℕ, zero, suc, ◌+◌, ◌-◌, ◌<◌, ◌≤◌, ◌/◌, ◌^◌, ◌⊎◌, inl, inr, false, List, [], ◌∷◌, ◌++◌, length, refl, ap, sym, subst, ◌∙◌, arith}
+use Rattle.std.specs.List.{All}
 use Rattle.std.proofs.lemmas.Bool.{cases_eq, cases_lt}
 use Rattle.std.proofs.lemmas.List.{get_or_append_left, get_or_push, length_push}
 use Rattle.guarded_meaning.specs.Segments.{Segment, meets_badly}
@@ -9,6 +10,7 @@ use Rattle.segment_crossings.specs.declared.line.Line.{Line}
 use Rattle.segment_crossings.specs.Blocks.{Covers}
 use Rattle.segment_crossings.specs.Levels.{AreStarts, IsOver, NoneBadWithin, block_at, start_at}
 use Rattle.segment_crossings.specs.Lines.{as_segment, line_at}
+use Rattle.segment_crossings.specs.Strips.{HoldsRun}
 use Rattle.segment_crossings.proofs.Covering.{push_kept, push_there}
 
 -- ---- ranks that units begin with
@@ -124,11 +126,12 @@ covered_more ls ss bs b n h c = record { count = length_push bs b ∙ ap (λ k. 
     covers u r p f g (inr m) = push_kept bs b u (as_segment (line_at ls r)) (omega (arith, p, m, h.count)) (h.covers u r (omega (arith, p, m)) f g)
 
 -- all of them are the first level
-pub first_over : (ls : List Line) (ss : List ℕ) (level : Level) (n : ℕ) → AreCovered ls ss level.blocks.items n → length ss ≤ n + 1 → level.bits ≡ 0 → IsOver ls ss level
-first_over ls ss level n h w e = record {
+pub first_over : (ls : List Line) (ss : List ℕ) (level : Level) (n : ℕ) → AreCovered ls ss level.blocks.items n → length ss ≤ n + 1 → level.bits ≡ 0 → All (HoldsRun ls) level.strips.items → IsOver ls ss level
+first_over ls ss level n h w e k = record {
   bits = omega (arith, e);
   within = λ u p. subst (λ i. i < length level.blocks.items) (sym (own u)) (omega (arith, p, w, h.count));
   covers = λ u r p f g. subst (λ i. Covers (block_at level.blocks.items i) (as_segment (line_at ls r))) (sym (own u)) (h.covers u r (omega (arith, p, w)) f g);
+  strips = k;
 }
   where
     own : (u : ℕ) → u / 2 ^ level.bits ≡ u

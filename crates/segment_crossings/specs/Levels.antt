@@ -1,5 +1,6 @@
 -- Blocks of segments, and what they show.
 use Rattle.std.specs.Prelude.{◌≡◌, ℕ, ◌+◌, ◌<◌, ◌≤◌, ◌/◌, ◌^◌, false, List, length, slice_index_or}
+use Rattle.std.specs.List.{All}
 use Rattle.guarded_meaning.specs.Segments.{meets_badly}
 use Rattle.planar_predicates.specs.Extents.{no_extent}
 use Rattle.segment_crossings.specs.declared.block.Block.{Block}
@@ -8,6 +9,7 @@ use Rattle.segment_crossings.specs.declared.levels.Level.{Level}
 use Rattle.segment_crossings.specs.declared.line.Line.{Line}
 use Rattle.segment_crossings.specs.Blocks.{Covers}
 use Rattle.segment_crossings.specs.Lines.{as_segment, line_at, no_point}
+use Rattle.segment_crossings.specs.Strips.{HoldsRun}
 
 abbrev pub no_star : Star
 no_star = record { is_known = false; end = no_point; others = no_extent }
@@ -34,6 +36,7 @@ pub record IsOver (ls : List Line) (ss : List ℕ) (level : Level) : Type 0 wher
   pub bits : level.bits < 60
   pub within : (u : ℕ) → u + 1 < length ss → u / 2 ^ level.bits < length level.blocks.items
   pub covers : (u r : ℕ) → u + 1 < length ss → start_at ss u ≤ r → r < start_at ss (u + 1) → Covers (block_at level.blocks.items (u / 2 ^ level.bits)) (as_segment (line_at ls r))
+  pub strips : All (HoldsRun ls) level.strips.items
 
 -- none of these ranks is that of a segment that meets this one badly
 pub record NoneBadWithin (ls : List Line) (l : Line) (first end : ℕ) : Type 0 where

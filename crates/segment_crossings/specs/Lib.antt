@@ -4,4 +4,6 @@ pub mod Gathering
 pub mod Levels
 pub mod Lines
 pub mod Probes
+pub mod Strips
+pub mod Units
 pub mod Ways

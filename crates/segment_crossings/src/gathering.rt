@@ -19,6 +19,15 @@ const MOST_TOGETHER: usize = 16;
 /// None of them is more than so many times as long as the first, and the first not as one of them.
 const MOST_TIMES: u64 = 8;
 
+/// Where segments are crowded, those lie on one plane that are shorter than two to this many times the shortest.
+const LENGTH_BITS: u32 = 2;
+
+/// A plane is by half of this smaller, so that all of them lie side by side.
+const PLANES: i64 = 512;
+
+/// So far is one plane from the next: none is wider.
+const APART: i64 = 1 << 52;
+
 /// Segments that stay together, and the middle of one in their middle: many may have one end.
 #[derive(Clone, Copy, Debug, PartialEq, Eq)]
 pub struct Stretch {
@@ -95,13 +104,38 @@ pub fn end_together(lines: &[Line], first: usize) -> usize
     end
 }
 
+/// Where the segments end that stay together with the one of this rank: where segments are crowded, each is by itself.
+fn end_of_stretch(lines: &[Line], first: usize, are_crowded: bool) -> usize
+    requires { first < length lines.now }
+    ensures more { first < result }
+    ensures within { result ≤ length lines.now }
+{
+    if are_crowded {
+        return first + 1;
+    }
+    end_together(lines, first)
+}
+
+/// The middle of a segment, on a smaller plane, and so far across that segments of another length lie elsewhere: each is at most so many times as long as
+/// another beside it.
+fn spot_by_length(line: &Line) -> (i64, i64) {
+    let across = line.from.x() / PLANES + line.to.x() / PLANES;
+    let up = line.from.y() / PLANES + line.to.y() / PLANES;
+    let plane = (span_of(line).max(1).ilog2() / LENGTH_BITS) as i64;
+    (across.saturating_add(plane.saturating_mul(APART)), up)
+}
+
 /// The segments of a run, which stay together.
-fn stretch_of(lines: &[Line], run: Run) -> Stretch
+fn stretch_of(lines: &[Line], run: Run, are_crowded: bool) -> Stretch
     requires some { run.first < run.end }
     requires within { run.end ≤ length lines.now }
     ensures { result.run ≡ run }
 {
     let middle = read_line(lines, run.first + (run.end - run.first) / 2);
+    if are_crowded {
+        let (x, y) = spot_by_length(middle);
+        return Stretch { x, y, run };
+    }
     Stretch {
         x: middle.from.x() / 2 + middle.to.x() / 2,
         y: middle.from.y() / 2 + middle.to.y() / 2,
@@ -110,15 +144,15 @@ fn stretch_of(lines: &[Line], run: Run) -> Stretch
 }
 
 /// All segments, in stretches.
-fn stretches_of(alloc: Global, lines: &[Line]) -> Result<Vec<Stretch>, Memory>
+fn stretches_of(alloc: Global, lines: &[Line], are_crowded: bool) -> Result<Vec<Stretch>, Memory>
     ensures all { IfOk result (λ v. flat_map (lines_in lines.now) v.items ≡ lines.now) }
     ensures within { IfOk result (λ v. All (EndsBy (length lines.now)) v.items) }
 {
     let mut stretches = Vec::new(alloc);
     let mut first = 0;
     while first < lines.len() {
-        let end = end_together(lines, first);
-        stretches.push(stretch_of(lines, Run { first, end }))?;
+        let end = end_of_stretch(lines, first, are_crowded);
+        stretches.push(stretch_of(lines, Run { first, end }, are_crowded))?;
         first = end;
     }
     Ok(stretches)
@@ -146,12 +180,16 @@ fn lines_along(alloc: Global, lines: &[Line], stretches: &[Stretch]) -> Result<V
     Ok(put)
 }
 
-/// The segments of arcs, in stretches of which near ones are close together.
-pub fn lines_in_order(alloc: Global, arcs: &[Items<Position>]) -> Result<Vec<Line>, Memory>
+/// The segments of arcs, in stretches of which near ones are close together. Where segments are crowded, near ones of about the same length are.
+pub fn lines_in_order(
+    alloc: Global,
+    arcs: &[Items<Position>],
+    are_crowded: bool,
+) -> Result<Vec<Line>, Memory>
     ensures { IfOk result (λ lines. AreSame (segments arcs.now) (map as_segment lines.items)) }
 {
     let lines = lines_of(alloc, arcs)?;
-    let mut stretches = stretches_of(alloc, &lines)?;
+    let mut stretches = stretches_of(alloc, &lines, are_crowded)?;
     arrange(alloc, &mut stretches)?;
     let placed = lines_along(alloc, &lines, &stretches)?;
     Ok(placed)

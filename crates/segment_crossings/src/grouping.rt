@@ -20,6 +20,12 @@ const AT_ONCE: usize = 4;
 /// After so many units that may have something for those, each of their segments goes on by itself.
 const MOST_UNITS: usize = 16;
 
+/// The units at once of one of so many are looked at, to see whether segments are crowded.
+const SAMPLE: usize = 256;
+
+/// They are, where one of so many of them meets many others, or more.
+const FEW_CROWDED: usize = 4;
+
 /// A box round the segments of a unit.
 fn extent_at(lines: &[Line], starts: &[usize], levels: &[Level], unit: usize) -> Extent
     requires starts { AreStarts (length lines.now) starts.now }
@@ -147,12 +153,14 @@ fn count_within(
     count
 }
 
-/// So many, and the pairs of a segment of several units and one of later ones that meet badly; or the limit.
+/// So many, and the pairs of a segment of several units and one of later ones that meet badly; or the limit. After so many later units each segment goes
+/// on by itself.
 fn count_behind(
     lines: &[Line],
     starts: &[usize],
     levels: &[Level],
     units: Run,
+    most: usize,
     sofar: u64,
     limit: u64,
 ) -> u64
@@ -167,7 +175,7 @@ fn count_behind(
     let mut count = sofar;
     let mut other = units.end;
     let mut met = 0;
-    while other + 1 < starts.len() && met < MOST_UNITS && count < limit {
+    while other + 1 < starts.len() && met < most && count < limit {
         let next = skip_from(lines, starts, levels, &extent, other);
         if next > other {
             other = next;
@@ -184,19 +192,67 @@ fn count_behind(
     count_each(lines, starts, levels, run, other, count, limit)
 }
 
-/// How many pairs of segments meet badly, or the limit, if they are more.
-pub fn count_pairs(lines: &[Line], starts: &[usize], levels: &[Level], limit: u64) -> u64
+/// Many later units may have something for several units.
+fn meet_many(lines: &[Line], starts: &[usize], levels: &[Level], units: Run) -> bool
+    requires starts { AreStarts (length lines.now) starts.now }
+    requires levels { All (IsOver lines.now starts.now) levels.now }
+    requires units { units.end < length starts.now }
+    requires order { units.first ≤ units.end }
+{
+    let extent = extent_over(lines, starts, levels, units);
+    let mut other = units.end;
+    let mut met = 0;
+    while other + 1 < starts.len() && met < MOST_UNITS {
+        let next = skip_from(lines, starts, levels, &extent, other);
+        if next > other {
+            other = next;
+            continue;
+        }
+        other += 1;
+        met += 1;
+    }
+    met == MOST_UNITS
+}
+
+/// Segments are crowded: of some units that are looked at, a quarter or more meet many others.
+pub fn are_crowded(lines: &[Line], starts: &[usize], levels: &[Level]) -> bool
+    requires starts { AreStarts (length lines.now) starts.now }
+    requires levels { All (IsOver lines.now starts.now) levels.now }
+{
+    let mut looks = 0usize;
+    let mut many = 0usize;
+    let mut unit = 0usize;
+    while unit + 1 < starts.len() {
+        let end = unit.saturating_add(AT_ONCE).min(starts.len() - 1);
+        if meet_many(lines, starts, levels, Run { first: unit, end }) {
+            many = many.saturating_add(FEW_CROWDED);
+        }
+        looks = looks.saturating_add(1);
+        unit = unit.saturating_add(SAMPLE).min(starts.len() - 1);
+    }
+    many > looks
+}
+
+/// How many pairs of segments meet badly, or the limit, if they are more. Where segments are crowded, each goes on by itself.
+pub fn count_pairs(
+    lines: &[Line],
+    starts: &[usize],
+    levels: &[Level],
+    are_crowded: bool,
+    limit: u64,
+) -> u64
     requires starts { AreStarts (length lines.now) starts.now }
     requires levels { All (IsOver lines.now starts.now) levels.now }
     ensures { result ≡ min limit (bad_pairs (map as_segment lines.now)) }
 {
+    let most = if are_crowded { 0 } else { MOST_UNITS };
     let mut count = 0;
     let mut unit = 0;
     while unit + 1 < starts.len() {
         let end = unit.saturating_add(AT_ONCE).min(starts.len() - 1);
         let units = Run { first: unit, end };
         count = count_within(lines, starts, levels, units, count, limit);
-        count = count_behind(lines, starts, levels, units, count, limit);
+        count = count_behind(lines, starts, levels, units, most, count, limit);
         unit = end;
     }
     count

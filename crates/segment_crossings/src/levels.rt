@@ -4,11 +4,13 @@ ghost use Rattle.std.specs.List.{All};
 ghost use Rattle.guarded_meaning.specs.Segments.{Segment};
 ghost use Rattle.segment_crossings.specs.Blocks.{Covers};
 ghost use Rattle.segment_crossings.specs.Levels.{AreStarts, IsOver, block_at};
+ghost use Rattle.segment_crossings.specs.Strips.{HoldsRun};
 
 use crate::block::{Block, block_of_both};
 use crate::line::Line;
 use crate::run::block_round;
-use crate::unit::run_of;
+use crate::strip::{Strip, strip_round};
+use crate::unit::{after_block, run_between, run_of};
 use owned_values::Memory;
 use std::alloc::Global;
 
@@ -18,11 +20,12 @@ pub const FAN_BITS: u32 = 2;
 /// Two to this many units are more than memory holds.
 const MOST_BITS: u32 = 56;
 
-/// Blocks of units, one after another, each of two to so many: the last may have fewer.
+/// Blocks of units, one after another, each of two to so many: the last may have fewer. Where segments are crowded, each has a strip, too.
 #[derive(Drop)]
 pub struct Level {
     pub bits: u32,
     pub blocks: Vec<Block>,
+    pub strips: Vec<Strip>,
 }
 
 /// The block of a number.
@@ -51,8 +54,38 @@ fn add(blocks: &mut Vec<Block>, at: usize, more: &Block) -> Result<(), Memory>
     Ok(())
 }
 
+/// The strips of blocks of two to so many units, where segments are crowded; else none.
+fn strips_over(
+    alloc: Global,
+    lines: &[Line],
+    starts: &[usize],
+    bits: u32,
+    are_crowded: bool,
+) -> Result<Vec<Strip>, Memory>
+    requires starts { AreStarts (length lines.now) starts.now }
+    requires bits { bits < 60 }
+    ensures { IfOk result (λ strips. All (HoldsRun lines.now) strips.items) }
+{
+    let mut strips = Vec::new(alloc);
+    if !are_crowded {
+        return Ok(strips);
+    }
+    let mut unit = 0;
+    while unit + 1 < starts.len() {
+        let end = after_block(bits, unit).min(starts.len() - 1);
+        strips.push(strip_round(lines, run_between(lines, starts, unit, end)))?;
+        unit = end;
+    }
+    Ok(strips)
+}
+
 /// A block of each unit.
-fn first_level(alloc: Global, lines: &[Line], starts: &[usize]) -> Result<Level, Memory>
+fn first_level(
+    alloc: Global,
+    lines: &[Line],
+    starts: &[usize],
+    are_crowded: bool,
+) -> Result<Level, Memory>
     requires { AreStarts (length lines.now) starts.now }
     ensures over { IfOk result (λ level. IsOver lines.now starts.now level) }
 {
@@ -62,7 +95,12 @@ fn first_level(alloc: Global, lines: &[Line], starts: &[usize]) -> Result<Level,
         blocks.push(block_round(lines, run_of(lines, starts, unit)))?;
         unit += 1;
     }
-    Ok(Level { bits: 0, blocks })
+    let strips = strips_over(alloc, lines, starts, 0, are_crowded)?;
+    Ok(Level {
+        bits: 0,
+        blocks,
+        strips,
+    })
 }
 
 /// Blocks of four blocks.
@@ -71,7 +109,9 @@ fn next_level(
     lines: &[Line],
     starts: &[usize],
     level: &Level,
+    are_crowded: bool,
 ) -> Result<Level, Memory>
+    requires starts { AreStarts (length lines.now) starts.now }
     requires over { IsOver lines.now starts.now level.now }
     requires bits { level.now.bits < 56 }
     ensures over { IfOk result (λ next. IsOver lines.now starts.now next) }
@@ -85,21 +125,28 @@ fn next_level(
             read_block(&level.blocks, number),
         )?;
     }
+    let strips = strips_over(alloc, lines, starts, level.bits + FAN_BITS, are_crowded)?;
     Ok(Level {
         bits: level.bits + FAN_BITS,
         blocks,
+        strips,
     })
 }
 
 /// Blocks of units, blocks of these, and so on until there is one.
-pub fn levels_over(alloc: Global, lines: &[Line], starts: &[usize]) -> Result<Vec<Level>, Memory>
+pub fn levels_over(
+    alloc: Global,
+    lines: &[Line],
+    starts: &[usize],
+    are_crowded: bool,
+) -> Result<Vec<Level>, Memory>
     requires { AreStarts (length lines.now) starts.now }
     ensures { IfOk result (λ levels. All (IsOver lines.now starts.now) levels.items) }
 {
     let mut levels = Vec::new(alloc);
-    let mut level = first_level(alloc, lines, starts)?;
+    let mut level = first_level(alloc, lines, starts, are_crowded)?;
     while level.blocks.len() > 1 && level.bits < MOST_BITS {
-        let next = next_level(alloc, lines, starts, &level)?;
+        let next = next_level(alloc, lines, starts, &level, are_crowded)?;
         levels.push(level)?;
         level = next;
     }

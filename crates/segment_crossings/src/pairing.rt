@@ -6,11 +6,12 @@ ghost use Rattle.segment_crossings.specs.Crossings.{crossing_pairs};
 ghost use Rattle.segment_crossings.specs.Gathering.{AreSame};
 ghost use Rattle.segment_crossings.specs.Levels.{AreStarts, IsOver};
 ghost use Rattle.segment_crossings.specs.Lines.{as_segment, bad_from, line_at, pairs_from};
+ghost use Rattle.segment_crossings.specs.Units.{AreUnits};
 
 use crate::counting::count_from;
 use crate::crossing::{Crossing, pair_of};
 use crate::gathering::{lines_in_order, lines_of};
-use crate::grouping::count_pairs;
+use crate::grouping::{are_crowded, count_pairs};
 use crate::levels::{Level, levels_over};
 use crate::line::{Line, is_bad_pair, read_line};
 use crate::unit::starts_of;
@@ -109,6 +110,42 @@ fn first_pairs(
     Ok(pairs)
 }
 
+/// The segments of arcs in units, with blocks of them.
+#[derive(Drop)]
+struct Units {
+    are_crowded: bool,
+    lines: Vec<Line>,
+    starts: Vec<usize>,
+    levels: Vec<Level>,
+}
+
+/// The segments of arcs in units.
+fn units_of(alloc: Global, arcs: &[Items<Position>], are_crowded: bool) -> Result<Units, Memory>
+    ensures { IfOk result (λ units. AreUnits arcs.now units) }
+{
+    let lines = lines_in_order(alloc, arcs, are_crowded)?;
+    let starts = starts_of(alloc, &lines)?;
+    let levels = levels_over(alloc, &lines, &starts, are_crowded)?;
+    Ok(Units {
+        are_crowded,
+        lines,
+        starts,
+        levels,
+    })
+}
+
+/// The same, in an order that serves: that of segments that are crowded, if they are.
+fn units_in_order(alloc: Global, arcs: &[Items<Position>]) -> Result<Units, Memory>
+    ensures { IfOk result (λ units. AreUnits arcs.now units) }
+{
+    let units = units_of(alloc, arcs, false)?;
+    if !are_crowded(&units.lines, &units.starts, &units.levels) {
+        return Ok(units);
+    }
+    drop(units);
+    units_of(alloc, arcs, true)
+}
+
 /// How many pairs of segments of arcs meet badly, each pair of places once, or the limit, if they are more; and so many of the pairs, or all, where
 /// they are fewer: the first by the arc and the place of the first segment, and then by those of the second. Equal neighbours make no segment.
 pub fn crossings_with(
@@ -120,11 +157,22 @@ pub fn crossings_with(
     ensures count { IfOk result (λ r. r.0 ≡ min limit (crossings arcs.now)) }
     ensures found { IfOk result (λ r. r.1.items ≡ take most (crossing_pairs (segments arcs.now))) }
 {
-    let lines = lines_in_order(alloc, arcs)?;
-    let starts = starts_of(alloc, &lines)?;
-    let levels = levels_over(alloc, &lines, &starts)?;
-    let count = count_pairs(&lines, &starts, &levels, limit);
+    let units = units_in_order(alloc, arcs)?;
+    let count = count_pairs(
+        &units.lines,
+        &units.starts,
+        &units.levels,
+        units.are_crowded,
+        limit,
+    );
     let many = pairs_to_give(count, limit, most);
-    let pairs = first_pairs(alloc, arcs, &lines, &starts, &levels, many)?;
+    let pairs = first_pairs(
+        alloc,
+        arcs,
+        &units.lines,
+        &units.starts,
+        &units.levels,
+        many,
+    )?;
     Ok((count, pairs))
 }

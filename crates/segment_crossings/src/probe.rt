@@ -4,9 +4,11 @@ ghost use Rattle.guarded_meaning.specs.Segments.{Segment, meets_badly};
 ghost use Rattle.segment_crossings.specs.Blocks.{Covers};
 ghost use Rattle.segment_crossings.specs.Probes.{EndsIn, IsBoxed};
 ghost use Rattle.segment_crossings.specs.Lines.{as_segment};
+ghost use Rattle.segment_crossings.specs.Strips.{IsBetween};
 
 use crate::block::{Block, is_off, is_off_at};
 use crate::line::{Line, extent_of};
+use crate::strip::{Strip, is_beside};
 use planar_predicates::{Extent, meets};
 
 /// Segments that blocks of others are asked about.
@@ -16,6 +18,10 @@ pub trait Probe {
     /// None of these meets a segment of the block badly, if the answer is yes.
     fn is_clear_of(&self, block: &Block) -> bool
         ensures { result ≡ true → (s t : Segment) → among self.now s → Covers block.now t → meets_badly s t ≡ false };
+
+    /// None of these meets a segment badly that lies in the strip, if the answer is yes.
+    fn is_beside_all(&self, strip: &Strip) -> bool
+        ensures { result ≡ true → (s t : Segment) → among self.now s → IsBetween strip.now t → meets_badly s t ≡ false };
 }
 
 /// All segments in a box.
@@ -24,6 +30,10 @@ impl Probe for Extent {
 
     fn is_clear_of(&self, block: &Block) -> bool {
         !meets(block.extent, *self)
+    }
+
+    fn is_beside_all(&self, _strip: &Strip) -> bool {
+        false
     }
 }
 
@@ -53,5 +63,9 @@ impl Probe for Boxed {
             || (is_off(&block.extent, &self.line)
                 || (is_off_at(block, self.line.from, &self.line)
                     || is_off_at(block, self.line.to, &self.line)))
+    }
+
+    fn is_beside_all(&self, strip: &Strip) -> bool {
+        is_beside(strip, &self.line)
     }
 }

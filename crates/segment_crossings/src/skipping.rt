@@ -1,22 +1,15 @@
 // Which units need not be looked at.
-ghost use Rattle.std.specs.Prelude.{◌≡◌, ◌+◌, ◌<◌, ◌≤◌, ◌/◌, ◌%◌, ◌^◌, ◌==◌, ℕ, length};
+ghost use Rattle.std.specs.Prelude.{◌≡◌, ◌+◌, ◌<◌, ◌≤◌, ◌%◌, ◌^◌, ◌==◌, true, length};
 ghost use Rattle.std.specs.List.{All};
 ghost use Rattle.segment_crossings.specs.Levels.{IsOver, NoneBadWithin, start_at};
 ghost use Rattle.segment_crossings.specs.Lines.{as_segment};
+ghost use Rattle.segment_crossings.specs.Strips.{HoldsRun};
 
 use crate::levels::{FAN_BITS, Level, read_block};
 use crate::line::Line;
 use crate::probe::Probe;
-
-/// The unit after the block of this one, where blocks have two to so many units.
-fn after_block(bits: u32, unit: usize) -> usize
-    requires bits { bits < 60 }
-    requires unit { unit + 1 < 2 ^ 64 }
-    ensures after { unit < result }
-    ensures same { (r : ℕ) → unit ≤ r → r < result → r / 2 ^ bits ≡ unit / 2 ^ bits }
-{
-    ((unit >> bits) + 1).saturating_mul(1 << bits)
-}
+use crate::strip::Strip;
+use crate::unit::{after_block, read_start};
 
 /// A block of two to so many units begins with this one.
 fn begins_block(bits: u32, unit: usize) -> bool
@@ -26,7 +19,54 @@ fn begins_block(bits: u32, unit: usize) -> bool
     unit % (1 << bits) == 0
 }
 
+/// The segments from one unit on, before another, lie in a strip, and so none meets a probe's badly, if the answer is yes.
+fn are_beside<P: Probe>(
+    lines: &[Line],
+    starts: &[usize],
+    strip: &Strip,
+    probe: &P,
+    unit: usize,
+    next: usize,
+) -> bool
+    requires strip { HoldsRun lines.now strip.now }
+    requires unit { unit < length starts.now }
+    requires next { next < length starts.now }
+    ensures { result ≡ true → (l : Line) → P.among probe.now (as_segment l) → NoneBadWithin lines.now l (start_at starts.now unit) (start_at starts.now next) }
+{
+    if strip.run.first > read_start(starts, unit) || read_start(starts, next) > strip.run.end {
+        return false;
+    }
+    probe.is_beside_all(strip)
+}
+
+/// The unit after the block of a level that this one begins, if no segment of it meets a probe's badly, as far as its strip shows; else this unit.
+#[inline(never)]
+fn skip_strip<P: Probe>(
+    lines: &[Line],
+    starts: &[usize],
+    level: &Level,
+    probe: &P,
+    unit: usize,
+) -> usize
+    requires level { IsOver lines.now starts.now level.now }
+    requires unit { unit + 1 < length starts.now }
+    ensures from { unit ≤ result }
+    ensures within { result + 1 ≤ length starts.now }
+    ensures none { (l : Line) → P.among probe.now (as_segment l) → NoneBadWithin lines.now l (start_at starts.now unit) (start_at starts.now result) }
+{
+    let number = unit >> level.bits;
+    if number >= level.strips.len() {
+        return unit;
+    }
+    let next = after_block(level.bits, unit).min(starts.len() - 1);
+    if are_beside(lines, starts, &level.strips[number], probe, unit, next) {
+        return next;
+    }
+    unit
+}
+
 /// The unit after the block of a level that begins with this one, if no segment of it meets a probe's badly, as far as it shows; else this unit.
+#[inline(always)]
 fn skip_block<P: Probe>(
     lines: &[Line],
     starts: &[usize],
@@ -44,7 +84,10 @@ fn skip_block<P: Probe>(
         return unit;
     }
     if !probe.is_clear_of(read_block(&level.blocks, unit >> level.bits)) {
-        return unit;
+        if level.strips.is_empty() {
+            return unit;
+        }
+        return skip_strip(lines, starts, level, probe, unit);
     }
     after_block(level.bits, unit).min(starts.len() - 1)
 }

@@ -1,5 +1,5 @@
 // Segments in units, one unit after another.
-ghost use Rattle.std.specs.Prelude.{◌≡◌, ◌+◌, ◌<◌, ◌≤◌, IfOk, length};
+ghost use Rattle.std.specs.Prelude.{◌≡◌, ◌+◌, ◌<◌, ◌≤◌, ◌/◌, ◌^◌, ℕ, IfOk, length};
 ghost use Rattle.segment_crossings.specs.Levels.{AreStarts, start_at};
 
 use crate::gathering::end_together;
@@ -64,4 +64,30 @@ pub fn run_of(lines: &[Line], starts: &[usize], unit: usize) -> Run
         first: read_start(starts, unit),
         end: read_start(starts, unit + 1),
     }
+}
+
+/// The segments from one unit on, before another.
+pub fn run_between(lines: &[Line], starts: &[usize], unit: usize, end: usize) -> Run
+    requires starts { AreStarts (length lines.now) starts.now }
+    requires order { unit < end }
+    requires end { end < length starts.now }
+    ensures first { result.first ≡ start_at starts.now unit }
+    ensures end { result.end ≡ start_at starts.now end }
+    ensures some { result.first < result.end }
+    ensures within { result.end ≤ length lines.now }
+{
+    Run {
+        first: read_start(starts, unit),
+        end: read_start(starts, end),
+    }
+}
+
+/// The unit after the block of this one, where blocks have two to so many units.
+pub fn after_block(bits: u32, unit: usize) -> usize
+    requires bits { bits < 60 }
+    requires unit { unit + 1 < 2 ^ 64 }
+    ensures after { unit < result }
+    ensures same { (r : ℕ) → unit ≤ r → r < result → r / 2 ^ bits ≡ unit / 2 ^ bits }
+{
+    ((unit >> bits) + 1).saturating_mul(1 << bits)
 }

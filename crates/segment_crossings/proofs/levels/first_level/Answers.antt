@@ -12,4 +12,4 @@ loop-unit-preserved c = subst (λ (bs : List Block). AreCovered c.args.lines.now
     (λ r a b. c.block_round.ensures r (omega (arith, a, c.run_of.ensures.first)) (omega (arith, b, c.run_of.ensures.end))))
 
 pub returns : goal.returns
-returns c = record { over = first_over c.args.lines.now c.args.starts.now (record { bits = 0; blocks = c.loop-unit.blocks }) c.loop-unit.unit c.loop-unit.invariant (omega (arith, c.loop-unit-test.false)) refl }
+returns c = record { over = first_over c.args.lines.now c.args.starts.now (record { bits = 0; blocks = c.loop-unit.blocks; strips = c.in_ok-strips.strips }) c.loop-unit.unit c.loop-unit.invariant (omega (arith, c.loop-unit-test.false)) refl c.in_ok-strips.ensures }

@@ -1,0 +1,87 @@
+// Strips along segments.
+ghost use Rattle.std.specs.Prelude.{◌≡◌, ◌<◌, ◌≤◌, ◌≤ℤ◌, true, false, length};
+ghost use Rattle.guarded_meaning.specs.Segments.{Segment, meets_badly};
+ghost use Rattle.segment_crossings.specs.Lines.{as_segment};
+ghost use Rattle.segment_crossings.specs.Strips.{HoldsRun, IsBetween};
+
+use crate::line::{Line, read_line};
+use crate::run::Run;
+use effective_area::cross;
+use geometry::Position;
+
+/// A strip along a segment, between two parallels of it, that holds the segments of a run: how far it goes to the right of the line from one position
+/// to another, and to the left, by `cross`.
+#[derive(Clone, Copy, Debug, PartialEq, Eq)]
+pub struct Strip {
+    pub run: Run,
+    pub from: Position,
+    pub to: Position,
+    pub low: i128,
+    pub high: i128,
+}
+
+/// The lesser of two numbers.
+fn lesser(x: i128, y: i128) -> i128
+    ensures first { result ≤ℤ x }
+    ensures second { result ≤ℤ y }
+{
+    if x <= y { x } else { y }
+}
+
+/// The greater of two numbers.
+fn greater(x: i128, y: i128) -> i128
+    ensures first { x ≤ℤ result }
+    ensures second { y ≤ℤ result }
+{
+    if x <= y { y } else { x }
+}
+
+/// The strip made so wide that it holds one more segment.
+fn widened(strip: &Strip, line: &Line) -> Strip
+    ensures run { result.run ≡ strip.now.run }
+    ensures line { IsBetween result (as_segment line.now) }
+    ensures kept { (t : Segment) → IsBetween strip.now t → IsBetween result t }
+{
+    let from = cross(strip.from, strip.to, line.from);
+    let to = cross(strip.from, strip.to, line.to);
+    let low = lesser(from, to);
+    let high = greater(from, to);
+    Strip {
+        run: strip.run,
+        from: strip.from,
+        to: strip.to,
+        low: lesser(strip.low, low),
+        high: greater(strip.high, high),
+    }
+}
+
+/// The strip along the segment in the middle of a run that holds them all.
+pub fn strip_round(lines: &[Line], run: Run) -> Strip
+    requires some { run.first < run.end }
+    requires within { run.end ≤ length lines.now }
+    ensures { HoldsRun lines.now result }
+{
+    let line = read_line(lines, run.first + (run.end - run.first) / 2);
+    let mut strip = Strip {
+        run,
+        from: line.from,
+        to: line.to,
+        low: 0,
+        high: 0,
+    };
+    for rank in run.first..run.end {
+        strip = widened(&strip, read_line(lines, rank));
+    }
+    strip
+}
+
+/// Both ends of a segment lie beyond a strip, on the same side, if the answer is yes: then it meets none badly that is in it.
+pub fn is_beside(strip: &Strip, line: &Line) -> bool
+    ensures { result ≡ true → (t : Segment) → IsBetween strip.now t → meets_badly (as_segment line.now) t ≡ false }
+{
+    let from = cross(strip.from, strip.to, line.from);
+    let to = cross(strip.from, strip.to, line.to);
+    let low = lesser(from, to);
+    let high = greater(from, to);
+    high < strip.low || strip.high < low
+}

@@ -1,11 +1,14 @@
-// Cells in place of positions, in arcs.
+// Cells in place of positions, in arcs, points and MultiPoints.
 ghost use Rattle.std.specs.Prelude.{◌≡◌, map};
+ghost use Rattle.topo_model.specs.ArcUses.{as_they_are};
 ghost use Rattle.layer_topology.specs.Replacing.{cell_if_covered};
 
 use geojson_types::Position;
 use grid_snap::Grid;
 use json_value::Items;
-use topojson_types::Cell;
+use std::marker::Model;
+use topo_model::Keeps;
+use topojson_types::{ArcRef, Cell};
 
 /// The cell that stands for a position of a topology without a transform. One that the grid doesn't cover stays.
 pub(crate) fn cell_on(grid: &Grid, position: Cell) -> Cell
@@ -37,5 +40,41 @@ pub(crate) fn arcs_on(grid: &Grid, arcs: &mut [Items<Cell>])
 {
     'arcs: for arc in arcs.iter_mut() {
         cells_on(grid, arc.as_mut_slice());
+    }
+}
+
+/// Puts cells in the place of the positions of points, and leaves lines and rings as they are.
+#[derive(Drop)]
+pub(crate) struct Gridding<'a> {
+    grid: &'a Grid,
+}
+
+impl<'a> Model for Gridding<'a> {
+    ghost use Rattle.grid_snap.specs.Axes.{Axes};
+
+    ghost Value = { Axes };
+
+    ghost view = { λ g. g.grid.now };
+}
+
+impl<'a> Gridding<'a> {
+    pub(crate) fn on(grid: &'a Grid) -> Gridding<'a>
+        ensures { result ≡ grid.now }
+    {
+        Gridding { grid }
+    }
+}
+
+impl<'a> Keeps for Gridding<'a> {
+    ghost places = { cell_if_covered };
+
+    ghost keeps = { λ grid. as_they_are };
+
+    fn place(&self, cell: Cell) -> Cell {
+        cell_on(self.grid, cell)
+    }
+
+    fn keep(&self, _closed: bool, _refs: &mut Items<ArcRef>) -> bool {
+        true
     }
 }

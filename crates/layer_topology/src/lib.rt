@@ -15,7 +15,6 @@ mod laws;
 mod layers;
 mod level;
 mod making;
-mod objects;
 mod renumbering;
 mod sparing;
 mod splitting;

@@ -4,28 +4,33 @@ ghost use Rattle.simplified_topology.specs.Quantized.{IsOn, quantized};
 ghost use Rattle.simplified_topology.specs.GridTransforms.{transform_of};
 ghost use Rattle.simplified_topology.specs.Celled.{EachCell};
 
-use crate::cells::arcs_on;
-use crate::objects::objects_on;
+use crate::cells::{Gridding, arcs_on};
 use crate::transforms::transform;
 use grid_snap::Grid;
 use owned_values::Memory;
 use simplified_topology::quantized_is_valid;
 use std::alloc::Global;
+use topo_model::prune_objects;
 use topojson_types::{Topology, Transform};
 
 /// The topology with the cells of its positions in their place, and with the grid's transform.
-fn with_cells(topology: Topology, grid: &Grid, transform: Transform) -> Topology
+fn with_cells(
+    alloc: Global,
+    topology: Topology,
+    grid: &Grid,
+    transform: Transform,
+) -> Result<Topology, Memory>
     requires plain { topology.transform ≡ None }
     requires on { EachCell (IsOn (Some grid.now)) topology }
     requires transform { transform ≡ transform_of grid.now }
-    ensures { result ≡ quantized (Some grid.now) topology }
+    ensures { IfOk result (λ y. y ≡ quantized (Some grid.now) topology) }
 {
     grid.law();
     quantized_is_valid();
     let (mut objects, mut arcs, _transform) = topology.into_parts();
-    objects_on(grid, objects.as_mut_slice());
+    prune_objects(alloc, &Gridding::on(grid), objects.as_mut_slice())?;
     arcs_on(grid, arcs.as_mut_slice());
-    Topology::of(objects, arcs, Some(transform))
+    Ok(Topology::of(objects, arcs, Some(transform)))
 }
 
 /// The topology on the grid (TopoJSON 1.0, section 2.1.2), if there is one. Its positions lie on the grid, so each cell lies where
@@ -38,7 +43,7 @@ pub fn on_grid(alloc: Global, topology: Topology, grid: Option<Grid>) -> Result<
     match grid {
         None => Ok(topology),
         Some(grid) => match transform(alloc, &grid) {
-            Ok(transform) => Ok(with_cells(topology, &grid, transform)),
+            Ok(transform) => with_cells(alloc, topology, &grid, transform),
             Err(fault) => {
                 drop(topology);
                 Err(fault)

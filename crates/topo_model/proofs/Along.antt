@@ -7,14 +7,14 @@ use Rattle.geometry.specs.Points.{Point}
 use Rattle.geometry.specs.Pruning.{prune}
 use Rattle.simplified_topology.specs.OuterRings.{marked}
 use Rattle.simplified_topology.specs.Protected.{Protection, no_protection, MarkedRefs, sparing, shape_marked, feature_spared, object_spared, objects_spared}
-use Rattle.simplified_topology.specs.Simplified.{Refs, feature_pruned, objects_pruned}
+use Rattle.simplified_topology.specs.Simplified.{Refs, object_pruned, objects_pruned}
 use Rattle.simplified_topology.proofs.Marks.{left_plain}
 use Rattle.simplified_topology.proofs.Spared.{objects_plain}
 use Rattle.topojson_types.specs.declared.feature.TopoFeature.{TopoFeature}
 use Rattle.topojson_types.specs.declared.object.TopoObject.{TopoObject}
 use Rattle.topojson_types.specs.declared.object.TopoObject.TheVariants.{One, Many}
 use Rattle.topojson_types.specs.Topologies.{TopoShape, object_features}
-use Rattle.topo_model.specs.Along.{Ways, first_way, by_ways, ways_after, by_object, feature_along, object_along, objects_along, AreWays}
+use Rattle.topo_model.specs.Along.{Ways, first_way, by_ways, ways_after, by_object, feature_along, feature_placed, feature_placed_along, object_along, object_placed, objects_along, objects_placed, AreWays}
 use Rattle.topo_model.specs.Ways.{way_of, ways_of}
 use Rattle.topo_model.proofs.Stepped as stepped
 
@@ -125,9 +125,18 @@ pub objects_plainly : (k : Refs) (os : Objects) → objects_along (sparing k) []
 objects_plainly k os = objects_are no_protection (sparing k) [] os (inr (refl, refl)) ∙ objects_plain (sparing k) os
 
 -- so is a feature without a way
-pub feature_plainly : (k : Refs) (f : TopoFeature) → feature_along (sparing k) None f ≡ feature_pruned k f
-feature_plainly k f = ap (with_shape no_protection (sparing k) f) (plainly f.shape)
+pub feature_plainly : (place : Point → Point) (k : Refs) (f : TopoFeature) → feature_placed_along place (sparing k) None f ≡ feature_placed place k f
+feature_plainly place k f = ap (with_shape no_protection (sparing k) f) (plainly f.shape)
   where
-    plainly : (s : Option TopoShape) → then_some (λ s. prune (λ (p : Point). p) (sparing k) (marked s None)) s ≡ then_some (prune (λ p. p) k) s
+    plainly : (s : Option TopoShape) → then_some (λ s. prune place (sparing k) (marked s None)) s ≡ then_some (prune place k) s
     plainly None = refl
-    plainly (Some s) = left_plain (λ (p : Point). p) (sparing k) s
+    plainly (Some s) = left_plain place (sparing k) s
+
+-- objects whose cells stay are the pruned ones
+pub cells_stay : (k : Refs) (os : Objects) → objects_placed (λ p. p) k os ≡ objects_pruned k os
+cells_stay k [] = refl
+cells_stay k (o ∷ os) = rw (object_stays o.1, cells_stay k os) refl
+  where
+    object_stays : (o : TopoObject) → object_placed (λ p. p) k o ≡ object_pruned k o
+    object_stays (One f) = refl
+    object_stays (Many fs) = refl

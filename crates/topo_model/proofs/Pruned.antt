@@ -1,7 +1,7 @@
 -- The pruned shape, by its kind, and loops over its parts.
-use Rattle.std.proofs.Common.{◌≡◌, ℕ, suc, ◌+◌, ℤ, Bool, true, false, List, [], ◌∷◌, ◌++◌, length, Option, None, Some, refl, sym, ap, append-nil, ◌∙◌, arith}
+use Rattle.std.proofs.Common.{◌≡◌, ℕ, suc, ◌+◌, ℤ, Bool, true, false, List, [], ◌∷◌, ◌++◌, map, length, Option, None, Some, refl, sym, ap, append-nil, ◌∙◌, arith}
 use Rattle.std.specs.Prelude.{if◌then◌else◌}
-use Rattle.std.proofs.lemmas.List.{length_push, map-id}
+use Rattle.std.proofs.lemmas.List.{length_push}
 use Rattle.geometry.specs.declared.shape.Geometry.TheVariants as g
 use Rattle.geometry.specs.Lists.{map_some, with_some, some_of, unless_empty}
 use Rattle.geometry.specs.Points.{Point}
@@ -13,32 +13,31 @@ use Rattle.simplified_topology.proofs.Marks.{some_made, left-point, left-points,
 use Rattle.topojson_types.specs.Topologies.{TopoShape}
 use Rattle.topo_model.proofs.KeptParts.{some_more}
 
--- the shape with the outer ring at the end of the way marked, pruned
-abbrev pub left : Refs → Option (List ℕ) → TopoShape → Option TopoShape
-left k way s = prune (λ p. p) (sparing k) (marked s way)
+module _ (place : Point → Point) (k : Refs) (way : Option (List ℕ)) where
+  -- the shape with the outer ring at the end of the way marked, pruned
+  abbrev pub left : TopoShape → Option TopoShape
+  left s = prune place (sparing k) (marked s way)
 
-pub at_point : (k : Refs) (way : Option (List ℕ)) (s : TopoShape) (p : Point) → s ≡ g.Point p → Some (g.Point p) ≡ prune (λ p. p) (sparing k) (marked s way)
-at_point k way s p e = sym (ap (left k way) e ∙ left-point (λ (p : Point). p) (sparing k) p way)
+  pub at_point : (s : TopoShape) (p q : Point) → s ≡ g.Point p → q ≡ place p → Some (g.Point q) ≡ prune place (sparing k) (marked s way)
+  at_point s p q e placed = ap (λ r. Some (g.Point r)) placed ∙ sym (ap left e ∙ left-point place (sparing k) p way)
 
-pub at_points : (k : Refs) (way : Option (List ℕ)) (s : TopoShape) (ps : List Point) → s ≡ g.MultiPoint ps → Some (g.MultiPoint ps) ≡ prune (λ p. p) (sparing k) (marked s way)
-at_points k way s ps e = sym (ap (left k way) e ∙ left-points (λ (p : Point). p) (sparing k) ps way ∙ ap (λ qs. Some (g.MultiPoint qs)) (map-id ps))
+  pub at_points : (s : TopoShape) (ps qs : List Point) → s ≡ g.MultiPoint ps → qs ≡ map place ps → Some (g.MultiPoint qs) ≡ prune place (sparing k) (marked s way)
+  at_points s ps qs e placed = ap (λ rs. Some (g.MultiPoint rs)) placed ∙ sym (ap left e ∙ left-points place (sparing k) ps way)
 
--- ---- the others
+  pub of_line : (l : List ℤ) → prune place (sparing k) (marked (g.Line l) way) ≡ map_some g.Line (k false l)
+  of_line l = left-line place (sparing k) l way
 
-pub of_line : (k : Refs) (way : Option (List ℕ)) (l : List ℤ) → prune (λ (p : Point). p) (sparing k) (marked (g.Line l) way) ≡ map_some g.Line (k false l)
-of_line k way l = left-line (λ (p : Point). p) (sparing k) l way
+  pub of_lines : (ls : List (List ℤ)) → prune place (sparing k) (marked (g.Lines ls) way) ≡ unless_empty g.Lines (some_of (k false) ls)
+  of_lines ls = left-lines place (sparing k) ls way
 
-pub of_lines : (k : Refs) (way : Option (List ℕ)) (ls : List (List ℤ)) → prune (λ (p : Point). p) (sparing k) (marked (g.Lines ls) way) ≡ unless_empty g.Lines (some_of (k false) ls)
-of_lines k way ls = left-lines (λ (p : Point). p) (sparing k) ls way
+  pub of_area : (rs : List (List ℤ)) → prune place (sparing k) (marked (g.Area rs) way) ≡ map_some g.Area (area_by (sparing k true) (rings_marked rs way))
+  of_area rs = left-area place (sparing k) rs way
 
-pub of_area : (k : Refs) (way : Option (List ℕ)) (rs : List (List ℤ)) → prune (λ (p : Point). p) (sparing k) (marked (g.Area rs) way) ≡ map_some g.Area (area_by (sparing k true) (rings_marked rs way))
-of_area k way rs = left-area (λ (p : Point). p) (sparing k) rs way
+  pub of_areas : (areas : List (List (List ℤ))) → prune place (sparing k) (marked (g.Areas areas) way) ≡ unless_empty g.Areas (some_of (area_by (sparing k true)) (along rings_marked 0 areas way))
+  of_areas areas = left-areas place (sparing k) areas way
 
-pub of_areas : (k : Refs) (way : Option (List ℕ)) (areas : List (List (List ℤ))) → prune (λ (p : Point). p) (sparing k) (marked (g.Areas areas) way) ≡ unless_empty g.Areas (some_of (area_by (sparing k true)) (along rings_marked 0 areas way))
-of_areas k way areas = left-areas (λ (p : Point). p) (sparing k) areas way
-
-pub of_group : (k : Refs) (way : Option (List ℕ)) (ss : List TopoShape) → prune (λ (p : Point). p) (sparing k) (marked (g.Group ss) way) ≡ Some (g.Group (some_of (prune (λ (p : Point). p) (sparing k)) (along marked 0 ss way)))
-of_group k way ss = left-group (λ (p : Point). p) (sparing k) ss way
+  pub of_group : (ss : List TopoShape) → prune place (sparing k) (marked (g.Group ss) way) ≡ Some (g.Group (some_of (prune place (sparing k)) (along marked 0 ss way)))
+  of_group ss = left-group place (sparing k) ss way
 
 -- ---- part by part
 

@@ -2,7 +2,7 @@
 use Rattle.std.proofs.Common.{◌≡◌, ℕ, suc, ℤ, Bool, true, false, ◌&&◌, List, [], ◌∷◌, ◌++◌, map, length, Option, None, Some, refl, sym, ap, ◌∙◌, subst, arith}
 use Rattle.std.specs.List.{AllByRecursion, list_all}
 use Rattle.std.proofs.lemmas.Bool.{and_parts}
-use Rattle.std.proofs.lemmas.List.{length-append}
+use Rattle.std.proofs.lemmas.List.{length-append, map-id}
 use Rattle.build_meaning.specs.Expected.{unless}
 use Rattle.geojson_types.specs.Features.{is_some_list}
 use Rattle.geometry.specs.declared.address.Address.{Address}
@@ -98,26 +98,26 @@ module _ (arcs : Rebuilding) where
   -- ---- shapes
 
   abbrev Stays : TopoShape → Type 0
-  Stays s = is_full s ≡ true → (way : Option (List ℕ)) → drops.gone arcs way s ≡ [] → left kept way s ≡ Some s
+  Stays s = is_full s ≡ true → (way : Option (List ℕ)) → drops.gone arcs way s ≡ [] → left (λ p. p) kept way s ≡ Some s
 
   shape_stays : (s : TopoShape) → Stays s
   shape_stays = by_kinds Stays (record {
-    point = λ p full way e. sym (at_point kept way (g.Point p) p refl);
-    points = λ ps full way e. sym (at_points kept way (g.MultiPoint ps) ps refl);
-    line = λ l full way e. pruned.of_line kept way l ∙ ap (map_some g.Line) (line_stays false l (no_cause (why false l) (sym (drops.of_line arcs way l) ∙ e)));
-    lines = λ ls full way e. pruned.of_lines kept way ls ∙ ap (unless_empty g.Lines) (lines_stay false 0 ls (sym (drops.of_lines arcs way ls) ∙ e))
+    point = λ p full way e. sym (at_point (λ p. p) kept way (g.Point p) p p refl refl);
+    points = λ ps full way e. sym (at_points (λ p. p) kept way (g.MultiPoint ps) ps ps refl (sym (map-id ps)));
+    line = λ l full way e. pruned.of_line (λ p. p) kept way l ∙ ap (map_some g.Line) (line_stays false l (no_cause (why false l) (sym (drops.of_line arcs way l) ∙ e)));
+    lines = λ ls full way e. pruned.of_lines (λ p. p) kept way ls ∙ ap (unless_empty g.Lines) (lines_stay false 0 ls (sym (drops.of_lines arcs way ls) ∙ e))
         ∙ made_of_some g.Lines ls (and_parts (is_some_list ls) (list_all is_some_list ls) (sym (full_at.lines ls) ∙ full)).0;
-    area = λ rs full way e. pruned.of_area kept way rs ∙ ap (map_some g.Area) (area_stays rs (some_rings rs (sym (full_at.area rs) ∙ full)) way (sym (drops.of_area arcs way rs) ∙ e));
+    area = λ rs full way e. pruned.of_area (λ p. p) kept way rs ∙ ap (map_some g.Area) (area_stays rs (some_rings rs (sym (full_at.area rs) ∙ full)) way (sym (drops.of_area arcs way rs) ∙ e));
     areas = λ areas full way e.
         let k = and_parts (is_some_list areas) (list_all (λ rs. is_some_list rs && list_all is_some_list rs) areas) (sym (full_at.areas areas) ∙ full) in
         let each = all_weaker (λ rs. (is_some_list rs && list_all is_some_list rs) ≡ true) (Stay rings_marked (area_drop_causes (cause_sparing why true)) (area_by (sparing kept true)) way) (λ rs h. area_stays rs (some_rings rs h)) areas
         (all_passed (λ rs. is_some_list rs && list_all is_some_list rs) areas k.1) in
-        pruned.of_areas kept way areas
+        pruned.of_areas (λ p. p) kept way areas
         ∙ ap (unless_empty g.Areas) (parts_stay rings_marked (area_drop_causes (cause_sparing why true)) (area_by (sparing kept true)) way 0 areas each (sym (drops.of_areas arcs way areas) ∙ e))
         ∙ made_of_some g.Areas areas k.0;
     group = λ ss all full way e.
         let each = all_two Stays (λ s. is_full s ≡ true) (Stay marked (drop_causes (cause_sparing why)) (prune (λ (p : Point). p) (sparing kept)) way) (λ s stays h. stays h) ss all (all_passed is_full ss (sym (full-group ss) ∙ full)) in
-        pruned.of_group kept way ss
+        pruned.of_group (λ p. p) kept way ss
         ∙ ap (λ ts. Some (g.Group ts)) (parts_stay marked (drop_causes (cause_sparing why)) (prune (λ (p : Point). p) (sparing kept)) way 0 ss each (sym (drops.of_group arcs way ss) ∙ e));
   })
     where
@@ -126,7 +126,7 @@ module _ (arcs : Rebuilding) where
 
   -- ---- features
 
-  option_stays : (s : Option TopoShape) (way : Option (List ℕ)) → is_full_option s ≡ true → shape_drops arcs way s ≡ [] → then_some (left kept way) s ≡ s
+  option_stays : (s : Option TopoShape) (way : Option (List ℕ)) → is_full_option s ≡ true → shape_drops arcs way s ≡ [] → then_some (left (λ p. p) kept way) s ≡ s
   option_stays None way full e = refl
   option_stays (Some s) way full e = shape_stays s full way e
 

@@ -1,12 +1,12 @@
 -- Objects in which of each feature the ring at the end of its way stays. The ways are given in reading order, and a feature that comes after
 -- the last of them has none.
-use Rattle.std.specs.Prelude.{◌≡◌, ◌⊎◌, ℕ, List, [], ◌∷◌, Option, None, drop, length}
+use Rattle.std.specs.Prelude.{◌≡◌, ◌⊎◌, ℕ, List, [], ◌∷◌, Option, None, drop, length, map}
 use Rattle.geometry.specs.Lists.{tail, then_some}
 use Rattle.geometry.specs.Points.{Point}
 use Rattle.geometry.specs.Pruning.{prune}
 use Rattle.simplified_topology.specs.OuterRings.{marked}
 use Rattle.simplified_topology.specs.Protected.{Protection, no_protection, MarkedRefs, sparing}
-use Rattle.simplified_topology.specs.Simplified.{large_refs}
+use Rattle.simplified_topology.specs.Simplified.{Refs, large_refs}
 use Rattle.topojson_types.specs.declared.feature.TopoFeature.{TopoFeature}
 use Rattle.topojson_types.specs.declared.object.TopoObject.{TopoObject}
 use Rattle.topojson_types.specs.declared.object.TopoObject.TheVariants.{One, Many}
@@ -36,9 +36,13 @@ abbrev pub by_object : {B : Type 0} → (Ways → List ℕ × TopoObject → B) 
 by_object make ways [] = []
 by_object make ways (o ∷ os) = make ways o ∷ by_object make (ways_after ways (object_features o.1)) os
 
+-- the feature with the ring at the end of the way marked, pruned, and with the cells of points replaced
+abbrev pub feature_placed_along : (Point → Point) → MarkedRefs → Option (List ℕ) → TopoFeature → TopoFeature
+feature_placed_along place kept way f = record { id = f.id; properties = f.properties; shape = then_some (λ s. prune place kept (marked s way)) f.shape }
+
 -- the feature with the ring at the end of the way marked, pruned
 abbrev pub feature_along : MarkedRefs → Option (List ℕ) → TopoFeature → TopoFeature
-feature_along kept way f = record { id = f.id; properties = f.properties; shape = then_some (λ s. prune (λ p. p) kept (marked s way)) f.shape }
+feature_along = feature_placed_along (λ p. p)
 
 abbrev pub object_along : MarkedRefs → Ways → TopoObject → TopoObject
 object_along kept ways (One f) = One (feature_along kept (first_way ways) f)
@@ -50,6 +54,19 @@ objects_along kept = by_object (λ ways o. (o.0, object_along kept ways o.1))
 -- without the lines and rings that are small by a limit where they are rebuilt of these arcs, but with the rings at the ends of ways
 abbrev pub large_along : ℕ → List (List Point) → Ways → List (List ℕ × TopoObject) → List (List ℕ × TopoObject)
 large_along limit arcs = objects_along (sparing (large_refs limit arcs))
+
+-- ---- without ways
+
+-- the feature pruned, and with the cells of points replaced
+abbrev pub feature_placed : (Point → Point) → Refs → TopoFeature → TopoFeature
+feature_placed place kept f = record { id = f.id; properties = f.properties; shape = then_some (prune place kept) f.shape }
+
+abbrev pub object_placed : (Point → Point) → Refs → TopoObject → TopoObject
+object_placed place kept (One f) = One (feature_placed place kept f)
+object_placed place kept (Many fs) = Many (map (feature_placed place kept) fs)
+
+abbrev pub objects_placed : (Point → Point) → Refs → List (List ℕ × TopoObject) → List (List ℕ × TopoObject)
+objects_placed place kept os = map (λ o. (o.0, object_placed place kept o.1)) os
 
 -- ---- protected rings
 

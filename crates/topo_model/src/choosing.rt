@@ -8,11 +8,17 @@ use crate::rebuilding::Rebuilding;
 use crate::trimming::renumber_all;
 use json_value::Items;
 use std::marker::Model;
-use topojson_types::ArcRef;
+use topojson_types::{ArcRef, Cell};
 
 /// Keeps the lines and rings that aren't small where they are rebuilt of these arcs, as they are.
 impl<'a> Keeps for Rebuilding<'a> {
+    ghost places = { λ arcs cell. cell };
+
     ghost keeps = { λ arcs. large_refs arcs.limit arcs.arcs };
+
+    fn place(&self, cell: Cell) -> Cell {
+        cell
+    }
 
     fn keep(&self, closed: bool, refs: &mut Items<ArcRef>) -> bool {
         !self.is_small(closed, refs.as_slice())
@@ -42,7 +48,13 @@ impl<'a> Renumbered<'a> {
 }
 
 impl<'a> Keeps for Renumbered<'a> {
+    ghost places = { λ renumbering cell. cell };
+
     ghost keeps = { renumbered_refs };
+
+    fn place(&self, cell: Cell) -> Cell {
+        cell
+    }
 
     fn keep(&self, _closed: bool, refs: &mut Items<ArcRef>) -> bool {
         renumber_all(refs.as_mut_slice(), self.renumbering);

@@ -6,7 +6,8 @@
 //! `Reduces::reduce` are for who has the numbers of all arcs at once. Where in each feature a ring is protected, it is named by the way to its
 //! polygon, and stays (`reassemble_sparing`, `assemble_draft_sparing`); where none is, no ways are given. `rings_to_stay` finds the rings of a
 //! topology that are protected. It stands on `simplified_topology`, which says what topology that is and when it is what is built of the
-//! layers, and on `arc_table`. The layers above use the contracts of `take_apart`, `filled`, `assemble_draft` and of `reassemble`.
+//! layers, and on `arc_table`. The layers above use the contracts of `take_apart`, `filled`, `assemble_draft` and of `reassemble`, and put cells
+//! in the place of positions by `prune_objects`.
 #![tactic(auto)]
 
 mod assembling;
@@ -45,6 +46,7 @@ pub use given_numbers::positions_of_all;
 pub use position_cells::cells;
 pub use position_counting::position_counts;
 pub use protecting::{protected_rings, rings_to_stay};
+pub use pruning::{Keeps, prune_objects};
 pub use reassembling::{reassemble, reassemble_sparing};
 pub use reducing::Reduces;
 pub use retaining::{retained_cells, retained_positions};

@@ -1,31 +1,48 @@
-// Geometries without some of their lines and rings, and with the arc indexes of the others replaced. What stays is changed where it
-// stands: only a collection and a MultiPolygon have a list made again. The outer ring at the end of a way stays as it is.
+// Geometries without some of their lines and rings, and with the arc indexes of the others and the cells of points replaced. What stays is
+// changed where it stands: only a collection and a MultiPolygon have a list made again. The outer ring at the end of a way stays as it is.
 ghost use Rattle.std.specs.Prelude.{◌≡◌, ◌≤◌, ℤ, Bool, false, true, List, Option, None, Some, IfOk, OnOk, length, map, take};
 ghost use Rattle.std.specs.Bool.{OnFalse, OnTrue};
 ghost use Rattle.geometry.specs.declared.shape.Geometry.TheVariants as kind;
 ghost use Rattle.geometry.specs.Lists.{map_some, some_of, then_some, unless_empty};
+ghost use Rattle.geometry.specs.Points.{Point};
 ghost use Rattle.geometry.specs.Pruning.{area_by, prune};
 ghost use Rattle.simplified_topology.specs.OuterRings.{along, ends_here, marked, rings_marked};
 ghost use Rattle.simplified_topology.specs.Protected.{sparing};
-ghost use Rattle.simplified_topology.specs.Simplified.{feature_pruned, object_pruned, objects_pruned};
-ghost use Rattle.topo_model.specs.Along.{feature_along};
+ghost use Rattle.topo_model.specs.Along.{feature_placed, feature_placed_along, object_placed, objects_placed};
 
 use crate::way_steps::{ends_here, into_part};
 use geojson_types::Geometry;
 use json_value::{Items, OwnText};
 use owned_values::Memory;
 use std::alloc::Global;
-use topojson_types::{ArcRef, TopoFeature, TopoObject, TopoShape};
+use topojson_types::{ArcRef, Cell, TopoFeature, TopoObject, TopoShape};
 
-/// What says of each line and ring whether it stays, and with which arc indexes.
+/// What says of each line and ring whether it stays, and with which arc indexes, and which cell stands in the place of one of a point.
 pub trait Keeps {
+    /// The cell in the place of one of a Point or a MultiPoint.
+    ghost places: { Self → Point → Point };
+
     /// The arc indexes that stand for an open line (false) or a ring (true), if it stays.
     ghost keeps: { Self → Bool → List ℤ → Option (List ℤ) };
+
+    fn place(&self, cell: Cell) -> Cell
+        ensures { result ≡ places self.now cell };
 
     /// Whether it stays. Where it does, its arc indexes are replaced by those.
     fn keep(&self, closed: bool, refs: &mut Items<ArcRef>) -> bool
         ensures stays { OnTrue result (keeps self.now closed refs.old ≡ Some refs.new) }
         ensures goes { OnFalse result (keeps self.now closed refs.old ≡ None) };
+}
+
+/// The cells in the places of those of a MultiPoint.
+fn placed_cells<K: Keeps>(keeps: &K, cells: Items<Cell>) -> Items<Cell>
+    ensures { result ≡ map (K.places keeps.now) cells }
+{
+    let mut cells = cells;
+    'cells: for cell in cells.as_mut_slice().iter_mut() {
+        *cell = keeps.place(*cell);
+    }
+    cells
 }
 
 /// Moves those of the open lines or rings that stay to the front, in order. This many they are.
@@ -149,11 +166,13 @@ fn pruned_shape<K: Keeps>(
     shape: TopoShape,
     way: Option<&[usize]>,
 ) -> Result<Option<TopoShape>, Memory>
-    ensures { IfOk result (λ left. left ≡ prune (λ p. p) (sparing (K.keeps keeps.now)) (marked shape (map_some (λ w. w.now) way.entry))) }
+    ensures { IfOk result (λ left. left ≡ prune (K.places keeps.now) (sparing (K.keeps keeps.now)) (marked shape (map_some (λ w. w.now) way.entry))) }
 {
     match shape {
-        Geometry::Point(cell) => Ok(Some(Geometry::Point(cell))),
-        Geometry::MultiPoint(cells) => Ok(Some(Geometry::MultiPoint(cells))),
+        Geometry::Point(cell) => Ok(Some(Geometry::Point(keeps.place(cell)))),
+        Geometry::MultiPoint(cells) => {
+            Ok(Some(Geometry::MultiPoint(placed_cells(keeps, cells))))
+        }
         Geometry::Line(refs) => Ok(pruned_line(keeps, refs)),
         Geometry::Lines(lines) => Ok(pruned_lines(keeps, lines.into_inner())),
         Geometry::Area(rings) => Ok(pruned_polygon(keeps, rings.into_inner(), way)),
@@ -182,7 +201,7 @@ fn pruned_option<K: Keeps>(
     shape: Option<TopoShape>,
     way: Option<&[usize]>,
 ) -> Result<Option<TopoShape>, Memory>
-    ensures { IfOk result (λ left. left ≡ then_some (λ s. prune (λ p. p) (sparing (K.keeps keeps.now)) (marked s (map_some (λ w. w.now) way.entry))) shape) }
+    ensures { IfOk result (λ left. left ≡ then_some (λ s. prune (K.places keeps.now) (sparing (K.keeps keeps.now)) (marked s (map_some (λ w. w.now) way.entry))) shape) }
 {
     match shape {
         None => Ok(None),
@@ -197,7 +216,7 @@ pub fn prune_feature<K: Keeps>(
     feature: &mut TopoFeature,
     way: Option<&[usize]>,
 ) -> Result<(), Memory>
-    ensures { OnOk result (feature.new ≡ feature_along (sparing (K.keeps keeps.now)) (map_some (λ w. w.now) way.entry) feature.old) }
+    ensures { OnOk result (feature.new ≡ feature_placed_along (K.places keeps.now) (sparing (K.keeps keeps.now)) (map_some (λ w. w.now) way.entry) feature.old) }
 {
     let shape = feature.shape.take();
     feature.shape = pruned_option(alloc, keeps, shape, way)?;
@@ -210,7 +229,7 @@ fn prune_features<K: Keeps>(
     keeps: &K,
     features: &mut [TopoFeature],
 ) -> Result<(), Memory>
-    ensures { OnOk result (features.new ≡ map (feature_pruned (K.keeps keeps.now)) features.old) }
+    ensures { OnOk result (features.new ≡ map (feature_placed (K.places keeps.now) (K.keeps keeps.now)) features.old) }
 {
     'features: for feature in features.iter_mut() {
         prune_feature(alloc, keeps, feature, None)?;
@@ -221,7 +240,7 @@ fn prune_features<K: Keeps>(
 /// Prunes the shapes of the features of an object.
 #[tactic(auto, using(crate::proofs::Along::feature_plainly))]
 fn prune_object<K: Keeps>(alloc: Global, keeps: &K, object: &mut TopoObject) -> Result<(), Memory>
-    ensures { OnOk result (object.new ≡ object_pruned (K.keeps keeps.now) object.old) }
+    ensures { OnOk result (object.new ≡ object_placed (K.places keeps.now) (K.keeps keeps.now) object.old) }
 {
     match object {
         TopoObject::One(feature) => prune_feature(alloc, keeps, feature, None),
@@ -235,7 +254,7 @@ pub fn prune_objects<K: Keeps>(
     keeps: &K,
     objects: &mut [(OwnText, TopoObject)],
 ) -> Result<(), Memory>
-    ensures { OnOk result (objects.new ≡ objects_pruned (K.keeps keeps.now) objects.old) }
+    ensures { OnOk result (objects.new ≡ objects_placed (K.places keeps.now) (K.keeps keeps.now) objects.old) }
 {
     'objects: for object in objects.iter_mut() {
         prune_object(alloc, keeps, &mut object.1)?;

@@ -1,17 +1,20 @@
-use Rattle.std.proofs.Common.{map, Some, refl, sym, ap, ◌∙◌, subst}
+use Rattle.std.proofs.Common.{ℕ, List, map, Some, refl, sym, ap, ◌∙◌, subst}
 use Rattle.geometry.proofs.Moved.{refilled}
+use Rattle.topojson_types.specs.declared.object.TopoObject.{TopoObject}
 use Rattle.topojson_types.specs.Validity.{IsTopology}
-use Rattle.layer_topology.specs.Replacing.{cell_if_covered, named_replaced}
-use Rattle.layer_topology.proofs.Agreeing.{finished}
+use Rattle.layer_topology.specs.Replacing.{cell_if_covered}
+use Rattle.layer_topology.proofs.Agreeing.{finished, named_placed}
 use Rattle.layer_topology.proofs.topology.with_cells.Goals as goal
 
 pub of-requires : goal.of-requires
 of-requires c =
     let f = cell_if_covered c.args.grid.now in
+    let placed : List ℕ × TopoObject → List ℕ × TopoObject = named_placed c.on.result in
     record {
       valid = subst IsTopology
-          (sym (finished c.args.grid.now c.args.topology _ _ c.args.transform c.into_parts-objects.ensures.valid c.requires.on c.requires.transform
-          (refilled (named_replaced f) _ _ _ refl (c.objects_on.ensures ∙ ap (map (named_replaced f)) c.as_mut_slice.ensures.value) ∙ ap (map (named_replaced f)) c.into_parts-objects.ensures.objects)
+          (sym (finished c.args.grid.now c.args.topology _ _ c.args.transform c.requires.on c.requires.transform
+          (refilled placed _ _ _ refl (c.in_ok-prune_objects.ensures ∙ ap (map placed) c.as_mut_slice.ensures.value) ∙ ap (map placed) c.into_parts-objects.ensures.objects
+          ∙ ap (λ axes. map (named_placed axes) c.args.topology.objects) c.on.ensures)
           (refilled (map f) _ _ _ refl (c.arcs_on.ensures ∙ ap (map (map f)) c.as_mut_slice-2.ensures.value) ∙ ap (map (map f)) c.into_parts-objects.ensures.arcs)))
           (c.quantized_is_valid.ensures (Some c.args.grid.now) c.args.topology c.law.ensures c.requires.plain c.requires.on c.into_parts-objects.ensures.valid);
     }
@@ -19,7 +22,9 @@ of-requires c =
 pub returns : goal.returns
 returns c =
     let f = cell_if_covered c.args.grid.now in
+    let placed : List ℕ × TopoObject → List ℕ × TopoObject = named_placed c.on.result in
     c.of.ensures
-    ∙ finished c.args.grid.now c.args.topology _ _ c.args.transform c.into_parts-objects.ensures.valid c.requires.on c.requires.transform
-    (refilled (named_replaced f) _ _ _ refl (c.objects_on.ensures ∙ ap (map (named_replaced f)) c.as_mut_slice.ensures.value) ∙ ap (map (named_replaced f)) c.into_parts-objects.ensures.objects)
+    ∙ finished c.args.grid.now c.args.topology _ _ c.args.transform c.requires.on c.requires.transform
+    (refilled placed _ _ _ refl (c.in_ok-prune_objects.ensures ∙ ap (map placed) c.as_mut_slice.ensures.value) ∙ ap (map placed) c.into_parts-objects.ensures.objects
+    ∙ ap (λ axes. map (named_placed axes) c.args.topology.objects) c.on.ensures)
     (refilled (map f) _ _ _ refl (c.arcs_on.ensures ∙ ap (map (map f)) c.as_mut_slice-2.ensures.value) ∙ ap (map (map f)) c.into_parts-objects.ensures.arcs)

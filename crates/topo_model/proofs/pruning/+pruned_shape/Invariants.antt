@@ -6,4 +6,4 @@ use Rattle.topo_model.proofs.Pruned.{Kept}
 use Rattle.topo_model.proofs.pruning.+pruned_shape.Given as goal
 
 abbrev pub invariant-shapes : goal.invariant-shapes
-invariant-shapes g l = Kept marked (prune (λ p. p) (sparing (g.K.Keeps.keeps l.keeps))) (map_some (λ w. w.now) l.way) l.kept.items l.number l.yielded
+invariant-shapes g l = Kept marked (prune (g.K.Keeps.places l.keeps) (sparing (g.K.Keeps.keeps l.keeps))) (map_some (λ w. w.now) l.way) l.kept.items l.number l.yielded

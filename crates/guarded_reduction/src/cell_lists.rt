@@ -21,7 +21,7 @@ const COARSER: u32 = 4;
 const MOST_COUNTED: u64 = 1000;
 
 /// At so many places it is looked how far the next one lies away.
-const SAMPLES: usize = 256;
+const SAMPLES: usize = 64;
 
 /// Lists of places: those whose cells have the same list are on it, the last one first. A list is the number of its first place, counted from one, and of
 /// each place that of the next one on its list; zero where there is none. A cell's side is two to one more than so many bits. The longest list has so
@@ -111,14 +111,14 @@ fn usual_step(positions: &[Position]) -> u64 {
     steps[SAMPLES / 2]
 }
 
-/// The bits of a cell's side: few places have one cell for all, others such as mostly hold a place and its next one.
+/// The bits of a cell's side: few places have one cell for all, others such as mostly hold a place and the two or three after it.
 fn bits_for(positions: &[Position]) -> u32
     ensures { result < 64 }
 {
     if positions.len() <= FEW {
         return 63;
     }
-    usual_step(positions).max(1).ilog2().min(62)
+    (usual_step(positions).max(1).ilog2() + 1).min(62)
 }
 
 /// How many lists there are for so many places in so many cells: a power of two, more than the cells, so that few of these share one; and one for few

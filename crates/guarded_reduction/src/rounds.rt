@@ -16,6 +16,9 @@ use owned_values::Memory;
 use std::alloc::Global;
 use std::cmp::Reverse;
 
+/// So many places have one round: their corners are soon sorted, and threshold by threshold those would be looked at that are left.
+const FEW: usize = 8192;
+
 /// At so many places corners are looked at to find the threshold of a round.
 const SAMPLES: usize = 512;
 
@@ -33,16 +36,16 @@ fn later_area(places: &LinkedPlaces, place: usize, round: u128, threshold: u128)
     }
 }
 
-/// A threshold for the next round, which is above that of the last one, unless that is the whole.
+/// A threshold for the next round, which is above that of the last one, unless that is the whole. For few places it is the whole.
 pub fn next_threshold(places: &LinkedPlaces, round: u128, threshold: u128) -> u128
     requires { round ≤ threshold }
     ensures above { round < threshold → round < result }
     ensures within { result ≤ threshold }
 {
-    let stride = places.len() / SAMPLES;
-    if stride == 0 || round == threshold {
+    if places.len() <= FEW || round == threshold {
         return threshold;
     }
+    let stride = places.len() / SAMPLES;
     let mut areas = [threshold; SAMPLES];
     for i in 0..SAMPLES {
         areas[i] = later_area(places, i.wrapping_mul(stride), round, threshold);

@@ -10,7 +10,7 @@ use Rattle.guarded_reduction.specs.Noted.{AreNoted, area_between}
 use Rattle.guarded_reduction.specs.declared.noted_areas.Noted.{Noted}
 use Rattle.planar_predicates.proofs.Flat.{flat_first}
 
-abbrev none : Noted
+abbrev pub none : Noted
 none = record { before = 0; after = 0; area = 0 }
 
 -- to a position and back again there is no area

@@ -4,6 +4,7 @@ ghost use Rattle.guarded_reduction.specs.Parts.{AreMembers, of_numbers, with_lis
 
 use geometry::Position;
 use owned_values::{Items, Memory};
+use smallvec::SmallVec;
 use std::alloc::Global;
 use std::mem;
 
@@ -47,17 +48,28 @@ pub fn empty_lists(alloc: Global, n: usize) -> Result<Vec<Vec<usize>>, Memory>
     Ok(all)
 }
 
-/// The arcs of each part that is still to be reduced.
+/// So many parts without arcs.
+fn empty_parts(alloc: Global, n: usize) -> Result<Vec<SmallVec<usize, 2>>, Memory>
+    ensures { IfOk result (λ all. map (λ v. v.items) all.items ≡ replicate n []) }
+{
+    let mut all = Vec::with_capacity(alloc, n)?;
+    for _k in 0..n {
+        all.push(SmallVec::new(alloc))?;
+    }
+    Ok(all)
+}
+
+/// The arcs of each part that is still to be reduced. Most have one, which takes no allocation.
 pub fn members_of(
     alloc: Global,
     parts: &[usize],
     pending: &[bool],
-) -> Result<Vec<Vec<usize>>, Memory>
+) -> Result<Vec<SmallVec<usize, 2>>, Memory>
     requires many { length pending.now ≡ length parts.now }
     requires within { All (λ p. p < length parts.now) parts.now }
     ensures { IfOk result (λ all. AreMembers parts.now pending.now (map (λ v. v.items) all.items)) }
 {
-    let mut all = empty_lists(alloc, parts.len())?;
+    let mut all = empty_parts(alloc, parts.len())?;
     for k in 0..parts.len() {
         let part = parts[k];
         if pending[part] {

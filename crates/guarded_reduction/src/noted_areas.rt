@@ -1,11 +1,10 @@
 // Areas of corners of an arc, as they were worked out last.
-ghost use Rattle.std.specs.Prelude.{◌≡◌, ◌<◌, IfOk, length};
+ghost use Rattle.std.specs.Prelude.{◌≡◌, ◌<◌, OnOk, length};
 ghost use Rattle.guarded_reduction.specs.Noted.{AreNoted, area_between};
 
 use effective_area::cross;
 use geometry::Position;
 use owned_values::Memory;
-use std::alloc::Global;
 
 /// Twice the area of the corner at an index between these two others.
 #[derive(Clone, Copy, Debug, PartialEq, Eq)]
@@ -15,17 +14,19 @@ pub struct Noted {
     pub area: u128,
 }
 
-/// A note for each position of an arc. The first ones are of no use.
-pub fn first_notes(alloc: Global, arc: &[Position]) -> Result<Vec<Noted>, Memory>
-    ensures { IfOk result (λ notes. AreNoted arc.now notes.items) }
+/// A note for each position of an arc, in place of the notes that were there. The first ones are of no use.
+pub fn first_notes(notes: &mut Vec<Noted>, arc: &[Position]) -> Result<(), Memory>
+    ensures { OnOk result (AreNoted arc.now notes.new.items) }
 {
-    let note = Noted {
-        before: 0,
-        after: 0,
-        area: 0,
-    };
-    let notes = vec![in alloc; note; arc.len()]?;
-    Ok(notes)
+    notes.clear();
+    'positions: for _k in 0..arc.len() {
+        notes.push(Noted {
+            before: 0,
+            after: 0,
+            area: 0,
+        })?;
+    }
+    Ok(())
 }
 
 /// Twice the area of the corner at an index between two others.

@@ -6,6 +6,7 @@ ghost use Rattle.guarded_reduction.specs.Beside.{AreNear};
 ghost use Rattle.guarded_reduction.specs.Parts.{with_marks};
 
 use crate::meetings::Meetings;
+use crate::noted_areas::Noted;
 use crate::query::Corner;
 use crate::surroundings::Surroundings;
 use crate::whole_arcs::WholeArcs;
@@ -13,6 +14,7 @@ use owned_values::Memory;
 use planar_predicates::{Extent, empty_extent};
 use std::alloc::Global;
 use std::marker::Model;
+use std::mem;
 
 /// So many places that lie near a short arc are listed at most.
 const MOST_NEAR: usize = 32;
@@ -29,7 +31,7 @@ const MOST_TIMES: usize = 4;
 const MOST_TURNS: usize = 6;
 
 /// All arcs, of which those that aren't marked lie beside the others: the marks, the listed places in a box of those that aren't marked, and which of
-/// them the corners meet that go.
+/// them the corners meet that go. It keeps the memory of the notes of short arcs, for the next of them.
 #[derive(Drop)]
 pub struct OtherArcs<'a> {
     whole: &'a WholeArcs<'a>,
@@ -37,6 +39,7 @@ pub struct OtherArcs<'a> {
     within: Extent,
     near: Vec<usize>,
     meetings: Meetings,
+    notes: Vec<Noted>,
 }
 
 impl<'a> Model for OtherArcs<'a> {
@@ -115,6 +118,7 @@ impl<'a> OtherArcs<'a> {
             within: empty_extent(),
             near,
             meetings,
+            notes: Vec::new(alloc),
         })
     }
 
@@ -144,6 +148,20 @@ impl<'a> OtherArcs<'a> {
             self.near.clear();
             self.within = empty_extent();
         }
+    }
+
+    /// Notes for a short arc, of whatever was noted before. There are none here then.
+    pub fn take_notes(&mut self, alloc: Global) -> Vec<Noted>
+        ensures { self.new ≡ self.old }
+    {
+        mem::replace(&mut self.notes, Vec::new(alloc))
+    }
+
+    /// Keeps notes for the next short arc.
+    pub fn keep_notes(&mut self, notes: Vec<Noted>)
+        ensures { self.new ≡ self.old }
+    {
+        self.notes = notes;
     }
 
     /// Which of the others are met, and whether any is.

@@ -68,7 +68,9 @@ pub fn reduced_part(
     if are_many_under(arc, threshold) {
         others.list_near(box_of(arc), arc.len().saturating_mul(MOST_LOOKS));
     }
-    let kept = reduced_short(alloc, arc, threshold, others)?;
+    let mut notes = others.take_notes(alloc);
+    let kept = reduced_short(alloc, arc, threshold, others, &mut notes)?;
+    others.keep_notes(notes);
     let mut all = Vec::with_capacity(alloc, 1)?;
     all.push(kept)?;
     Ok(all)

@@ -271,12 +271,13 @@ fn take_out(left: &mut Vec<usize>, index: usize)
 }
 
 /// Of an arc the indexes that stay, where no corner goes that would make a crossing. What lies beside it is shown the corners that go. Each time all
-/// corners that are left are looked at, which suits short arcs: nothing has to be made ready for it.
+/// corners that are left are looked at, which suits short arcs: nothing has to be made ready for it. The notes are of no use before or after.
 pub fn reduced_short<S: Surroundings>(
     alloc: Global,
     arc: &[Position],
     threshold: u128,
     beside: &mut S,
+    notes: &mut Vec<Noted>,
 ) -> Result<Vec<usize>, Memory>
     ensures kept { IfOk result (λ kept. kept.items ∷ [] ≡ reduce_arcs (guarded_by true []) threshold (arc.now ∷ [])) }
     ensures whole { S.whole beside.new ≡ S.whole beside.old }
@@ -285,9 +286,9 @@ pub fn reduced_short<S: Surroundings>(
         → StaysApart (unmarked (S.marks beside.old) (S.whole beside.old)) threshold (length (joined (arc.now ∷ []))) (map (numbered 0) (arc.now ∷ []))) }
 {
     let mut left = all_indexes(alloc, arc.len())?;
-    let mut notes = first_notes(alloc, arc)?;
+    first_notes(notes, arc)?;
     'corners: for _step in 0..arc.len() {
-        let Some(found) = next_candidate(arc, left.as_slice(), &mut notes, threshold) else {
+        let Some(found) = next_candidate(arc, left.as_slice(), notes, threshold) else {
             return Ok(left);
         };
         beside.show(&found.corner, found.stretch)?;

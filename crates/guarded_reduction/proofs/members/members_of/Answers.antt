@@ -15,7 +15,7 @@ loop-k-preserved c =
           let bound : p < length c.loop-k.all.items = (let e = length-map c.loop-k.all.items (λ v. v.items) in let m = c.loop-k.invariant.many in omega (arith, within, e, m)) in
           subst (AreSoFar c.args.parts.now c.args.pending.now (k + 1)) (sym (ap (λ v. map (λ u. u.items) v.items) w.all-is ∙ map-set (λ v. v.items) c.loop-k.all.items p w.push.new.self))
           (noted_more c.args.parts.now c.args.pending.now k p c.loop-k-test.true refl lists c.loop-k.invariant w.push.new.self.items within w.if-pending-part.true
-          (w.in_ok-push.ensures.items ∙ ap (λ l. l ++ (k ∷ [])) (ap (λ v. v.items) w.index_mut.ensures.value ∙ sym (get_or-map (λ v. v.items) c.loop-k.all.items p w.index_mut.result.now [] bound))))
+          (w.in_ok-push.ensures.ok ∙ ap (λ l. l ++ (k ∷ [])) (ap (λ v. v.items) w.index_mut.ensures.value ∙ sym (get_or-map (λ v. v.items) c.loop-k.all.items p w.index_mut.result.now [] bound))))
       | else-pending-part w ↦ subst (AreSoFar c.args.parts.now c.args.pending.now (k + 1)) (sym (ap (λ v. map (λ u. u.items) v.items) w.all-is))
           (passed_more c.args.parts.now c.args.pending.now k p c.loop-k-test.true refl lists c.loop-k.invariant w.if-pending-part.false)
     ]

@@ -9,7 +9,7 @@ pub reduce_one-requires-clause-within : goal.reduce_one-requires-clause-within
 reduce_one-requires-clause-within c =
     let within : c.loop-part.part < length c.in_ok-members.members.items = omega (arith, c.loop-part-test.true, c.len-part-end.ensures) in
     numbers_within c.args.parts.now (length c.args.arcs.now) c.loop-part.part c.as_slice-numbers.result.now c.requires.standing.parts_many
-    (numbers_here (λ v. v.items) c.args.parts.now c.args.pending.now c.in_ok-members.members.items c.loop-part.part c.index.result.now c.as_slice-numbers.result.now c.in_ok-members.ensures within c.index.ensures c.as_slice-numbers.ensures.value
+    (numbers_here (λ v. v.items) c.args.parts.now c.args.pending.now c.in_ok-members.members.items c.loop-part.part c.index.result.now c.as_slice-numbers.result.now c.in_ok-members.ensures within c.index.ensures c.as_slice-numbers.ensures
     c.is_empty.result c.is_empty.ensures c.if-is_empty.false)
 
 pub mark-requires : goal.mark-requires
@@ -17,7 +17,7 @@ mark-requires c =
     let within : c.loop-part.part < length c.in_ok-members.members.items = omega (arith, c.loop-part-test.true, c.len-part-end.ensures) in
     numbers_within c.args.parts.now (length c.reduce_one.new.others.marks) c.loop-part.part c.as_slice-numbers.result.now
     (c.requires.standing.parts_many ∙ sym (ap length c.in_ok-reduce_one.ensures.marks ∙ many_marks c.as_slice-numbers.result.now true c.loop-part.others.marks ∙ ap length c.loop-part.invariant.marks ∙ length-replicate (length c.args.arcs.now) false))
-    (numbers_here (λ v. v.items) c.args.parts.now c.args.pending.now c.in_ok-members.members.items c.loop-part.part c.index.result.now c.as_slice-numbers.result.now c.in_ok-members.ensures within c.index.ensures c.as_slice-numbers.ensures.value
+    (numbers_here (λ v. v.items) c.args.parts.now c.args.pending.now c.in_ok-members.members.items c.loop-part.part c.index.result.now c.as_slice-numbers.result.now c.in_ok-members.ensures within c.index.ensures c.as_slice-numbers.ensures
     c.is_empty.result c.is_empty.ensures c.if-is_empty.false)
 
 pub loop-part-preserved : goal.loop-part-preserved
@@ -31,7 +31,7 @@ loop-part-preserved c =
     let many = c.requires.standing.parts_many in
     let within : part < length c.in_ok-members.members.items = omega (arith, c.loop-part-test.true, c.len-part-end.ensures) in
     let there : part < length arcs = (let m = c.in_ok-members.ensures.many in let e = length-map c.in_ok-members.members.items (λ v. v.items) in omega (arith, within, m, e, many)) in
-    let are = numbers_here (λ v. v.items) parts c.args.pending.now c.in_ok-members.members.items part c.index.result.now numbers c.in_ok-members.ensures within c.index.ensures c.as_slice-numbers.ensures.value
+    let are = numbers_here (λ v. v.items) parts c.args.pending.now c.in_ok-members.members.items part c.index.result.now numbers c.in_ok-members.ensures within c.index.ensures c.as_slice-numbers.ensures
     c.is_empty.result c.is_empty.ensures c.if-is_empty.false in
     record {
       standing = elim c.if-branch.branch [

@@ -11,7 +11,7 @@ corners-init g c =
     record {
       whole = refl;
       marks = refl;
-      noted = c.in_ok-notes.ensures;
+      noted = c.in_ok-first_notes.ensures;
       left = left_first (unmarked (s.marks c.args.beside.now) (s.whole c.args.beside.now)) c.args.threshold c.args.arc.now (s.are_clear c.args.beside.now) (length c.args.arc.now - 0) c.in_ok-left.left.items (omega arith) c.in_ok-left.ensures;
     }
 

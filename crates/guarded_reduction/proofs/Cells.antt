@@ -1,8 +1,8 @@
 -- Lists of places by cells.
-use Rattle.std.proofs.Common.{◌≡◌, ◌≢◌, ℕ, ℤ, ◌+◌, ◌-◌, ◌/◌, ◌^◌, ◌<◌, ◌≤◌, ◌≤ℤ◌, Bool, true, false, List, [], ◌∷◌, ◌++◌, length, replicate, slice_index, slice_set, length-append, get_or-set_same, get_or-set_other, ◌&&◌, unsigned_abs, ◌-ℤ◌, refl, ap, sym, subst, ◌∙◌, ◌⊎◌, inl, inr, arith}
+use Rattle.std.proofs.Common.{◌≡◌, ◌≢◌, ℕ, ℤ, ◌+◌, ◌-◌, ◌/◌, ◌^◌, ◌<◌, ◌≤◌, ◌≤ℤ◌, Bool, true, false, List, [], ◌∷◌, ◌++◌, length, slice_index, slice_set, length-append, get_or-set_same, get_or-set_other, ◌&&◌, unsigned_abs, ◌-ℤ◌, refl, ap, sym, subst, ◌∙◌, ◌⊎◌, inl, inr, arith}
 use Rattle.std.proofs.Math.Nat.{div-mul-le_self}
 use Rattle.std.proofs.lemmas.Bool.{cases_Bool, cases_eq, cases_lt}
-use Rattle.std.proofs.lemmas.List.{get_or-replicate, length-replicate, get_or_append_left, get_or_past, get_or_push}
+use Rattle.std.proofs.lemmas.List.{get_or_append_left, get_or_push}
 use Rattle.std.proofs.lemmas.Nat.{le-div, pow_pos}
 use Rattle.geometry.specs.Points.{Point}
 use Rattle.guarded_reduction.specs.declared.cell_lists.Grid.{Grid}
@@ -29,20 +29,6 @@ unfolding cell_along
 cell_mono bits x y l h = div_mono (from_least x / 2) (from_least y / 2) (2 ^ bits) (pow_pos bits) (div_mono (from_least x) (from_least y) 2 (omega arith) (from_least_mono x y l h))
 
 -- ---- lists that are made
-
--- no place is on a list
-pub chained_none : (bits mask many : ℕ) (ps : List Point) → AreChained bits mask ps (replicate many 0) [] 0
-chained_none bits mask many ps = record {
-  many = refl;
-  first = λ z h. absurd (omega (arith, h));
-  next = λ y z l h. absurd (omega (arith, h));
-  on_first = λ list h. absurd (none list (cases_lt list many) h);
-  on_next = λ z h. absurd (omega (arith, h));
-}
-  where
-    none : (list : ℕ) → (list < many) ⊎ (many ≤ list) → 0 < slice_index (replicate many 0) list → ⊥
-    none list (inl l) h = omega (arith, h, get_or-replicate {A = ℕ} many list 0 0 l)
-    none list (inr l) h = omega (arith, h, get_or_past {X = ℕ} (replicate many 0) list 0 (omega (arith, l, length-replicate {A = ℕ} many 0)))
 
 -- the next place is put on its list
 module _ (bits mask : ℕ) (ps : List Point) (firsts nexts more : List ℕ) (n list number : ℕ) (c : AreChained bits mask ps firsts nexts n) (on : list ≡ list_at bits mask (point_at ps n)) (within : list < length firsts)

@@ -45,9 +45,6 @@ pushed_from from t s old new v e perm due is below =
     let p = pushed t s old new v e perm due is below in
     record { has = p.has; here = λ h. inr (p.here h); only = p.only; below = below }
 
-pub not_pushed : (from t : ℕ) (s : Linked) (old : List (Reverse Entry)) (v : ℕ) (e : Entry) → e ≡ entry_in s v → e.area < from → (IsCorner s v → (entry_in s v).area < area_limit) → PushedFrom from t s old old v
-not_pushed from t s old v e is before below = record { has = λ d h. h; here = λ h. inl (subst (λ (x : Entry). x.area < from) is before); only = λ d h. inl h; below = below }
-
 -- one more place is looked at
 pub one_more_from : (from t : ℕ) (s : Linked) (old new : List (Reverse Entry)) (v n : ℕ) → PushedFrom from t s old new n →
     ((u : ℕ) → u < n → IsDue t s u → ((entry_in s u).area < from) ⊎ Contains old (turned (entry_in s u))) → v < n + 1 → IsDue t s v → ((entry_in s v).area < from) ⊎ Contains new (turned (entry_in s v))

@@ -50,9 +50,6 @@ never a b c h = grind arith
 pub now_listed : (test : Test) (ps : List Point) (bs : List Bool) (ys zs : List ℕ) (y : ℕ) → zs ≡ ys ++ (y ∷ []) → (is_left_at bs y && unlisted test zs y (point_at ps y)) ≡ false
 now_listed test ps bs ys zs y e = never (is_left_at bs y) (test y (point_at ps y)) (is_listed zs y) (subst (λ (l : List ℕ). is_listed l y ≡ true) (sym e) (listed_last ys y))
 
-pub not_met : (a b c : Bool) → (a && b) ≡ false → (a && (b && not c)) ≡ false
-not_met a b c h = grind arith
-
 fewer : (t a b : Bool) → (a ≡ true → b ≡ true) → (t && not a) ≡ false → (t && not b) ≡ false
 fewer false a b f h = refl
 fewer true false b f h = absurd cc

@@ -1,5 +1,5 @@
 -- Numbers of places.
-use Rattle.std.proofs.Common.{◌≡◌, ℕ, zero, suc, ◌+◌, ◌-◌, ◌<◌, ◌≤◌, List, [], ◌∷◌, length, length-append, refl, ap, arith, ◌⊎◌, inl, inr}
+use Rattle.std.proofs.Common.{◌≡◌, ℕ, zero, suc, ◌-◌, ◌<◌, ◌≤◌, List, [], ◌∷◌, length, length-append, refl, ap, arith, ◌⊎◌, inl, inr}
 use Rattle.std.proofs.lemmas.Bool.{cases_lt}
 use Rattle.geometry.specs.Lists.{joined}
 use Rattle.geometry.specs.Points.{Point}
@@ -58,9 +58,3 @@ pub earlier_place : (arcs : List (List Point)) (k i j : ℕ) → j ≤ i → Has
 earlier_place [] k i j l h = elim h [ ]
 earlier_place (ps ∷ arcs) zero i j l h = omega (arith, l, h)
 earlier_place (ps ∷ arcs) (suc k) i j l h = earlier_place arcs k i j l h
-
--- the number of the place after one is the next
-pub next_number : (arcs : List (List Point)) (k i : ℕ) → number arcs k (suc i) ≡ number arcs k i + 1
-next_number [] k i = omega arith
-next_number (ps ∷ arcs) zero i = omega arith
-next_number (ps ∷ arcs) (suc k) i = let n = next_number arcs k i in omega (arith, n)

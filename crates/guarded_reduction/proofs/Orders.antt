@@ -1,8 +1,7 @@
 -- The order of places.
-use Rattle.std.proofs.Common.{◌≡◌, ℕ, ◌+◌, ◌<◌, zero, suc, List, [], ◌∷◌, ◌++◌, length, map, slice_index, slice_index_or, slice_set, sym, ap, subst, ◌∙◌, ◌⊎◌, inl, inr, arith, zero-add, add-one, get_or-set_same, get_or-set_other}
+use Rattle.std.proofs.Common.{◌≡◌, ℕ, ◌+◌, ◌<◌, zero, suc, List, [], ◌∷◌, ◌++◌, length, map, slice_index, slice_index_or, sym, ap, subst, ◌∙◌, arith, zero-add, add-one}
 use Rattle.std.specs.List.{range_with_len, All, Contains}
 use Rattle.std.specs.List.Sorted.{IsPermutation}
-use Rattle.std.proofs.lemmas.Bool.{cases_eq}
 use Rattle.std.proofs.lemmas.List.{get_or_default, map-append}
 use Rattle.std.proofs.lemmas.List.Elements.{All-get_or, All-from_get_or, Contains-get_or}
 use Rattle.std.proofs.lemmas.List.FromFn.{length-range_with_len, get_or-range_with_len}
@@ -39,29 +38,6 @@ places_below n ps p r h = subst (λ (k : ℕ). slice_index ps r < k) (sym (place
 
 contains : (n : ℕ) (ps : List ℕ) → IsPermutation (range_with_len 0 n) ps → (z : ℕ) → z < n → Contains ps z
 contains n ps p z h = Contains-permutation _ ps z p (subst (λ (k : ℕ). Contains (range_with_len 0 n) k) (get_or-range_with_len 0 n z 0 h ∙ zero-add z) (Contains-get_or (range_with_len 0 n) z 0 (subst (λ (k : ℕ). z < k) (sym (length-range_with_len 0 n)) h)))
-
--- one more rank
-pub ranks_more : (ps rs : List ℕ) (r : ℕ) → length rs ≡ length ps → r < length ps → slice_index ps r < length ps → AreRanks ps rs r → AreRanks ps (slice_set rs (slice_index ps r) r) (r + 1)
-ranks_more ps rs r e h b a = record { within = λ k p. (both k p).0; back = λ k p. (both k p).1 }
-  where
-    at : (k : ℕ) → k < r + 1 → (slice_index ps k ≡ slice_index ps r) ⊎ (slice_index ps k ≡ slice_index ps r → ⊥) →
-        (slice_index (slice_set rs (slice_index ps r) r) (slice_index ps k) < length ps) × (slice_index ps (slice_index (slice_set rs (slice_index ps r) r) (slice_index ps k)) ≡ slice_index ps k)
-    at k p (inl q) =
-        let s : slice_index (slice_set rs (slice_index ps r) r) (slice_index ps k) ≡ r = ap (λ (j : ℕ). slice_index (slice_set rs (slice_index ps r) r) j) q ∙ get_or-set_same rs (slice_index ps r) r 0 (subst (λ (j : ℕ). slice_index ps r < j) (sym e) b) in
-        (subst (λ (j : ℕ). j < length ps) (sym s) h, ap (λ (j : ℕ). slice_index ps j) s ∙ sym q)
-    at k p (inr m) =
-        let s : slice_index (slice_set rs (slice_index ps r) r) (slice_index ps k) ≡ slice_index rs (slice_index ps k) = get_or-set_other rs (slice_index ps r) (slice_index ps k) r 0 m in
-        let l : k < r = below k p m in
-        (subst (λ (j : ℕ). j < length ps) (sym s) (a.within k l), ap (λ (j : ℕ). slice_index ps j) s ∙ a.back k l)
-      where
-        not_same : (k : ℕ) → (slice_index ps k ≡ slice_index ps r → ⊥) → k ≡ r → ⊥
-        not_same k m q = m (ap (λ (j : ℕ). slice_index ps j) q)
-
-        below : (k : ℕ) → k < r + 1 → (slice_index ps k ≡ slice_index ps r → ⊥) → k < r
-        below k p m = let n : k ≡ r → ⊥ = not_same k m in omega arith
-
-    both : (k : ℕ) → k < r + 1 → (slice_index (slice_set rs (slice_index ps r) r) (slice_index ps k) < length ps) × (slice_index ps (slice_index (slice_set rs (slice_index ps r) r) (slice_index ps k)) ≡ slice_index ps k)
-    both k p = at k p (cases_eq (slice_index ps k) (slice_index ps r))
 
 -- places in order and their ranks
 pub ordered : (n : ℕ) (ps rs : List ℕ) → IsPermutation (range_with_len 0 n) ps → length rs ≡ length ps → AreRanks ps rs (length ps) → IsOrder ps rs n

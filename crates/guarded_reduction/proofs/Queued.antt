@@ -37,9 +37,6 @@ held_inside s w v h q p asked meets waits eq ep held = record {
   holds = inl (subst (λ (r : Point). is_held_by (corner_in s v) h r ≡ true) ep (subst (λ (r : Corner). is_held_by r h p ≡ true) eq held));
 }
 
-pub held_across : (s : Linked) (w : Waiting) (v h : ℕ) → s.no_crossings ≡ true → Meets s.positions s.left (blocks s v) h → WaitsOn w h v → WaitsOn w (slice_index s.befores h) v → WaitsOn w (slice_index s.afters h) v → IsHeld s w v
-held_across s w v h asked meets waits before after = record { asked = asked; holder = h; within = meets.within; left = meets.left; waits = waits; holds = inr (record { blocks = meets.meets; before = before; after = after }) }
-
 pub still_held : (s : Linked) (old new : Waiting) (v : ℕ) → KeepsWaits old new → IsHeld s old v → IsHeld s new v
 still_held s old new v k h = record { asked = h.asked; holder = h.holder; within = h.within; left = h.left; waits = k.has h.holder v h.waits; holds = on h.holds }
   where

@@ -108,12 +108,6 @@ pub keeps_none : (s : Linked) (z : ℕ) (g : Counted) → length g.rings ≡ 0 �
 unfolding keeps_all
 keeps_none s z g e = ap (list_all (λ refs. asks (owner_at g z) (moves_without s z g) refs)) (no_rings g.rings e)
 
-pub counts_none : (s : Linked) (z : ℕ) (g : Counted) → IsReady g → length g.rings ≡ 0 → g ≡ counted_without s z g
-counts_none s z g ready e = ap (λ ms. counted_of g.rings g.owners ms g.users) (none ∙ sym (ap (λ ms. slice_set ms (owner_at g z) (slice_index g.moves (owner_at g z) - lost_at s z)) none) ∙ refl)
-  where
-    none : g.moves ≡ []
-    none = ready.none e
-
 -- what was read of the lists
 pub record IsRead (s : Linked) (z : ℕ) (g : Counted) (k m n : ℕ) : Type 0 where
   pub within : owner_at g z < length g.moves

@@ -71,11 +71,6 @@ module _ (ps : List Point) (c : Candidate) where
   more_open a true r e = refl
   more_open a false r e = absurd cc
 
-  less_open : (a b r : Bool) → a ≡ false → b ≡ false → (a || (b && r)) ≡ false
-  less_open false false r d e = refl
-  less_open true b r d e = absurd cc
-  less_open a true r d e = absurd cc
-
   two : (is : List ℕ) (k : ℕ) → k + 1 < length is → drop k is ≡ get_or is k 0 ∷ (get_or is (k + 1) 0 ∷ drop (k + 1 + 1) is)
   two is k h = from is k (omega (arith, h)) ∙ ap (λ l. get_or is k 0 ∷ l) (from is (k + 1) h)
 

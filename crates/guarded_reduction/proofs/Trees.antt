@@ -1,11 +1,11 @@
 -- Trees of boxes.
-use Rattle.std.proofs.Common.{◌≡◌, ◌≢◌, ℕ, ◌+◌, ◌-◌, ◌*◌, ◌<◌, ◌≤◌, ◌/◌, ◌%◌, zero, suc, Bool, true, List, length, slice_index, refl, sym, ap, subst, ◌∙◌, arith, ◌⊎◌, inl, inr}
+use Rattle.std.proofs.Common.{◌≡◌, ℕ, ◌+◌, ◌-◌, ◌*◌, ◌<◌, ◌≤◌, ◌/◌, ◌%◌, zero, suc, Bool, true, List, length, slice_index, refl, sym, ap, subst, ◌∙◌, arith, ◌⊎◌, inl, inr}
 use Rattle.std.proofs.lemmas.Bool.{cases_eq, cases_order}
 use Rattle.geometry.specs.Points.{Point}
-use Rattle.guarded_reduction.specs.Indexes.{AreFitted, HoldsLeft, is_left_at, point_at}
+use Rattle.guarded_reduction.specs.Indexes.{HoldsLeft, is_left_at, point_at}
 use Rattle.planar_predicates.specs.declared.extent.Extent.{Extent}
 use Rattle.planar_predicates.specs.Extents.{HoldsPoint, LiesIn}
-use Rattle.guarded_reduction.specs.Trees.{extent_at, DiffersAt, Under, at_node, by_left, by_right}
+use Rattle.guarded_reduction.specs.Trees.{Under, at_node, by_left, by_right}
 use Rattle.planar_predicates.proofs.Boxes.{holds_in}
 
 -- ---- what is under a node
@@ -80,16 +80,3 @@ both_hold ps bs zs node d e f p l r dl er = record { holds = λ k w b u. by k w 
     by k w b (inl q) = absurd (omega arith)
     by k w b (inr (inl u)) = holds_in d f _ dl (l.holds k w b u)
     by k w b (inr (inr u)) = holds_in e f _ er (r.holds k w b u)
-
--- boxes that fit from a node on do so from a later one on
-pub fitted_later : (es : List Extent) (ps : List Point) (bs : List Bool) (zs : List ℕ) (m n : ℕ) → m ≤ n → AreFitted es ps bs zs m → AreFitted es ps bs zs n
-fitted_later es ps bs zs m n p h = record { holds = λ i a b. h.holds i (omega arith) b }
-
--- one more box fits
-pub fitted_more : (es fs : List Extent) (ps : List Point) (bs : List Bool) (zs : List ℕ) (from node : ℕ) → ((i : ℕ) → from ≤ i → i < length es → i ≢ node → HoldsLeft ps bs zs i (extent_at es i)) →
-    length fs ≡ length es → DiffersAt node es fs → HoldsLeft ps bs zs node (extent_at fs node) → AreFitted fs ps bs zs from
-fitted_more es fs ps bs zs from node h len d here = record { holds = λ i a b. at i a (omega arith) (cases_eq i node) }
-  where
-    at : (i : ℕ) → from ≤ i → i < length es → (i ≡ node) ⊎ (i ≡ node → ⊥) → HoldsLeft ps bs zs i (extent_at fs i)
-    at i a b (inl e) = subst (λ (k : ℕ). HoldsLeft ps bs zs k (extent_at fs k)) (sym e) here
-    at i a b (inr n) = subst (λ (x : Extent). HoldsLeft ps bs zs i x) (sym (d.same i n)) (h i a b n)

@@ -1,9 +1,9 @@
 -- Which rings use which arcs, and how often arcs move on, as loops count it.
-use Rattle.std.proofs.Common.{◌≡◌, ◌≢◌, ℕ, ℤ, ◌+◌, ◌-◌, ◌<◌, ◌≤◌, ◌==◌, Bool, true, false, nat_le, ◌&&◌, List, [], ◌∷◌, ◌++◌, length, map, take, drop, replicate, get_or, slice_index_or, slice_set, length-set, get_or-set_same, get_or-set_other, refl, ap, sym, ◌∙◌, subst, ◌⊎◌, inl, inr, arith}
+use Rattle.std.proofs.Common.{◌≡◌, ◌≢◌, ℕ, ℤ, ◌+◌, ◌-◌, ◌<◌, ◌≤◌, ◌==◌, Bool, true, false, nat_le, ◌&&◌, List, [], ◌∷◌, ◌++◌, length, map, take, drop, get_or, slice_index_or, slice_set, length-set, get_or-set_same, get_or-set_other, refl, ap, sym, ◌∙◌, subst, ◌⊎◌, inl, inr, arith}
 use Rattle.std.specs.List.{Contains, list_all}
 use Rattle.std.proofs.lemmas.Bool.{both_ways, cases_eq, cases_lt, or_cases}
 use Rattle.std.proofs.lemmas.Bool.Decides.{nat_tests}
-use Rattle.std.proofs.lemmas.List.{drop_all, get_or_default, get_or-map, get_or-replicate, get_or_past, length-drop, length-map, length-replicate, map-set}
+use Rattle.std.proofs.lemmas.List.{get_or_default, get_or-map, length-drop, length-map, map-set}
 use Rattle.std.proofs.lemmas.Grind.{common_steps}
 use Rattle.std.proofs.lemmas.List.Elements.{Contains-append_cases, Contains-append_left, Contains-append_right}
 use Rattle.std.proofs.lemmas.List.Folds.{list_any-append}
@@ -105,26 +105,7 @@ module _ {X : Type 0} (f : X → List ℕ) (ring : ℕ) (first us : List X) (x y
 pub adds_none : (ring : ℕ) (refs : List ℤ) (us : List (List ℕ)) → AddsUser ring (take 0 refs) us us
 adds_none ring refs us = record { many = refl; has = λ k j m. m; listed = λ k w u. absurd (both_ways false refl u); only = λ k j m. inl m }
 
-pub adds_all : (ring i : ℕ) (refs : List ℤ) (old new : List (List ℕ)) → length refs ≤ i → AddsUser ring (take i refs) old new → AddsUser ring refs old new
-adds_all ring i refs old new h = subst (λ rs. AddsUser ring rs old new) (take_whole i refs h)
-
 -- ---- ring by ring
-
-abbrev no_numbers : List ℕ
-no_numbers = []
-
-pub no_users_yet : (n : ℕ) (rings : List (List ℤ)) (us : List (List ℕ)) → us ≡ replicate n [] → AreUsers 0 rings us
-no_users_yet n rings us e = record { ring = λ k j m. absurd (none k j m); listed = λ k j w l u. absurd (omega (arith, l)) }
-  where
-    none : (k j : ℕ) → Contains (users_at us k) j → ⊥
-    none k j m = empty (subst (λ js. Contains js j) (ap (λ vs. users_at vs k) e ∙ on (cases_lt k n)) m)
-      where
-        empty : Contains no_numbers j → ⊥
-        empty h = omega (arith, h.1)
-
-        on : (k < n) ⊎ (n ≤ k) → users_at (replicate n []) k ≡ []
-        on (inl h) = get_or-replicate n k [] [] h
-        on (inr h) = get_or_past (replicate n []) k [] (omega (arith, h, length-replicate n no_numbers))
 
 pub one_ring_more : (rings : List (List ℤ)) (refs : List ℤ) (j : ℕ) (old new : List (List ℕ)) → refs ≡ ring_at rings j → AddsUser j refs old new → AreUsers j rings old → AreUsers (j + 1) rings new
 one_ring_more rings refs j old new is a h = record {
@@ -167,37 +148,6 @@ all_steps_taken ps i m l h = let e = few (drop (i - 1) ps) (omega (arith, l, len
 pub read : (ms : List ℕ) (i v : ℕ) → i < length ms → v ≡ get_or ms i v → v ≡ slice_index_or ms i 0
 read ms i v h e = e ∙ get_or_default ms i v 0 h
 
--- how often the arc moves on, where the one of this number does as often as is left to it
-pub other_moves : (ms : List ℕ) (k left i v : ℕ) → i ≢ k → i < length ms → v ≡ get_or ms i v → v ≡ slice_index_or (slice_set ms k left) i 0
-other_moves ms k left i v n h e = read ms i v h e ∙ sym (get_or-set_other ms k i left 0 n)
-
-pub own_moves : (ms : List ℕ) (k left i : ℕ) → i ≡ k → k < length ms → left ≡ slice_index_or (slice_set ms k left) i 0
-own_moves ms k left i e h = sym (ap (λ n. slice_index_or (slice_set ms k left) n 0) e ∙ get_or-set_same ms k left 0 h)
-
-pub one_arc_more : (ms : List ℕ) (refs : List ℤ) (i : ℕ) (r : ℤ) (v m n : ℕ) → i < length refs → r ≡ get_or refs i r → v ≡ slice_index_or ms (number_of r) 0 → n ≡ m - v →
-    nat_le m (ring_moves ms (drop i refs)) ≡ stays ms refs → nat_le n (ring_moves ms (drop (i + 1) refs)) ≡ stays ms refs
-one_arc_more ms refs i r v m n within is v_is n_is h = less (ring_moves ms (drop (i + 1) refs)) (ring_moves ms (drop i refs)) more ∙ h
-  where
-    more : ring_moves ms (drop i refs) ≡ v + ring_moves ms (drop (i + 1) refs)
-    more = ap (ring_moves ms) (drop_here refs i r within is) ∙ ap (λ k. k + ring_moves ms (drop (i + 1) refs)) (sym v_is)
-
-    less : (a b : ℕ) → b ≡ v + a → nat_le n a ≡ nat_le m b
-    less a b e = grind (arith, nat_tests)
-
--- nothing is missing any more
-pub enough_arcs : (ms : List ℕ) (refs : List ℤ) (n k : ℕ) → n ≡ 0 → nat_le n k ≡ stays ms refs → true ≡ stays ms refs
-enough_arcs ms refs n k e h = zero_is n k e ∙ h
-  where
-    zero_is : (n k : ℕ) → n ≡ 0 → true ≡ nat_le n k
-    zero_is n k e = grind (arith, nat_tests)
-
--- something is missing still, and no arc is left
-pub no_arcs_left : (ms : List ℕ) (refs : List ℤ) (i m : ℕ) → 0 < m → length refs ≤ i → nat_le m (ring_moves ms (drop i refs)) ≡ stays ms refs → false ≡ stays ms refs
-no_arcs_left ms refs i m some l h = sym (none m some) ∙ sym (ap (λ rs. nat_le m (ring_moves ms rs)) (drop_all i refs l)) ∙ h
-  where
-    none : (m : ℕ) → 0 < m → nat_le m 0 ≡ false
-    none m l = grind (arith, nat_tests)
-
 pub stays_is : (ms : List ℕ) (refs : List ℤ) → nat_le 3 (ring_moves ms refs) ≡ stays ms refs
 unfolding stays
 stays_is ms refs = refl
@@ -218,9 +168,6 @@ one_user_more p js i h e f = sym (ap (λ b. b && list_all p (drop (i + 1) js)) e
 
 pub one_user_fails : (p : ℕ → Bool) (js : List ℕ) (i : ℕ) → i < length js → p (slice_index_or js i 0) ≡ false → list_all p (drop i js) ≡ list_all p js → false ≡ list_all p js
 one_user_fails p js i h e f = sym (ap (λ b. b && list_all p (drop (i + 1) js)) e) ∙ sym (ap (list_all p) (here_first js i h)) ∙ f
-
-pub no_users_left : (p : ℕ → Bool) (js : List ℕ) (i : ℕ) → length js ≤ i → list_all p (drop i js) ≡ list_all p js → true ≡ list_all p js
-no_users_left p js i l f = sym (ap (list_all p) (drop_all i js l)) ∙ f
 
 -- the list that was read
 pub users_read : {X : Type 0} (f : X → List ℕ) (us : List X) (k : ℕ) (x : X) → k < length us → x ≡ get_or us k x → f x ≡ users_at (map f us) k

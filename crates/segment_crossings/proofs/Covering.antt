@@ -21,13 +21,6 @@ pub record AreGathered (bs cs : List Block) (n : ℕ) : Type 0 where
 abbrev pub Kept : List Block → List Block → Type 0
 Kept bs cs = (i : ℕ) (t : Segment) → i < length bs → Covers (block_at bs i) t → Covers (block_at cs i) t
 
-pub gathered_next : (bs cs : List Block) (n : ℕ) → AreGathered bs cs n → n / 4 ≤ length cs
-gathered_next bs cs n h = on (cases_eq n 0)
-  where
-    on : (n ≡ 0) ⊎ (n ≡ 0 → ⊥) → n / 4 ≤ length cs
-    on (inl e) = omega arith
-    on (inr m) = let k = h.within (n - 1) (omega (arith, m)) in omega (arith, k, m)
-
 pub gathered_more : (bs cs ds : List Block) (n : ℕ) → AreGathered bs cs n → length cs ≤ length ds → Kept cs ds → n / 4 < length ds → ((t : Segment) → Covers (block_at bs n) t → Covers (block_at ds (n / 4)) t) → AreGathered bs ds (n + 1)
 gathered_more bs cs ds n h g k w c = record { within = λ i p. within i p (cases_eq i n); covers = λ i t p. covers i t p (cases_eq i n) }
   where

@@ -3,7 +3,6 @@ use Rattle.std.proofs.Common.{◌≡◌, ℕ, ◌+◌, ◌-◌, ◌<◌, ◌≤�
 use Rattle.std.specs.List.{filter}
 use Rattle.std.proofs.lemmas.Bool.{cases_lt}
 use Rattle.std.proofs.lemmas.List.{append-nil, drop_all, get_or_default, map-append}
-use Rattle.std.proofs.lemmas.List.Elements.{filter-append}
 use Rattle.owned_values.proofs.Lists.{drop_here}
 use Rattle.geometry.specs.Points.{Point}
 use Rattle.geometry.specs.Rings.{same}
@@ -82,12 +81,6 @@ same_lines (p ∷ ps) = same_from p ps
 all_same : (arcs : List (List Point)) → segments_in arcs ≡ all_segments arcs
 all_same [] = refl
 all_same (ps ∷ arcs) = ap (λ ss. ss ++ segments_in arcs) (same_lines ps) ∙ ap (λ ss. pairs.line_segments ps ++ ss) (all_same arcs)
-
-pub arc_put : (arcs : List (List Point)) (arc : List Point) (i : ℕ) (ls ks : List Line) → i < length arcs → arc ≡ slice_index_or arcs i arc → map as_segment ks ≡ map as_segment ls ++ filter has_length (line_segments arc) →
-    map as_segment ls ++ filter has_length (segments_in (drop i arcs)) ≡ filter has_length (segments_in arcs) → map as_segment ks ++ filter has_length (segments_in (drop (i + 1) arcs)) ≡ filter has_length (segments_in arcs)
-arc_put arcs arc i ls ks h e put was =
-    ap (λ ss. ss ++ filter has_length (segments_in (drop (i + 1) arcs))) put ∙ append_assoc (map as_segment ls) (filter has_length (line_segments arc)) (filter has_length (segments_in (drop (i + 1) arcs)))
-    ∙ ap (λ ss. map as_segment ls ++ ss) (sym (filter-append has_length (line_segments arc) (segments_in (drop (i + 1) arcs))) ∙ ap (λ rs. filter has_length (segments_in rs)) (sym (drop_here arcs i arc h e))) ∙ was
 
 pub all_put : (arcs : List (List Point)) (i : ℕ) (ls : List Line) → length arcs ≤ i → map as_segment ls ++ filter has_length (segments_in (drop i arcs)) ≡ filter has_length (segments_in arcs) → map as_segment ls ≡ segments arcs
 all_put arcs i ls h was = sym (append-nil (map as_segment ls)) ∙ ap (λ ss. map as_segment ls ++ ss) (sym (ap (λ rs. filter has_length (segments_in rs)) (drop_all i arcs h))) ∙ was ∙ ap (filter has_length) (all_same arcs) ∙ sym (segments_by_points arcs)

@@ -1,5 +1,5 @@
 -- Segments in stretches, one after another.
-use Rattle.std.proofs.Common.{◌≡◌, ℕ, ◌+◌, ◌<◌, ◌≤◌, List, [], ◌∷◌, ◌++◌, length, map, drop, refl, ap, sym, subst, ◌∙◌, append_assoc, slice_index_or, sum_by, arith}
+use Rattle.std.proofs.Common.{◌≡◌, ℕ, ◌+◌, ◌≤◌, List, [], ◌∷◌, ◌++◌, length, map, drop, refl, ap, sym, subst, ◌∙◌, append_assoc, sum_by, arith}
 use Rattle.std.specs.Prelude.{flat_map, slice_range}
 use Rattle.std.specs.List.Sorted.{IsPermutation}
 use Rattle.std.proofs.lemmas.List.{append-nil, drop_all}
@@ -7,7 +7,6 @@ use Rattle.std.proofs.lemmas.List.Concat.{flat_map-append}
 use Rattle.std.proofs.lemmas.List.Folds.{drop_split}
 use Rattle.std.proofs.lemmas.List.Sorted.{sum_by-IsPermutation}
 use Rattle.std.proofs.lemmas.List.Sums.{sum_by-append, sum_by-cons}
-use Rattle.owned_values.proofs.Lists.{drop_here}
 use Rattle.guarded_meaning.specs.Segments.{Segment}
 use Rattle.segment_crossings.specs.declared.gathering.Stretch.{Stretch}
 use Rattle.segment_crossings.specs.declared.line.Line.{Line}
@@ -51,12 +50,3 @@ ends_by n s r is h w = record { first = subst (λ (q : Run). q.first ≤ q.end) 
 
 pub all_cut : (ls : List Line) (ss : List Stretch) (n : ℕ) → length ls ≤ n → flat_map (lines_in ls) ss ++ drop n ls ≡ ls → flat_map (lines_in ls) ss ≡ ls
 all_cut ls ss n h was = sym (append-nil (flat_map (lines_in ls) ss)) ∙ ap (λ xs. flat_map (lines_in ls) ss ++ xs) (sym (drop_all n ls h)) ∙ was
-
-pub stretch_put : (ls put new : List Line) (ss : List Stretch) (s : Stretch) (i : ℕ) → i < length ss → s ≡ slice_index_or ss i s → new ≡ put ++ lines_in ls s →
-    put ++ flat_map (lines_in ls) (drop i ss) ≡ flat_map (lines_in ls) ss → new ++ flat_map (lines_in ls) (drop (i + 1) ss) ≡ flat_map (lines_in ls) ss
-stretch_put ls put new ss s i h e is was =
-    ap (λ xs. xs ++ flat_map (lines_in ls) (drop (i + 1) ss)) is ∙ append_assoc put (lines_in ls s) (flat_map (lines_in ls) (drop (i + 1) ss))
-    ∙ ap (λ xs. put ++ flat_map (lines_in ls) xs) (sym (drop_here ss i s h e)) ∙ was
-
-pub all_put_along : (ls put : List Line) (ss : List Stretch) (i : ℕ) → length ss ≤ i → put ++ flat_map (lines_in ls) (drop i ss) ≡ flat_map (lines_in ls) ss → put ≡ flat_map (lines_in ls) ss
-all_put_along ls put ss i h was = sym (append-nil put) ∙ ap (λ xs. put ++ flat_map (lines_in ls) xs) (sym (drop_all i ss h)) ∙ was

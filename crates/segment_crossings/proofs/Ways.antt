@@ -126,12 +126,6 @@ straight x b ls first end g h = inside_clear ls (end - first) first end (omega (
 
 -- ---- one that goes on, and one more
 
-pub one_on : (x b : Bool) (ls : List Line) (r : ℕ) (l : Line) → l ≡ line_at ls r → (along x b l.from <ℤ along x b l.to) → GoOn x b ls r (r + 1)
-one_on x b ls r l e f = record {
-  forth = λ q a w. let same : r ≡ q = omega (arith, a, w) in subst (λ n. along x b (line_at ls n).from <ℤ along x b (line_at ls n).to) same (subst (λ (k : Line). along x b k.from <ℤ along x b k.to) e f);
-  chained = λ q a w. absurd (omega (arith, a, w));
-}
-
 pub more_on : (x b : Bool) (ls : List Line) (first r : ℕ) (l : Line) (p : Point) → GoOn x b ls first r → first < r → l ≡ line_at ls r → p ≡ (line_at ls (r - 1)).to → l.from ≡ p → (along x b p <ℤ along x b l.to) → GoOn x b ls first (r + 1)
 more_on x b ls first r l p g h e last from f = record { forth = λ q a w. forth q a w (cases_eq q r); chained = λ q a w. chained q a w (cases_eq (q + 1) r) }
   where

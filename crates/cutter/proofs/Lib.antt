@@ -17,3 +17,4 @@ pub mod Joins
 pub mod CleanStarts
 pub mod Words
 mod Rows
+mod Alone

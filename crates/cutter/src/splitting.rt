@@ -1,8 +1,9 @@
 // Lines and rings, split at their cut positions.
-ghost use Rattle.std.specs.Prelude.{◌≡◌, ◌<◌, ◌≤◌, ◌++◌, ◌∷◌, [], true, OnOk, drop, length, take, if◌then◌else◌};
+ghost use Rattle.std.specs.Prelude.{◌≡◌, ◌<◌, ◌≤◌, ◌-◌, ◌++◌, ◌∷◌, [], true, OnOk, drop, length, take, if◌then◌else◌};
+ghost use Rattle.std.specs.List.{filter};
 ghost use Rattle.junctions.specs.Answers.{is_member};
 ghost use Rattle.cutter.specs.Known.{AllKnown, IsReady};
-ghost use Rattle.cutter.specs.Pieces.{turned};
+ghost use Rattle.cutter.specs.Pieces.{start_in, turned};
 ghost use Rattle.cutter.specs.Slices.{indexes, started as started_by};
 
 use crate::starting::first_of_least_cut;
@@ -22,21 +23,39 @@ pub fn split_line(
     ensures stroke { OnOk result (stroke.new ≡ started_by (is_member vertices.now.cuts) stroke.old) }
     ensures cuts { OnOk result (cuts.new.items ≡ cuts.old.items ++ indexes (is_member vertices.now.cuts) 0 stroke.new.positions) }
 {
-    let start = start_ring(stroke, visit, vertices);
-    add_cuts(cuts, stroke.positions.as_slice(), visit, start, vertices)
+    let (start, count) = start_ring(stroke, visit, vertices);
+    let positions = stroke.positions.as_slice();
+    if stroke.closed && positions.len() > 1 && count <= 2 - start.min(1) {
+        return add_ends(cuts, positions.len());
+    }
+    add_cuts(cuts, positions, visit, start, vertices)
 }
 
-// Turns the line, if it is a ring, so that it begins at its start, and returns the index at which the start was before.
-fn start_ring(stroke: &mut Stroke, visit: usize, vertices: &Vertices) -> usize
+// Turns the line, if it is a ring, so that it begins at its start, and returns the index at which the start was before, and how many of a
+// ring's positions are cut positions. Where there are no others than the start, which is counted twice if it is the first and the last, the
+// ring is one piece.
+fn start_ring(stroke: &mut Stroke, visit: usize, vertices: &Vertices) -> (usize, usize)
     requires { IsReady vertices.now stroke.old }
-    ensures { stroke.new ≡ started_by (is_member vertices.now.cuts) stroke.old }
+    ensures stroke { stroke.new ≡ started_by (is_member vertices.now.cuts) stroke.old }
+    ensures start { stroke.old.closed ≡ true → result.0 ≡ start_in (is_member vertices.now.cuts) stroke.old.positions }
+    ensures count { stroke.old.closed ≡ true → result.1 ≡ length (filter (is_member vertices.now.cuts) stroke.old.positions) }
 {
     if !stroke.closed {
-        return 0;
+        return (0, 0);
     }
-    let start = first_of_least_cut(stroke.positions.as_slice(), visit, vertices);
+    let (start, count) = first_of_least_cut(stroke.positions.as_slice(), visit, vertices);
     turn(stroke.positions.as_mut_slice(), start);
-    start
+    (start, count)
+}
+
+// Adds the indexes of the ends of a line of so many positions.
+fn add_ends(cuts: &mut Vec<usize>, count: usize) -> Result<(), Memory>
+    requires { 0 < count }
+    ensures { OnOk result (cuts.new.items ≡ cuts.old.items ++ (0 ∷ ((count - 1) ∷ []))) }
+{
+    cuts.push(0)?;
+    cuts.push(count - 1)?;
+    Ok(())
 }
 
 // Turns the ring in place: it goes from its position at the index round to that position.
@@ -63,16 +82,13 @@ fn move_to_end(positions: &mut [Position], count: usize)
     positions.reverse();
 }
 
-// The number of the visit of a line's position with this index, where the line starts with the visit of this number, and was turned to
-// its position with the index `start`.
-fn turned_visit(i: usize, count: usize, visit: usize, start: usize) -> usize {
-    let place = i.wrapping_add(start);
-    let before = if place < count {
-        place
-    } else {
-        place.wrapping_sub(count).wrapping_add(1)
-    };
-    visit.wrapping_add(before)
+// The number of the visit after this one, where a line of so many positions starts with the visit `first`. The last of a ring is the first again.
+fn visit_after(place: usize, first: usize, count: usize) -> usize {
+    let next = place.wrapping_add(1);
+    if next == first.wrapping_add(count) {
+        return first.wrapping_add(1);
+    }
+    next
 }
 
 // Adds the indexes of the cut positions.
@@ -86,14 +102,16 @@ fn add_cuts(
     requires { AllKnown vertices.now.points positions.now }
     ensures { OnOk result (cuts.new.items ≡ cuts.old.items ++ indexes (is_member vertices.now.cuts) 0 positions.now) }
 {
+    let mut place = visit.wrapping_add(start);
     for i in 0..positions.len() {
-        let place = turned_visit(i, positions.len(), visit, start);
         add_cut(cuts, i, positions[i], place, vertices)?;
+        place = visit_after(place, visit, positions.len());
     }
     Ok(())
 }
 
 // Adds the index of the position, where that is a cut position.
+#[inline(always)]
 fn add_cut(
     cuts: &mut Vec<usize>,
     i: usize,

@@ -1,5 +1,5 @@
 // Where rings start.
-ghost use Rattle.std.specs.Prelude.{◌≡◌, ◌<◌, true, List, length, if◌then◌else◌};
+ghost use Rattle.std.specs.Prelude.{◌≡◌, ◌<◌, ◌+◌, ◌^◌, true, List, length, if◌then◌else◌};
 ghost use Rattle.std.specs.List.{filter};
 ghost use Rattle.geometry.specs.Rings.{same};
 ghost use Rattle.junctions.specs.Cleaning.{AllClean};
@@ -23,51 +23,63 @@ pub fn ring_start(stroke: &Stroke, vertices: &Vertices) -> usize
     ensures within { (ls : List line.Stroke) → AnswersFor ls vertices.now → AllClean ls → In stroke.now ls → stroke.now.closed ≡ true
         → result < length stroke.now.positions }
 {
-    first_of_least_cut(stroke.positions.as_slice(), 0, vertices)
+    let (start, _) = first_of_least_cut(stroke.positions.as_slice(), 0, vertices);
+    start
 }
 
-/// The index at which a ring with these positions starts. The number of its first visit says where positions are looked for first; any
-/// number gives one answer.
-pub fn first_of_least_cut(positions: &[Position], visit: usize, vertices: &Vertices) -> usize
+/// The index at which a ring with these positions starts, and how many of them are cut positions. The number of its first visit says where
+/// positions are looked for first; any number gives one answer.
+pub fn first_of_least_cut(
+    positions: &[Position],
+    visit: usize,
+    vertices: &Vertices,
+) -> (usize, usize)
     requires { AllKnown vertices.now.points positions.now }
-    ensures { result ≡ start_in (is_member vertices.now.cuts) positions.now }
+    ensures start { result.0 ≡ start_in (is_member vertices.now.cuts) positions.now }
+    ensures count { result.1 ≡ length (filter (is_member vertices.now.cuts) positions.now) }
 {
-    match least_cut(positions, visit, vertices) {
-        Some(p) => index_of(positions, p),
-        None => positions.len(),
+    let (least, count) = least_cut(positions, visit, vertices);
+    match least {
+        Some(p) => (index_of(positions, p), count),
+        None => (positions.len(), count),
     }
 }
 
-// The least cut position.
-fn least_cut(positions: &[Position], visit: usize, vertices: &Vertices) -> Option<Position>
+// The least cut position, and how many there are.
+fn least_cut(positions: &[Position], visit: usize, vertices: &Vertices) -> (Option<Position>, usize)
     requires { AllKnown vertices.now.points positions.now }
-    ensures { result ≡ least_point (filter (is_member vertices.now.cuts) positions.now) }
+    ensures least { result.0 ≡ least_point (filter (is_member vertices.now.cuts) positions.now) }
+    ensures count { result.1 ≡ length (filter (is_member vertices.now.cuts) positions.now) }
 {
     let mut best = None;
-    let mut next = visit;
-    for p in positions {
-        best = lesser_cut(best, *p, next, vertices);
-        next = next.wrapping_add(1);
+    let mut count = 0;
+    for i in 0..positions.len() {
+        let place = visit.wrapping_add(i);
+        (best, count) = with_cut(best, count, positions[i], place, vertices);
     }
-    best
+    (best, count)
 }
 
-// The lesser of the least so far and one more, where that is a cut position.
-fn lesser_cut(
+// The lesser of the least so far and one more, where that is a cut position, and how many there are with it.
+#[inline(always)]
+fn with_cut(
     best: Option<Position>,
+    count: usize,
     p: Position,
     visit: usize,
     vertices: &Vertices,
-) -> Option<Position>
-    requires { is_member vertices.now.points p ≡ true }
-    ensures { result ≡ (if is_member vertices.now.cuts p then least_with best p else best) }
+) -> (Option<Position>, usize)
+    requires known { is_member vertices.now.points p ≡ true }
+    requires few { count + 1 < 2 ^ 64 }
+    ensures least { result.0 ≡ (if is_member vertices.now.cuts p then least_with best p else best) }
+    ensures count { result.1 ≡ count + (if is_member vertices.now.cuts p then 1 else 0) }
 {
     if !vertices.is_cut_at(visit, p) {
-        return best;
+        return (best, count);
     }
     match best {
-        Some(b) if !(p < b) => Some(b),
-        _ => Some(p),
+        Some(b) if !(p < b) => (Some(b), count + 1),
+        _ => (Some(p), count + 1),
     }
 }
 

@@ -58,6 +58,7 @@ fn product(number: i64, scale: i128) -> Option<i128>
 }
 
 /// The coordinate that a number of the grid stands for, if it is one.
+#[inline(never)]
 #[tactic(auto, unfolding(crate::specs::TransformNumbers::stands_for))]
 fn fine_coordinate_on(
     scale: &TransformNumber,
@@ -76,6 +77,7 @@ fn fine_coordinate_on(
 
 /// What a number of the grid stands for, where scale and translation are whole numbers of units and the sum lies in 64 bits. As nothing
 /// has to be rounded there, this is the quicker way.
+#[inline(always)]
 fn whole_number_on(scale: &TransformNumber, translate: &TransformNumber, number: i64) -> Option<i64>
     ensures { IfSome result (λ u. u ≡ stands_for scale.now translate.now number) }
 {
@@ -84,6 +86,7 @@ fn whole_number_on(scale: &TransformNumber, translate: &TransformNumber, number:
 }
 
 /// The coordinate that a number of the grid stands for, if it is one.
+#[inline(always)]
 fn coordinate_on(scale: &TransformNumber, translate: &TransformNumber, number: i64) -> Option<i64>
     ensures some { IfSome result (λ u. (u ≡ stands_for scale.now translate.now number) × (unsigned_abs u ≤ position_limit)) }
     ensures none { IfNone result (position_limit < unsigned_abs (stands_for scale.now translate.now number)) }
@@ -99,6 +102,7 @@ fn coordinate_on(scale: &TransformNumber, translate: &TransformNumber, number: i
 
 /// The position that a cell stands for, if it is one: with a transform (TopoJSON 1.0, section 2.1.2) each number times the scale and
 /// the translation added, rounded to units, halves away from zero.
+#[inline(always)]
 #[tactic(auto, unfolding(crate::specs::Transforms::placed, crate::specs::Transforms::place_on, crate::specs::Transforms::is_within))]
 pub fn placed(transform: Option<&Transform>, cell: Cell) -> Option<Position>
     ensures { result ≡ spec.placed (option_copied transform.entry) cell }

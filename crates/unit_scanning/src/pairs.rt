@@ -10,11 +10,16 @@ use crate::plain::plain_units_at;
 use crate::units::whole_number_at;
 use json_reading::skip;
 
-/// What stands after the second number: whether more elements follow, and what follows the comma or the bracket.
+/// What stands after the second number: whether more elements follow, and what follows the comma or the bracket. A bracket with no white space
+/// before it is looked for first.
 #[inline(always)]
+#[tactic(auto, unfolding(json_value::specs::Reading::skip))]
 fn closing_at(bytes: &[u8]) -> Option<(bool, &[u8])>
     ensures { IfSome result (λ x. reading.skip bytes.now ≡ (if x.0 then 44 else 93) ∷ x.1.now) }
 {
+    if let Some(rest) = after_byte(b']', bytes) {
+        return Some((false, rest));
+    }
     let mark = skip(bytes);
     if let Some(rest) = after_byte(b']', mark) {
         return Some((false, rest));

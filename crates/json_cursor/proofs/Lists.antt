@@ -14,6 +14,11 @@ use Rattle.json_cursor.specs.declared.stop.Stop.TheVariants as stop
 use Rattle.json_cursor.specs.Answers.{Stops}
 use Rattle.json_cursor.proofs.Steps.{made, unmade, bound}
 
+-- a comma with no white space before it
+pub comma_first : (bytes rest : List ℕ) → bytes ≡ 44 ∷ rest → skip bytes ≡ 44 ∷ rest
+unfolding skip
+comma_first bytes rest h = rw h refl
+
 -- after a thing stands nothing that goes on with it
 pub nothing_after : (bytes : List ℕ) → skip bytes ≡ [] → (more : Parse (List Json)) (v : Json) → list_after 93 more v (skip bytes) ≡ None
 unfolding list_after

@@ -25,11 +25,14 @@ pub(crate) fn first_at(bytes: &[u8]) -> Option<(u8, &[u8])>
     }
 }
 
-/// The mark after white space, and what follows it.
+/// The mark after white space, and what follows it. A comma with no white space before it is looked for first.
 #[inline(always)]
 pub fn mark_at(bytes: &[u8]) -> (Mark, &[u8])
     ensures { Marks bytes.now result.0 result.1.now }
 {
+    if let Some(rest) = after_byte(b',', bytes) {
+        return (Mark::Comma, rest);
+    }
     let following = skip(bytes);
     let Some((first, rest)) = first_at(following) else {
         return (Mark::Neither, following);

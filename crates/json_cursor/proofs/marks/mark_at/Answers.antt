@@ -1,9 +1,13 @@
 use Rattle.std.proofs.Common.{sym, ◌∙◌}
-use Rattle.json_cursor.proofs.Lists.{nothing_after, other_after}
+use Rattle.json_cursor.proofs.Lists.{comma_first, nothing_after, other_after}
+use Rattle.json_cursor.proofs.Openings.{first_byte}
 use Rattle.json_cursor.proofs.marks.mark_at.Goals as goal
 
-pub returns-in_default : goal.returns-in_default
-returns-in_default c = nothing_after c.args.bytes.now (sym c.skip-following.ensures ∙ c.in_default.ensures)
+pub returns-in-Some : goal.returns-in-Some
+returns-in-Some c = comma_first c.args.bytes.now _ (first_byte 44 c.args.bytes.now _ c.in-Some.ensures)
+
+pub returns-in_default-first_at : goal.returns-in_default-first_at
+returns-in_default-first_at c = nothing_after c.args.bytes.now (sym c.skip-following.ensures ∙ c.in_default-first_at.ensures)
 
 pub returns : goal.returns
-returns c = other_after c.args.bytes.now _ _ (sym c.skip-following.ensures ∙ c.in-Some.ensures) c.if-first-eq93.false c.if-first-eq44.false
+returns c = other_after c.args.bytes.now _ _ (sym c.skip-following.ensures ∙ c.in-Some-first_at.ensures) c.if-first-eq93.false c.if-first-eq44.false

@@ -1,5 +1,6 @@
 -- Pairs of numbers by their elements.
-use Rattle.std.proofs.Common.{◌≡◌, ℕ, ◌-◌, ◌<◌, ◌≤◌, true, false, List, [], ◌∷◌, length, Option, Some, None, Result, Ok, Err, refl, ap, ◌∙◌, arith}
+use Rattle.std.proofs.Common.{◌≡◌, ◌≢◌, ℕ, zero, suc, ◌-◌, ◌<◌, ◌≤◌, true, false, eqb, List, [], ◌∷◌, length, Option, Some, None, Result, Ok, Err, refl, sym, ap, ◌∙◌, arith}
+use Rattle.std.proofs.lemmas.Bool.{eqb-true}
 use Rattle.std.specs.Prelude.{ℤ, Bool, nat_lt}
 use Rattle.std.proofs.lemmas.Bool.Decides.{nat_tests}
 use Rattle.std.specs.Borrow.{Bor}
@@ -7,7 +8,7 @@ use Rattle.json_value.specs.declared.json.Json.{Json}
 use Rattle.json_value.specs.declared.json.Json.TheVariants as j
 use Rattle.json_value.proofs.KindsOf.{array_of-array}
 use Rattle.json_cursor.specs.Arrays.{array_by, prefix_value, list_by}
-use Rattle.json_value.specs.Reading.{Parse, skip, list_after, list_at}
+use Rattle.json_value.specs.Reading.{Parse, after_minus, after_number, after_some_digits, after_whole, after_word, list_after, list_at, number_at, skip, value_at, value_with}
 use Rattle.json_reading.specs.declared.fault.Fault.{Fault}
 use Rattle.json_reading.specs.Gives.{Fails}
 use Rattle.geojson_types.specs.declared.counts.Counts.{Counts}
@@ -18,6 +19,7 @@ use Rattle.json_cursor.specs.declared.stop.Stop.{Stop}
 use Rattle.json_cursor.specs.declared.stop.Stop.TheVariants as stop
 use Rattle.json_cursor.specs.Answers.{Reads, Stops, Answers, stop_of}
 use Rattle.json_cursor.proofs.Steps.{made, made_reads, made_stops, part_stops, found_stops}
+use Rattle.json_cursor.proofs.Openings.{is_filled}
 use Rattle.json_cursor.proofs.Lists.{ends, goes_on, breaks, first_stops, some_listed}
 use Rattle.topojson_decoder.specs.declared.numbers.Scale.{Scale}
 use Rattle.topojson_decoder.specs.declared.pairs.Pair.{Pair}
@@ -131,6 +133,32 @@ module _ (scale : Scale) (d n : ℕ) (bs : List ℕ) (long : 2 ≤ n) (c : Count
   plain_goes_on p ws end h =
       plain_reads true p (plain_pair x y true) end
       (second_goes_on scale (plain x) (prefix_value d) (n - 1) p.further more c (plain y) p.following (p.second d c) rest p.mark ws end (ap (λ m. list_at 93 (prefix_value d) m rest) less ∙ h))
+
+-- ---- the bracket that opens the array of a pair
+
+closing : (d : ℕ) (bs : List ℕ) → prefix_value d (93 ∷ bs) ≡ None
+unfolding value_at value_with number_at after_number after_minus after_whole after_some_digits
+closing zero bs = refl
+closing (suc d) bs = refl
+
+no_some : (o : Option (Json × List ℕ)) (x : Json × List ℕ) → o ≡ None → o ≡ Some x → ⊥
+no_some o x h k = let wrong : None ≡ Some x = sym h ∙ k in absurd cc
+
+-- a value doesn't begin with the bracket that closes an array
+pub not_closed : (d : ℕ) (bs : List ℕ) (v : Json) (rest : List ℕ) → prefix_value d bs ≡ Some (v, rest) → None ≡ after_word (93 ∷ []) bs
+unfolding after_word
+not_closed d [] v rest e = refl
+not_closed d (b ∷ bs) v rest e = by_test (eqb b 93) refl where
+  by_test : (t : Bool) → eqb b 93 ≡ t → None ≡ after_word (93 ∷ []) (b ∷ bs)
+  by_test false h = rw h refl
+  by_test true h = absurd (no_some (prefix_value d (93 ∷ bs)) (v, rest) (closing d bs) (ap (λ z. prefix_value d (z ∷ bs)) (sym (eqb-true b 93 h)) ∙ e))
+
+-- the elements of the array whose bracket stands before a pair
+pub opened : (d : ℕ) (bytes inside : List ℕ) → Some inside ≡ after_word (91 ∷ []) bytes → d ≢ 0 → (scale : Scale) (x y : ℤ) (is_more : Bool) (rest : List ℕ) → ArePlainPair (IsPlainNumber scale) inside x y is_more rest
+    → prefix_value d bytes ≡ made j.Array (list_at 93 (prefix_value (d - 1)) (length inside) inside)
+opened d bytes inside opens depth_left scale x y is_more rest p =
+    let first = p.first 0 (record { rounded = 0; extra = 0; empty = 0 }) in
+    is_filled d bytes inside opens depth_left (not_closed 0 (skip inside) first.value p.after first.prefix_is)
 
 -- ---- the array of a pair
 

@@ -8,7 +8,7 @@ ghost use Rattle.topojson_decoder.specs.Numbers.{IsPlainNumber, scale_limit};
 ghost use Rattle.topojson_decoder.specs.Pairs.{both, pair, plain_pair, second};
 
 use crate::numbers::{Scale, number_at, textless_bound};
-use json_cursor::{Mark, Opening, Stop, after_elements, mark_at, opening_at};
+use json_cursor::{Mark, Opening, Stop, after_byte, after_elements, mark_at, opening_at};
 use json_reading::skip;
 use std::alloc::Global;
 use topojson_meaning::TopoFault;
@@ -119,18 +119,18 @@ pub(crate) fn plain_pair_at<'a>(
     ensures x { IfSome result (λ p. unsigned_abs p.0 ≤ scale_limit scale) }
     ensures y { IfSome result (λ p. unsigned_abs p.1 ≤ scale_limit scale) }
 {
-    let (opening, inside) = opening_at(depth_left, bytes);
-    let Opening::Filled(below) = opening else {
-        return None;
-    };
-    if inside.len() < 2 {
+    let inside = after_byte(b'[', bytes)?;
+    if depth_left == 0 {
         return None;
     }
     let (x, y, more, rest) = plain_numbers_at(scale, inside)?;
+    if inside.len() < 2 {
+        return None;
+    }
     if !more {
         return Some((x, y, false, rest));
     }
-    let Ok(end) = after_elements(alloc, below, inside.len() - 2, rest) else {
+    let Ok(end) = after_elements(alloc, depth_left - 1, inside.len() - 2, rest) else {
         return None;
     };
     Some((x, y, true, end))

@@ -47,9 +47,6 @@ module _ (lines : List Stroke) (t limit : ℕ) where
   shape_back None h = refl
   shape_back (Some s) h = search (rules, composed, agreed)
 
-  abbrev with_shape : Featured → Option Shape → Featured
-  with_shape f s = record { id = f.id; properties = f.properties; shape = s }
-
   features_back : (fs : List Featured) → AllByRecursion Returns (features_lines_and_rings fs) → map (decoded_feature (λ p. p) arcs) (features_by (kept_refs lines t limit) fs) ≡ map (expected_feature lines t limit) fs
   features_back [] h = refl
   features_back (f ∷ fs) h = search (shape_back, all_left, all_right, features_back fs (all_right Returns (option_lines_and_rings f.shape) (features_lines_and_rings fs) h))

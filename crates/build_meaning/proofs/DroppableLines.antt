@@ -1,15 +1,11 @@
 -- The droppable lines of a shape, by its kind: they are its lines and rings, and those that stay are the lines and rings of the pruned shape.
-use Rattle.std.proofs.Common.{◌≡◌, ℤ, Bool, true, false, List, [], ◌∷◌, ◌++◌, map, Option, None, Some, refl, sym, ap, ◌∙◌, arith}
-use Rattle.build_meaning.proofs.Names.{map-append, AllByRecursion, AtKinds, at_kinds, prune-point, prune-points, prune-line, prune-lines, prune-area, prune-areas, prune-group, lines_and_rings-point, lines_and_rings-points, lines_and_rings-line, lines_and_rings-lines, lines_and_rings-area, lines_and_rings-areas, lines_and_rings-group, by_kinds, map_some, then_some, with_some, some_of, unless_empty, joined, Point, area_by, prune, lines_and_rings, option_lines_and_rings, Cause, Geometry, Shape, Featured, DroppableLine, free, hole, area_droppable_lines, droppable_lines_step, droppable_lines, option_droppable_lines, if_kept, features_droppable_lines, named_droppable_lines, unless, Named, named_lines_and_rings, feature_by, features_by, objects_by}
+use Rattle.std.proofs.Common.{◌≡◌, Bool, true, false, List, [], ◌∷◌, ◌++◌, map, Option, None, Some, refl, sym, ap, ◌∙◌, arith}
+use Rattle.build_meaning.proofs.Names.{map-append, AllByRecursion, AtKinds, at_kinds, prune-point, prune-points, prune-line, prune-lines, prune-area, prune-areas, prune-group, lines_and_rings-point, lines_and_rings-points, lines_and_rings-line, lines_and_rings-lines, lines_and_rings-area, lines_and_rings-areas, lines_and_rings-group, by_kinds, map_some, with_some, some_of, unless_empty, joined, area_by, prune, lines_and_rings, option_lines_and_rings, Cause, Geometry, DroppableLine, free, hole, area_droppable_lines, droppable_lines_step, droppable_lines, if_kept}
 use Rattle.geometry.specs.declared.shape.Geometry.TheVariants as g
-use Rattle.topojson_types.specs.Topologies.{features_lines_and_rings as topo_lines_and_rings, objects_lines_and_rings}
 
 -- ---- by kind
 
 module _ (P L : Type 0) (why : L → Option Cause) where
-  abbrev Is : Geometry P L L → List (DroppableLine L) → Type 0
-  Is s cs = droppable_lines why s ≡ cs
-
   pub droppable_lines_at : AtKinds (droppable_lines {P = P} {L = L} why) (droppable_lines_step why)
   unfolding droppable_lines
   droppable_lines_at = at_kinds (droppable_lines_step why)
@@ -139,40 +135,3 @@ module _ {P Q L M : Type 0} (place : P → Q) (kept : Bool → L → Option M) (
     areas = λ areas. ap after (prune-areas place kept areas) ∙ areas_of (some_of (area_by (kept true)) areas) ∙ areas_left areas ∙ sym (ap (some_of left) ((droppable_lines_at P L out).areas areas));
     group = λ ss all. ap after (prune-group place kept ss) ∙ lines_and_rings-group Q M (some_of run ss) ∙ members_left ss all ∙ sym (ap (some_of left) ((droppable_lines_at P L out).group ss));
   })
-
--- ---- features and layers
-
-parts_are : {A : Type 0} (whole : A → List (DroppableLine (List Point))) (lines : A → List (Bool × List Point)) → ((a : A) → map stroke (whole a) ≡ lines a) → (xs : List A)
-    → map stroke (joined (map whole xs)) ≡ joined (map lines xs)
-parts_are whole lines are [] = refl
-parts_are whole lines are (a ∷ xs) = map-append stroke (whole a) (joined (map whole xs)) ∙ rw (are a, parts_are whole lines are xs) refl
-
--- the droppable lines of layers are their lines and rings
-pub named_are : (why : List Point → Option Cause) (ls : Named) → map stroke (named_droppable_lines why ls) ≡ named_lines_and_rings ls
-named_are why = grind (arith, parts_are, all_lines_and_rings)
-
-module _ (why : Bool → List Point → Option Cause) (given : Bool → List Point → List ℤ) where
-  abbrev own : Bool → List Point → Option (List ℤ)
-  own closed ps = unless (why closed ps) (given closed ps)
-
-  own_matches : (ps : List Point) → Matches (why true ps) (own true ps)
-  own_matches ps = grind arith
-
-  abbrev pub own_left : DroppableLine (List Point) → Option (Bool × List ℤ)
-  own_left c = if_kept c.outer (map_some (λ refs. (c.closed, refs)) (unless (why c.closed c.line) (given c.closed c.line)))
-
-  parts_left : {A B : Type 0} (made : A → B) (lines : B → List (Bool × List ℤ)) (whole : A → List (DroppableLine (List Point))) → ((a : A) → lines (made a) ≡ some_of own_left (whole a)) → (xs : List A)
-      → joined (map lines (map made xs)) ≡ some_of own_left (joined (map whole xs))
-  parts_left made lines whole stay [] = refl
-  parts_left made lines whole stay (a ∷ xs) = rw (stay a, parts_left made lines whole stay xs) refl ∙ sym (some_append own_left (whole a) (joined (map whole xs)))
-
-  shape_left : (o : Option Shape) → option_lines_and_rings (then_some (prune (λ p. p) own) o) ≡ some_of own_left (option_droppable_lines (why true) o)
-  shape_left None = refl
-  shape_left (Some s) = lines_and_rings_left (λ p. p) own (why true) own_matches s
-
-  features_left : (fs : List Featured) → topo_lines_and_rings (features_by own fs) ≡ some_of own_left (features_droppable_lines (why true) fs)
-  features_left = parts_left (feature_by own) (λ f. option_lines_and_rings f.shape) (λ f. option_droppable_lines (why true) f.shape) (λ f. shape_left f.shape)
-
-  -- those that stay are the lines and rings of the objects
-  pub objects_left : (ls : Named) → objects_lines_and_rings (objects_by own ls) ≡ some_of own_left (named_droppable_lines (why true) ls)
-  objects_left = grind (arith, parts_left, features_left)

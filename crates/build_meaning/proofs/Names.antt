@@ -50,7 +50,7 @@ unfoldable pub use Rattle.elimination_meaning.specs.Elimination.{reduced, is_bef
 pub use Rattle.elimination_meaning.specs.Laws.{EndsStay, NoneIsNew, ZeroLaw, DirectionLaw}
 pub use Rattle.build_meaning.specs.Built.{untrimmed, kept_refs, all_arcs}
 unfoldable pub use Rattle.build_meaning.specs.Built.{built}
-pub use Rattle.build_meaning.specs.DroppableLines.{DroppableLine, free, hole, area_droppable_lines, droppable_lines_step, option_droppable_lines, if_kept, features_droppable_lines, named_droppable_lines}
+pub use Rattle.build_meaning.specs.DroppableLines.{DroppableLine, free, hole, area_droppable_lines, droppable_lines_step, if_kept}
 unfoldable pub use Rattle.build_meaning.specs.DroppableLines.{droppable_lines}
 pub use Rattle.build_meaning.specs.Expected.{unless, cleaned, is_small, kept_line, own_pieces, expected_feature, own_cause, rebuilt}
 unfoldable pub use Rattle.build_meaning.specs.Expected.{expected}

@@ -4,11 +4,9 @@ use Rattle.std.specs.Prelude.{Bool, true, false, List, [], ◌∷◌, map, Optio
 use Rattle.geometry.specs.declared.address.Cause.{Cause}
 use Rattle.geometry.specs.declared.shape.Geometry.{Geometry, fold-Geometry}
 use Rattle.geometry.specs.declared.shape.Geometry.TheOpen.{Geometry-F}
-use Rattle.geojson_types.specs.Features.{Featured}
 use Rattle.geometry.specs.Lists.{joined}
 use Rattle.geometry.specs.DropCauses.{inner_cause}
 use Rattle.geometry.specs.Points.{Point}
-use Rattle.build_meaning.specs.Layers.{Named}
 
 -- an open line (false) or a ring (true); around a hole lies the outer ring, which may be left out
 pub record DroppableLine (L : Type 0) : Type 0 where
@@ -42,11 +40,6 @@ droppable_lines_step why (Geometry-F.Group css) = joined css
 unfoldable pub droppable_lines : {P L : Type 0} → (L → Option Cause) → Geometry P L L → List (DroppableLine L)
 droppable_lines {P} {L} why = fold-Geometry P L L (List (DroppableLine L)) (droppable_lines_step why)
 
--- the lines and rings of a shape that may be null, in reading order
-abbrev pub option_droppable_lines : {P L : Type 0} → (L → Option Cause) → Option (Geometry P L L) → List (DroppableLine L)
-option_droppable_lines why None = []
-option_droppable_lines why (Some s) = droppable_lines why s
-
 -- why it is left out: for its own cause, or else because the outer ring is
 abbrev pub drop_cause : {L : Type 0} → (Bool → L → Option Cause) → DroppableLine L → Option Cause
 drop_cause why c = inner_cause c.outer (why c.closed c.line)
@@ -55,11 +48,3 @@ drop_cause why c = inner_cause c.outer (why c.closed c.line)
 abbrev pub if_kept : {A : Type 0} → Option Cause → Option A → Option A
 if_kept None a = a
 if_kept (Some c) a = None
-
--- ---- features and layers
-
-abbrev pub features_droppable_lines : (List Point → Option Cause) → List Featured → List (DroppableLine (List Point))
-features_droppable_lines why fs = joined (map (λ f. option_droppable_lines why f.shape) fs)
-
-abbrev pub named_droppable_lines : (List Point → Option Cause) → Named → List (DroppableLine (List Point))
-named_droppable_lines why ls = joined (map (λ l. features_droppable_lines why l.1.features) ls)

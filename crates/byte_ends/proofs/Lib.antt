@@ -1,4 +1,3 @@
-pub mod Flushed
 pub mod Parts
 pub mod Reading
 pub mod Writing

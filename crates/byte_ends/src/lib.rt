@@ -3,7 +3,7 @@
 //! A writer above calls `Sink::put`, and its contract is the relation `Writes` of `specs/Writes.antt`: the whole text,
 //! or a prefix of it and a failed device. A text of several parts is written by `put_part` and its like, whose contract is the
 //! relation `Continues`: each goes on from the `Progress` of the one before it, and `flush_after` sends what was written: `Sends`.
-//! `proofs/Writing.antt`, `proofs/Parts.antt` and `proofs/Flushed.antt` have the lemmas that join such writes.
+//! `proofs/Writing.antt` and `proofs/Parts.antt` have the lemmas that join such writes.
 #![tactic(auto)]
 
 mod calls;

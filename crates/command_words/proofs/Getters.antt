@@ -43,16 +43,6 @@ pub read_all_or : (f : Found) (id : Text) (r : Option (Bor (List (Bor Text)))) (
 read_all_or f id r x e given is none =
     all_or r x e is none ∙ ap (λ (o : Option (List Text)). unwrap_or o []) (given ∙ raw_values-rows f id)
 
--- two options of pairs that agree in their parts
-pub pair_up : {A B : Type 0} (r s : Option (A × B)) → option_map (λ p. p.0) r ≡ option_map (λ p. p.0) s → option_map (λ p. p.1) r ≡ option_map (λ p. p.1) s → r ≡ s
-pair_up None None a b = refl
-pair_up None (Some y) a b = cc
-pair_up (Some x) None a b = cc
-pair_up (Some x) (Some y) a b =
-    let first : x.0 ≡ y.0 = cc in
-    let second : x.1 ≡ y.1 = cc in
-    λ i. Some (first i, second i)
-
 -- ---- the grid
 
 pub in_range : (t : Text) (n : ℕ) → n ≡ digits_value 10 (without_leading_plus t) → is_unsigned_in 2 (10 ^ 9) t ≡ true → cells_of t ≡ Some n
@@ -154,16 +144,6 @@ among (k ∷ ks) o e h = refl
 pub refused_for : {X : Type 0} (kinds : Kinds) (o : Option X) (e : Error) (w : WordsFault) → HasKind kinds e → (kind_of e ≡ OutOfMemory → w ≡ Memory)
     → (w ≡ Memory) ⊎ (where_none kinds o ≡ None)
 refused_for kinds o e w h memory = elim h [ inl m ↦ inl (memory m) | inr k ↦ inr (among kinds o e k) ]
-
--- what `clap` found is what is asked for
-pub asked_for : {X Y : Type 0} (kinds : Kinds) (f : X → Option Y) (o : Option X) (x : X) (y : Option Y) → kinds ≡ [] → o ≡ Some x → f x ≡ y
-    → where_none kinds (option_and_then f o) ≡ y
-asked_for [] f o x y none is same = ap (option_and_then f) is ∙ same
-asked_for (k ∷ ks) f o x y none is same = cc
-
-pub none_for : {X Y : Type 0} (kinds : Kinds) (f : X → Option Y) (o : Option X) → kinds ≡ [] → o ≡ None → where_none kinds (option_and_then f o) ≡ None
-none_for [] f o none is = ap (option_and_then f) is
-none_for (k ∷ ks) f o none is = refl
 
 and_false : (a b : Bool) → b ≡ false → (a && b) ≡ false
 and_false true b e = e

@@ -26,9 +26,6 @@ trimmed-step ds e pos within h = grind (arith, take_more ds (e - 1) 0 (omega ari
 other_digit : (d : ℕ) → (d ≡ 48 → ⊥) → (d == 48) ≡ false
 other_digit d h = ⊎_elim (λ t. absurd (h t.1)) (λ f. f.0) (eqb_tells d 48)
 
-pub trimmed-empty : (ds : List ℕ) (e : ℕ) → e ≤ 0 → trimmed (take e ds) ≡ take e ds
-trimmed-empty ds e h = grind arith
-
 pub trimmed-stop : (ds : List ℕ) (e : ℕ) → 0 < e → e ≤ length ds → (get_or ds (e - 1) 0 ≡ 48 → ⊥) → trimmed (take e ds) ≡ take e ds
 trimmed-stop ds e pos within h = grind (arith, take_more, trimmed-push (take (e - 1) ds) (get_or ds (e - 1) 0) (other_digit (get_or ds (e - 1) 0) h), other_digit (get_or ds (e - 1) 0) h)
 

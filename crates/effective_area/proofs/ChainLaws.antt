@@ -31,9 +31,6 @@ module _ (after before : ℕ → ℕ) where
   above_from t u [] l h = tt
   above_from t u (v ∷ vs) l h = (omega (arith, h.2), above_from t v vs (omega (arith, h.2)) h.3)
 
-  pub above : (u : ℕ) (vs : List ℕ) → Chain after before u vs → AllByRecursion (λ v. u < v) vs
-  above u vs h = above_from u u vs (omega arith) h
-
   -- one that is linked comes after the one that it names
   pub named : (u : ℕ) (vs : List ℕ) (i : ℕ) → Chain after before u vs → In i vs → (u ≤ before i) × (before i < i)
   named u [] i h k = elim k [ ]

@@ -5,7 +5,7 @@ use Rattle.std.specs.List.Sorted.{IsPermutation}
 use Rattle.std.specs.Ordering.{is_lt}
 use Rattle.std.specs.BinaryHeap.{IsUpperBound}
 use Rattle.std.proofs.lemmas.List.Elements.{All-contains, All-from_recursion, Contains-append_cases, Contains-append_left, Contains-append_right}
-use Rattle.std.proofs.lemmas.List.Sorted.{Contains-permutation, IsPermutation-sym, IsPermutation-append_comm}
+use Rattle.std.proofs.lemmas.List.Sorted.{Contains-permutation, IsPermutation-sym}
 use Rattle.effective_area.specs.declared.links.Link.{Link}
 use Rattle.effective_area.specs.declared.entry.Entry.{Entry}
 use Rattle.geometry.specs.Points.{Point}
@@ -103,13 +103,6 @@ pushed t ps links old new v e perm u = record {
     on d (inl k) = inr (subst (λ x. IsUnder t ps links v x) (sym k) u)
     on d (inr k) = inl k
 
-pub put_after : (t : ℕ) (ps : List Point) (links : List Link) (old new : List Entry) (v : ℕ) (e : Entry) →
-    new ≡ old ++ (e ∷ []) → IsUnder t ps links v e → Pushed t ps links old new v
-put_after t ps links old new v e p u = pushed t ps links old new v e (subst (λ l. IsPermutation (e ∷ old) l) (sym p) (IsPermutation-append_comm (e ∷ []) old)) u
-
-pub none_pushed : (t : ℕ) (ps : List Point) (links : List Link) (items : List Entry) (v : ℕ) → (IsDue t ps links v → ⊥) → Pushed t ps links items items v
-none_pushed t ps links items v n = record { has = λ d h. h; here = λ w. absurd (n w); only = λ d h. inl h }
-
 pub corners_moved : (t : ℕ) (ps : List Point) (links : List Link) (xs ys : List Entry) (n : ℕ) → IsPermutation xs ys → HasCorners t ps links xs n → HasCorners t ps links ys n
 corners_moved t ps links xs ys n p h = record {
   has = λ v a w. Contains-permutation xs ys (entry_in ps links v) p (h.has v a w);
@@ -155,7 +148,3 @@ none_due t ps links items v w known r s p q = record {
   where
     over : (u : ℕ) → IsReady ps links u → t ≤ area_in links u → IsDue t ps links u → ⊥
     over u k l h = omega (arith, l, h.under, k.cached h.later h.inside)
-
-pub outer_known : (t : ℕ) (ps : List Point) (links : List Link) (items : List Entry) (v w : ℕ) (known : Bool) →
-    is_before (cached ps links w) (cached ps links v) ≡ true → known ≡ true → PushedFirst t ps links items items v w known
-outer_known t ps links items v w known b e = grind (arith, neighbour_after)

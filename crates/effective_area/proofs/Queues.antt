@@ -39,9 +39,6 @@ pub popped : (r : Option Entry) (xs xs' ys : List Entry) → xs ≡ xs' ++ optio
 popped None xs xs' ys p = tt
 popped (Some e) xs xs' ys p = off_sorted xs xs' ys e p
 
-pub both_empty : (xs ys : List Entry) → xs ≡ [] → ys ≡ [] → xs ++ ys ≡ []
-both_empty xs ys e f = ap (λ l. l ++ ys) e ∙ f
-
 -- ---- the order of entries
 
 module _ (ps : List Point) where
@@ -104,9 +101,6 @@ module _ (ps : List Point) where
     λ e b. all_weaker (λ z. under y z ≡ false) (λ z. under e z ≡ false) (λ z k. queue_order.chain e y z (queue_order.chain e x y (bound_at e xs x b m) h) k) ys u,
     λ e. absurd (nothing_in xs x m e),
   )
-
-  pub before_nothing : (xs ys : List Entry) → ys ≡ [] → GoesFirst ps xs ys
-  before_nothing xs ys z = (λ e b. subst (λ l. IsUpperBound (queue_cmp ps) e l) (sym z) tt, λ _. z)
 
   -- the top of the heap and the last of those that are sorted, compared
   pub top_first : (xs ys : List Entry) (next top : Entry) → IsSorted (queue_cmp ps) xs → 0 < length xs → next ≡ get_or xs (length xs - 1) next →

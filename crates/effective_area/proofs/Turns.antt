@@ -526,9 +526,6 @@ more_corners t ps links old new i h p z w = record { has = λ v b u. on v b u (s
     from d (inl k) = let o = h.only d k in (o.0, o.1, omega (arith, o.2), o.3, o.4)
     from d (inr m) = (i, z, omega arith, m.2, m.3)
 
-pub no_corners_yet : (t : ℕ) (ps : List Point) (links : List Link) (items : List Entry) → items ≡ [] → HasCorners t ps links items 1
-no_corners_yet t ps links items e = grind arith
-
 -- a clause of an answer, from another
 pub ok_also : {X E : Type 0} (P Q : X → Type 0) (r : Result X E) → ((x : X) → P x → Q x) → IfOk r P → IfOk r Q
 ok_also P Q (Ok x) f h = f x h

@@ -1,7 +1,6 @@
 -- A geometry of coordinates as most programs write it.
 use Rattle.std.proofs.Common.{◌≡◌, ◌≢◌, ℕ, suc, ◌-◌, ◌<◌, Bool, eqb, if◌then◌else◌, List, [], ◌∷◌, length, Option, Some, None, Result, Ok, Err, true, false, refl, sym, ap, subst, ◌∙◌, arith}
-use Rattle.std.specs.Prelude.{bytes_eq, codes, ◌||◌}
-use Rattle.std.proofs.lemmas.Slice.Eq.{bytes_eq-Decides}
+use Rattle.std.specs.Prelude.{codes, ◌||◌}
 use Rattle.json_value.specs.declared.json.Json.{Json}
 use Rattle.json_value.specs.declared.json.Json.TheVariants as j
 use Rattle.json_value.specs.Reading.{Parse, ◌>>=◌, skip, after_word, list_after, list_at}
@@ -57,10 +56,6 @@ two_members d inside m k rest more after end first comma second close long =
     let start : with_prefix [] (list_at 125 (prefix_member d) (n - 0) inside) ≡ total = nothing_before _ ∙ ap (λ i. list_at 125 (prefix_member d) i inside) all in
     let one = turns.at_comma _ 125 (prefix_member d) [] n 0 inside total start m rest (omega (arith, long)) first 44 more (one_byte 44 (skip rest) more comma) refl in
     turns.at_end _ 125 (prefix_member d) (m ∷ []) n 1 more total one k after (omega (arith, long)) second 125 end close (omega (arith)) refl
-
--- a name that is a word
-pub is_word : (name word : List ℕ) → true ≡ bytes_eq name word → name ≡ word
-is_word name word h = (bytes_eq-Decides name word).0 (sym h)
 
 -- ---- what it is read as
 

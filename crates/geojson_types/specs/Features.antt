@@ -1,7 +1,7 @@
 -- What contracts see of a feature (RFC 7946, section 3.2).
 use Rattle.std.specs.Prelude.{ℕ, List, Option}
 use Rattle.json_value.specs.declared.json.Json.{Json}
-pub use Rattle.geometry.specs.Shapes.{Shape, is_some_list, is_line, is_line_option, proper_step, is_proper_option}
+pub use Rattle.geometry.specs.Shapes.{Shape, is_some_list, is_line, proper_step, is_proper_option}
 unfoldable pub use Rattle.geometry.specs.Shapes.{is_proper}
 use Rattle.geojson_types.specs.declared.id.Id.{Id}
 

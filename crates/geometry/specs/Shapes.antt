@@ -14,11 +14,6 @@ Shape = Geometry Point (List Point) (List Point)
 abbrev pub is_line : List Point → Bool
 is_line ps = nat_le 2 (length ps)
 
--- two positions or more, or no line
-abbrev pub is_line_option : Option (List Point) → Bool
-is_line_option None = true
-is_line_option (Some ps) = is_line ps
-
 -- one level, with the answers for the shapes of a group in their place
 abbrev pub proper_step : Geometry-F Point (List Point) (List Point) Bool → Bool
 proper_step (Geometry-F.Point p) = true

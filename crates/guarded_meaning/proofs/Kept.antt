@@ -50,7 +50,3 @@ module _ (guard : Guard) (t : ℕ) (I : List (List Vertex) → Type 0)
 pub points_numbered : (arcs : List (List Point)) → points_of (map (numbered 0) arcs) ≡ arcs
 points_numbered [] = refl
 points_numbered (ps ∷ arcs) = ap (λ qs. qs ∷ points_of (map (numbered 0) arcs)) (numbered_points 0 ps) ∙ ap (λ more. ps ∷ more) (points_numbered arcs)
-
-pub always_all : {X : Type 0} (P : X → Type 0) (xs : List X) → ((x : X) → P x) → AllByRecursion P xs
-always_all P [] f = tt
-always_all P (x ∷ xs) f = (f x, always_all P xs f)

@@ -1,6 +1,6 @@
 -- One corner goes: what the segment in its place meets badly, one of the two before it met badly.
 use Rattle.std.proofs.Common.{◌≡◌, Bool, true, false, not, ◌&&◌, ◌||◌, pos, int_le, ◌-ℤ◌, ◌<ℤ◌, ◌⊎◌, inl, inr, refl, ap, sym, ◌∙◌, subst, arith}
-use Rattle.guarded_meaning.proofs.Names.{and_parts, and_from, or_cases, or_parts, or_left, or_right, false_from_ne_true, cases_Bool, both_ways, not-true, Decides-int_eq, ints, same_is, same_self, cross, Point, same, StepLaw, has_length, Segment, segment, is_left, is_right, is_flat, is_between, is_on, is_end, touches, separates, crosses, is_touched, same_ends, meets_badly, in_triangle, is_clear, none_left, none_right}
+use Rattle.guarded_meaning.proofs.Names.{and_parts, and_from, or_cases, or_parts, or_left, or_right, cases_Bool, both_ways, not-true, Decides-int_eq, ints, same_is, same_self, cross, Point, same, StepLaw, has_length, Segment, segment, is_left, is_right, is_flat, is_between, is_on, is_end, touches, separates, crosses, is_touched, same_ends, meets_badly, in_triangle, is_clear, none_left, none_right}
 use Rattle.guarded_meaning.proofs.Crosses.{cross_is}
 use Rattle.guarded_meaning.proofs.Tests.{lt_says}
 use Rattle.guarded_meaning.proofs.Pasch.{swapped, parts_left, parts_right, crosses_passes, touches_passes, Meets, pasch_left}
@@ -228,9 +228,6 @@ bad_back s t h = on (bad_says t s h)
     on (inr (inl k)) = bad_cross s t (crosses_back s t k)
     on (inr (inr (inl k))) = bad_touch s t k
     on (inr (inr (inr k))) = bad_touched s t k
-
-pub good_back : (s t : Segment) → meets_badly t s ≡ false → meets_badly s t ≡ false
-good_back s t h = false_from_ne_true (meets_badly s t) (λ k. both_ways (meets_badly t s) h (bad_back t s k))
 
 -- a segment joins its own ends
 pub ends_self : (s : Segment) → same_ends s s ≡ true

@@ -1,6 +1,6 @@
 -- What the tests on positions decide, and what makes them pass.
 use Rattle.std.proofs.Common.{◌≡◌, ◌≢◌, true, false, not, ◌&&◌, ◌||◌, ℤ, pos, int_lt, int_le, ◌-ℤ◌, ◌*ℤ◌, ◌+ℤ◌, ◌<ℤ◌, ◌≤ℤ◌, ◌⊎◌, inl, inr, refl, ap, sym, ◌∙◌, arith}
-use Rattle.guarded_meaning.proofs.Names.{or_right, Decides-int_eq, ints, int_eq, *ℤ_comm, zero-*ℤ, sub_times_sub, same_is, cross, Point, same, is_flat, is_between, is_on, none_right, none_left, in_triangle}
+use Rattle.guarded_meaning.proofs.Names.{or_right, Decides-int_eq, ints, int_eq, *ℤ_comm, zero-*ℤ, sub_times_sub, cross, Point, is_flat, is_between, is_on, none_right, none_left, in_triangle}
 use Rattle.guarded_meaning.proofs.Crosses.{turned, three_ways, three_ways_up, cross_is, cross_round}
 use Rattle.guarded_meaning.proofs.Signs.{on_sides}
 
@@ -85,9 +85,6 @@ module _ (u v q w x : Point) (line : cross u v q ≡ pos 0) (one : (cross w x q 
     between_passes u.x v.x q.x (on_sides ux vx (turned vx vy wx wy) (turned wx wy ux uy) (two_left (turned vx vy wx wy) (turned wx wy ux uy) (turned ux uy vx vy) ux vx wx (three_ways ux uy vx vy wx wy) none) to_second to_first),
     between_passes u.y v.y q.y (on_sides uy vy (turned vx vy wx wy) (turned wx wy ux uy) (two_left (turned vx vy wx wy) (turned wx wy ux uy) (turned ux uy vx vy) uy vy wy (three_ways_up ux uy vx vy wx wy) none) to_second to_first),
   ) refl
-
-  pub apart : (p : Point) → (cross w x p <ℤ cross w x q) ⊎ (cross w x q <ℤ cross w x p) → same p q ≡ false
-  apart p h = grind (arith, ints, same_is)
 
 -- ---- a triangle
 

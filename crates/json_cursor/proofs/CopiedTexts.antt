@@ -1,12 +1,10 @@
 -- The text that is copied of an object is read as it again.
-use Rattle.std.proofs.Common.{◌≡◌, ◌≢◌, ℕ, ◌≤◌, List, [], ◌++◌, Some, None, refl, sym, ap, ◌∙◌, arith}
+use Rattle.std.proofs.Common.{◌≡◌, ℕ, ◌≤◌, List, [], ◌++◌, Some, refl, sym, ap, ◌∙◌, arith}
 use Rattle.json_value.specs.declared.json.Json.{Json, roll-Json}
 use Rattle.json_value.specs.declared.json.Json.TheViews.{out-Json, roll-out-Json}
 use Rattle.json_value.specs.declared.json.Json.TheOpen.{Json-F}
 use Rattle.json_cursor.specs.Kinds.{kind_in, kind_of}
-use Rattle.json_cursor.specs.declared.kinds.Kind.{Kind}
 use Rattle.json_cursor.specs.declared.kinds.Kind.TheVariants as kind
-use Rattle.json_cursor.specs.Prefixes.{properties_in, properties_of}
 use Rattle.json_value.specs.declared.json.Json.TheVariants as j
 use Rattle.json_value.specs.Kinds.{object_of}
 use Rattle.json_value.specs.Limits.{properties_depth}
@@ -46,28 +44,3 @@ kind_object v (Json-F.Array vs) e h = absurd cc
 
 pub is_object : (v : Json) → kind.Object ≡ kind_of v → (ms : Members) × (v ≡ j.Object ms)
 is_object v h = kind_object v (out-Json v) refl h
-
-pub object_gives : (ms : Members) → Some (Some ms) ≡ properties_of (j.Object ms)
-object_gives ms = sym (ap properties_in (j.outs-Object ms))
-
-null_in : (x : Json-F Json) → kind.Null ≡ kind_in x → Some None ≡ properties_in x
-null_in Json-F.Null h = refl
-null_in (Json-F.Bool b) h = absurd cc
-null_in (Json-F.Number t) h = absurd cc
-null_in (Json-F.Text t) h = absurd cc
-null_in (Json-F.Array vs) h = absurd cc
-null_in (Json-F.Object ms) h = absurd cc
-
-pub null_gives : (v : Json) → kind.Null ≡ kind_of v → Some None ≡ properties_of v
-null_gives v h = null_in (out-Json v) h
-
-other_in : (x : Json-F Json) → kind.Null ≢ kind_in x → kind.Object ≢ kind_in x → None ≡ properties_in x
-other_in Json-F.Null n o = absurd (n refl)
-other_in (Json-F.Bool b) n o = refl
-other_in (Json-F.Number t) n o = refl
-other_in (Json-F.Text t) n o = refl
-other_in (Json-F.Array vs) n o = refl
-other_in (Json-F.Object ms) n o = absurd (o refl)
-
-pub other_gives : (v : Json) (k : Kind) → k ≡ kind_of v → kind.Null ≢ k → kind.Object ≢ k → None ≡ properties_of v
-other_gives v k is n o = other_in (out-Json v) (λ h. n (h ∙ sym is)) (λ h. o (h ∙ sym is))

@@ -1,5 +1,5 @@
 -- The parts of a member, and members one turn after another.
-use Rattle.std.proofs.Common.{◌≡◌, ℕ, ◌+◌, ◌-◌, ◌<◌, ◌≤◌, List, [], ◌∷◌, ◌++◌, Option, Some, None, refl, sym, ap, ◌∙◌, arith}
+use Rattle.std.proofs.Common.{◌≡◌, ℕ, ◌+◌, ◌-◌, ◌<◌, ◌≤◌, List, [], ◌∷◌, ◌++◌, Option, Some, None, refl, sym, arith}
 use Rattle.std.specs.Str.{is_utf8}
 use Rattle.json_value.specs.Reading.{◌>>=◌, skip, after_word, list_at, member_at, name_at, string_at}
 use Rattle.json_reading.specs.declared.fault.Fault.{Fault}
@@ -49,15 +49,6 @@ module _ {S : Type 0} (Holds : Made S) (d n : ℕ) (total : Option (Members × L
     pub members : Members
     pub so_far : with_prefix members (list_at 125 (prefix_member d) (n - i) rest) ≡ total
     pub holds : Holds [] start → Holds members now
-
-  nothing_before : (o : Option (Members × List ℕ)) → with_prefix [] o ≡ o
-  nothing_before None = refl
-  nothing_before (Some x) = refl
-
-  pub starts : (bytes : List ℕ) → list_at 125 (prefix_member d) n bytes ≡ total → MembersSoFar 0 bytes start
-  starts bytes is =
-      let k : n - 0 ≡ n = omega arith in
-      record { members = []; so_far = nothing_before _ ∙ ap (λ m. list_at 125 (prefix_member d) m bytes) k ∙ is; holds = λ h. h }
 
   module _ (i : ℕ) (rest : List ℕ) (now : S) (s : MembersSoFar i rest now) where
     pub turns_over : n ≤ i → total ≡ None

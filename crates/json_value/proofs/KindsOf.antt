@@ -106,13 +106,4 @@ number_of-array vs = unfold number_of in ap number_in (j.outs-Array vs)
 pub number_of-object : (ms : List (List ℕ × Json)) → number_of (j.Object ms) ≡ None
 number_of-object ms = unfold number_of in ap number_in (j.outs-Object ms)
 
-number_is : (x : Json-F Json) (t : List ℕ) → number_in x ≡ Some t → roll-Json x ≡ j.Number t
-number_is (Json-F.Number t1) t e = j.rolls-Number t1 ∙ ap j.Number cc
-number_is x t e = cc
-
-pub number_of_is : (v : Json) (t : List ℕ) → number_of v ≡ Some t → v ≡ j.Number t
-number_of_is v t e = unfold number_of in sym (roll-out-Json v) ∙ number_is (out-Json v) t e
-
 pub ruleset number_kinds = (number_of-null, number_of-bool, number_of-number, number_of-text, number_of-array, number_of-object)
-
-pub ruleset kinds = (array_kinds, object_kinds, text_kinds, number_kinds)

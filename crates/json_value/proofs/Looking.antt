@@ -1,8 +1,7 @@
--- The turns of the loop that looks a member up, and what is left where one is removed.
-use Rattle.std.proofs.Common.{◌≡◌, ℕ, zero, suc, ◌+◌, ◌<◌, ◌≤◌, Bool, true, false, not, cond, List, [], ◌∷◌, ◌++◌, length, get_or, take, drop, Option, Some, None, Ok, Err, refl, sym, ap, ◌∙◌, subst, arith}
+-- The turns of the loop that looks a member up.
+use Rattle.std.proofs.Common.{◌≡◌, ℕ, ◌+◌, ◌<◌, ◌≤◌, Bool, true, false, not, List, ◌∷◌, length, get_or, drop, Option, Some, None, Ok, Err, refl, sym, ap, ◌∙◌, subst}
 use Rattle.std.proofs.lemmas.Bool.{not-false, not-true}
 use Rattle.std.specs.Prelude.{bytes_eq, is_some}
-use Rattle.std.proofs.lemmas.Slice.Eq.{bytes_eq-Decides}
 use Rattle.json_value.specs.declared.fault.LookupFault.TheVariants.{Duplicate}
 use Rattle.json_value.specs.Members.{named, only, find}
 use Rattle.json_value.specs.Places.{StandsAt, IsPlace}
@@ -44,26 +43,3 @@ pub ends : {V : Type 0} (name : List ℕ) (ms : List (List ℕ × V)) (k : ℕ) 
 unfolding named
 ends name ms k None le now = ap only (now ∙ ap (named name) (drop_end k ms le))
 ends name ms k (Some i) le now = (now.0, (now.1.0, ap only (now.1.1 ∙ ap (λ z. now.0.1 ∷ named name z) (drop_end k ms le))))
-
--- one element stands at a place
-same_place : {A : Type 0} (xs : List A) (i : ℕ) (a b : A) → i < length xs → a ≡ get_or xs i a → b ≡ get_or xs i b → a ≡ b
-same_place [] i a b lt p q = absurd (omega arith)
-same_place (x ∷ xs) zero a b lt p q = p ∙ sym q
-same_place (x ∷ xs) (suc i) a b lt p q = same_place xs i a b (omega arith) p q
-
-another : (m name other : List ℕ) → bytes_eq m name ≡ true → bytes_eq other name ≡ false → bytes_eq m other ≡ false
-another m name other e d = on (bytes_eq m other) refl
-  where
-    on : (b : Bool) → bytes_eq m other ≡ b → b ≡ false
-    on false h = refl
-    on true h = let same : m ≡ other = (bytes_eq-Decides m other).0 h in sym e ∙ rw same d
-
-skipped : {V : Type 0} (other : List ℕ) (ms : List (List ℕ × V)) (i : ℕ) (m : List ℕ × V) → i < length ms → m ≡ get_or ms i m → bytes_eq m.0 other ≡ false → named other (take i ms ++ drop (suc i) ms) ≡ named other ms
-unfolding named
-skipped other [] i m lt is e = absurd (omega arith)
-skipped other (n ∷ ms) zero m lt is e = let k : bytes_eq n.0 other ≡ false = subst (λ z. bytes_eq z.0 other ≡ false) is e in rw k refl
-skipped other (n ∷ ms) (suc i) m lt is e = ap (λ z. cond (bytes_eq n.0 other) (n.1 ∷ z) z) (skipped other ms i m (omega arith) is e)
-
--- without the member of a place, those of each other name are as they were
-pub others_stay : {V : Type 0} (name : List ℕ) (ms : List (List ℕ × V)) (i : ℕ) → IsPlace name ms (Ok (Some i)) → (other : List ℕ) → bytes_eq other name ≡ false → named other (take i ms ++ drop (suc i) ms) ≡ named other ms
-others_stay name ms i p other d = skipped other ms i p.0 p.1.0.0 p.1.0.1.0 (another p.0.0 name other p.1.0.1.1 d)

@@ -26,5 +26,3 @@ texts-array vs = unfold texts_of in ap (fold-Json _ texts_step) (sym (j.rolls-Ar
 pub texts-object : (ms : List (List ℕ × Json)) → texts_of (j.Object ms) ≡ flat_map (λ m. m.0 ∷ texts_of m.1) ms
 texts-object ms = unfold texts_of in ap (fold-Json _ texts_step) (sym (j.rolls-Object ms)) ∙ fold-roll-Json _ texts_step (Json-F.Object ms)
     ∙ gathered (λ m. m.0 ∷ m.1) _ (λ m. m.0 ∷ texts_of m.1) (λ m. refl) ms
-
-pub ruleset value_texts = (texts-null, texts-bool, texts-number, texts-text, texts-array, texts-object)

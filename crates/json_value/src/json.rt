@@ -62,17 +62,6 @@ impl Json {
         }
     }
 
-    /// The elements of an array, by value. Any other value is freed.
-    #[tactic(auto, unfolding(crate::specs::Kinds::array_of))]
-    pub fn into_array(self) -> Option<Items<Json>>
-        ensures { MatchOption result (array_of self ≡ None) (λ vs. array_of self ≡ Some vs) }
-    {
-        match self {
-            Json::Array(items) => Some(items),
-            _ => None,
-        }
-    }
-
     /// The members of an object, by value. Any other value is freed.
     #[tactic(auto, unfolding(crate::specs::Kinds::object_of))]
     pub fn into_object(self) -> Option<Items<(OwnText, Json)>>
@@ -80,17 +69,6 @@ impl Json {
     {
         match self {
             Json::Object(members) => Some(members),
-            _ => None,
-        }
-    }
-
-    /// A text, by value. Any other value is freed.
-    #[tactic(auto, unfolding(crate::specs::Kinds::text_of))]
-    pub fn into_text(self) -> Option<OwnText>
-        ensures { MatchOption result (text_of self ≡ None) (λ t. text_of self ≡ Some t) }
-    {
-        match self {
-            Json::Text(text) => Some(text),
             _ => None,
         }
     }

@@ -2,7 +2,7 @@
 //! (RFC 7946, section 3.2) as values or as the one text that is written for them. It stands on `decimal_text` for the numbers, whose texts
 //! it keeps. `specs/Grammar.antt` says which bytes spell which value and `specs/Text.antt` which text is written for a value; the contract
 //! of `text_spells_value` joins the two. `specs/Readers.antt` defines a reader that counts while it reads, or answers the first fault. The
-//! layers above look into a value by `Json::as_object` and its kin, find members by `find`, `need` and `take`, copy a value by
+//! layers above look into a value by `Json::as_object` and its kin, find members by `find` and `need`, copy a value by
 //! `Json::copy`, and make properties by `Properties::of` and `Properties::of_text`. Readers and writers of strings
 //! pass over bytes that stand for themselves by `plain_len`.
 #![tactic(auto)]
@@ -22,7 +22,7 @@ pub use json::Json;
 pub use laws::{
     read_values_are_bounded, read_values_are_well_formed, text_spells_value, written_text_is_utf8,
 };
-pub use look_up::{find, need, need_text, take, take_needed};
+pub use look_up::{find, need, need_text};
 pub use owned_values::{Items, OwnText};
 pub use plain_bytes::{LANES, first_lanes, plain_len};
 pub use properties::{Properties, PropertiesForm};

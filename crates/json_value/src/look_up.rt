@@ -1,5 +1,5 @@
 // Looking up the members of an object by name.
-ghost use Rattle.std.specs.Prelude.{◌≡◌, List, ℕ, bytes_eq, false};
+ghost use Rattle.std.specs.Prelude.{◌≡◌};
 ghost use Rattle.std.specs.Option.{option_copied};
 ghost use Rattle.json_value.specs.Answers.{Finds};
 ghost use Rattle.json_value.specs.Members as spec;
@@ -53,31 +53,5 @@ pub fn need_text<'a>(members: &'a [(OwnText, Json)], name: &str) -> Result<&'a s
     match need(members, name)?.as_text() {
         None => Err(LookupFault::WrongKind),
         Some(text) => Ok(text),
-    }
-}
-
-/// The value of the member of this name, if there is one, which is removed. The members of each other name stay as
-/// they are.
-pub fn take(members: &mut Vec<(OwnText, Json)>, name: &str) -> Result<Option<Json>, LookupFault>
-    ensures value { Finds (λ v. v) result (spec.find name.now members.old.items) }
-    ensures others { (other : List ℕ) → bytes_eq other name.now ≡ false → spec.named other members.new.items ≡ spec.named other members.old.items }
-{
-    match place_of(members, name)? {
-        None => Ok(None),
-        Some(index) => {
-            let (_, value) = members.remove(index);
-            Ok(Some(value))
-        }
-    }
-}
-
-/// The value of the member of this name, which must be there, and which is removed. The members of each other name stay as they are.
-pub fn take_needed(members: &mut Vec<(OwnText, Json)>, name: &str) -> Result<Json, LookupFault>
-    ensures value { Finds (λ v. v) result (spec.need name.now members.old.items) }
-    ensures others { (other : List ℕ) → bytes_eq other name.now ≡ false → spec.named other members.new.items ≡ spec.named other members.old.items }
-{
-    match take(members, name)? {
-        None => Err(LookupFault::Missing),
-        Some(value) => Ok(value),
     }
 }

@@ -60,16 +60,6 @@ impl Properties {
         }
     }
 
-    /// The properties with these members, where there are members. This takes no memory.
-    pub fn of_option(members: Option<Items<(OwnText, Json)>>) -> Option<Properties>
-        ensures { result ≡ members }
-    {
-        match members {
-            None => None,
-            Some(members) => Some(Properties::of(members)),
-        }
-    }
-
     /// The properties that the text has, which is the one that is written for them. This takes no memory.
     pub fn of_text(text: Vec<u8>) -> Properties
         requires { json_text (j.Object (members_in text.items)) ≡ text.items }

@@ -1,14 +1,10 @@
 -- Steps of a text that is written.
-use Rattle.std.proofs.Common.{◌≡◌, List, ℕ, [], ◌++◌, Ok, append-nil, append_assoc, refl, sym, ap, ◌∙◌}
+use Rattle.std.proofs.Common.{◌≡◌, List, ℕ, [], ◌++◌, append-nil, append_assoc, sym, ap, ◌∙◌}
 use Rattle.byte_ends.specs.Continues.{Continues, Progress}
 use Rattle.byte_ends.specs.Ends.{Drained}
 use Rattle.byte_ends.specs.Writes.{Writes}
 use Rattle.byte_ends.proofs.Parts.{as_text, then, whole}
 use Rattle.json_writer.specs.Standing.{Stands, Start}
-
--- nothing yet
-pub stands_first : (start : Start) (now : Drained) (so_far : Progress) → Continues start.sink now (Ok 0) [] so_far → Stands start start.name now so_far [] []
-stands_first start now so_far w = record { same = refl; written = []; wrote = w; whole = refl }
 
 module _ (start : Start) (name : ℕ) (now : Drained) (so_far : Progress) (held text : List ℕ) (h : Stands start name now so_far held text) where
   pub writes_held : (new : Drained) (result : Progress) (none : List ℕ) → none ≡ [] → Continues now new so_far held result → Stands start name new result none text

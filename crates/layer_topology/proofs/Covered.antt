@@ -1,9 +1,9 @@
 -- The cell of a position that a grid covers.
 use Rattle.std.proofs.Common.{◌≡◌, ◌≤◌, ℤ, unsigned_abs, true, false, refl, arith, to_z, of_z, w64}
-use Rattle.std.proofs.lemmas.Int.{ints, fits_signed_from_abs}
-use Rattle.geometry.specs.Points.{Point, IsWithin, IsPosition}
-use Rattle.geometry.specs.Units.{cell_limit, position_limit}
-use Rattle.grid_snap.specs.Axes.{Axes, IsGrid, IsCell, covers, cell}
+use Rattle.std.proofs.lemmas.Int.{fits_signed_from_abs}
+use Rattle.geometry.specs.Points.{Point, IsPosition}
+use Rattle.geometry.specs.Units.{position_limit}
+use Rattle.grid_snap.specs.Axes.{Axes, IsGrid, covers, cell}
 use Rattle.grid_snap.proofs.Settled.{covered_within}
 use Rattle.layer_topology.specs.Replacing.{cell_if_covered}
 
@@ -16,10 +16,6 @@ if_not_covered g p h = rw h refl
 -- what is no position isn't covered
 pub if_no_position : (g : Axes) (p : Point) → IsGrid g → (IsPosition p → ⊥) → cell_if_covered g p ≡ p
 if_no_position g p grid not_there = grind (arith, covered_within, if_not_covered)
-
--- the numbers of a cell of a grid are numbers of a cell
-pub is_small : (g : Axes) (x y : ℤ) → IsGrid g → IsCell g (record { x = x; y = y }) → IsWithin cell_limit (record { x = x; y = y })
-is_small g x y grid h = (omega (arith, ints, h.0.0, h.0.1, grid.x.few), omega (arith, ints, h.1.0, h.1.1, grid.y.few))
 
 -- a coordinate of a position, as it is passed
 pub as_passed : (x z : ℤ) → x ≡ z → unsigned_abs z ≤ position_limit → unsigned_abs (to_z w64 (of_z w64 x)) ≤ position_limit

@@ -14,7 +14,7 @@ use Rattle.geometry.specs.Points.{Point}
 use Rattle.guarded_meaning.specs.Elimination.{Guard, reduce_arcs}
 use Rattle.guarded_meaning.specs.Guards.{guarded_by}
 use Rattle.guarded_meaning.specs.Laws.{ArcsRise}
-use Rattle.guarded_meaning.specs.Lists.{EachTo}
+use Rattle.guarded_meaning.proofs.Lists.{as_many as each_as_many}
 use Rattle.layer_topology.specs.GuardedLevels.{guarded_chosen, guarded_threshold, reduced_by}
 use Rattle.layer_topology.specs.declared.level.Level.{Level}
 use Rattle.simplified_topology.specs.Assembled.{arcs_of_layers}
@@ -32,14 +32,8 @@ use Rattle.simplified_topology.specs.Simplified.{objects_pruned}
 
 -- ---- as many lists as arcs
 
-each_same : {X Y : Type 0} (P : X → Y → Type 0) (xs : List X) (ys : List Y) → EachTo P xs ys → length xs ≡ length ys
-each_same P [] [] h = refl
-each_same P [] (y ∷ ys) h = absurd h
-each_same P (x ∷ xs) [] h = absurd h
-each_same P (x ∷ xs) (y ∷ ys) h = ap suc (each_same P xs ys h.1)
-
 pub as_many : ArcsRise → (guard : Guard) (t : ℕ) (arcs : List (List Point)) → length (reduce_arcs guard t arcs) ≡ length arcs
-as_many rise guard t arcs = each_same _ (reduce_arcs guard t arcs) arcs (rise guard t arcs)
+as_many rise guard t arcs = each_as_many _ (reduce_arcs guard t arcs) arcs (rise guard t arcs)
 
 -- ---- flags that are answers
 

@@ -1,21 +1,17 @@
 -- What is written of layers: the laws of what is built of them, on the grid that is asked for.
-use Rattle.std.proofs.Common.{◌≡◌, ◌∙◌, ℕ, List, map, Option, None, ap, subst, sym}
+use Rattle.std.proofs.Common.{◌∙◌, ℕ, List, map, Option, subst, sym}
 use Rattle.std.specs.Prelude.{IsUtf8}
 use Rattle.std.specs.List.{AllByRecursion}
 use Rattle.build_meaning.specs.Laws as build
 use Rattle.build_meaning.specs.Built.{built}
 use Rattle.build_meaning.specs.Layers.{Named, names_of}
-use Rattle.build_meaning.proofs.Renumbered.{built_has_no_transform}
-use Rattle.simplified_topology.specs.Quantized.{IsOn, quantized, named_grid}
+use Rattle.simplified_topology.specs.Quantized.{named_grid}
 use Rattle.simplified_topology.specs.GridLaws as grid
 use Rattle.layer_topology.specs.Laws.{IsValid, HasNames, DecodesBack, EachSegmentOnce, NestsNoDeeper, NumbersStay, TextsStay, SimplifiesToWritten}
 use Rattle.layer_topology.specs.Written.{snapped_to, written, AreTaken}
 use Rattle.layer_topology.proofs.Kept.{built_names, built_nests, built_numbers, built_texts}
-use Rattle.grid_snap.specs.Axes.{Axes}
-use Rattle.simplified_topology.specs.Celled.{EachCell}
 use Rattle.owned_values.proofs.Elements.{all_of_map}
 use Rattle.topojson_types.specs.declared.object.TopoObject.{TopoObject}
-use Rattle.topojson_types.specs.Topologies.{Contents}
 use Rattle.topojson_types.specs.Validity.{AreDistinct}
 
 -- the snapped layers are sound and lie on the grid
@@ -68,19 +64,3 @@ texts on layers keeps count t limit ls taken utf8 h =
       names = all_of_map (λ n. IsUtf8 n) (λ (o : List ℕ × TopoObject). o.0) (written count t limit ls).objects named;
       features = (keeps g (built t limit (snapped_to count ls))).texts (built_texts t limit (snapped_to count ls) ((layers g ls).texts h));
     }
-
--- ---- the steps of making it
-
-module _ (count : Option ℕ) (t limit : ℕ) (ls : Named) (g : Option Axes) (s : Named) (y : Contents) (asked : g ≡ named_grid count ls) (moved : s ≡ snapped_to count ls) (made : y ≡ built t limit s) where
-  pub plain : y.transform ≡ None
-  plain = ap (λ z. z.transform) made ∙ built_has_no_transform t limit s
-
-  pub cells_on : grid.SnappedAreOn → grid.BuiltCellsAreOn → AreTaken count ls → EachCell (IsOn g) y
-  cells_on on cells h =
-      subst (λ z. EachCell (IsOn z) y) (sym asked)
-      (subst (λ z. EachCell (IsOn (named_grid count ls)) z) (sym made)
-      (subst (λ z. EachCell (IsOn (named_grid count ls)) (built t limit z)) (sym moved) (cells (named_grid count ls) t limit (snapped_to count ls) (snapped on count ls h).on)))
-
-  pub as_written : (z : Contents) → z ≡ quantized g y → z ≡ written count t limit ls
-  unfolding written
-  as_written z e = e ∙ ap (λ k. quantized k y) asked ∙ ap (quantized (named_grid count ls)) (made ∙ ap (built t limit) moved)

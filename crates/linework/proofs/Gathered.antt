@@ -58,10 +58,6 @@ parts_turn f a g now new xs i x part ys l e h pe ye k =
     ∙ ap (with_lines_and_rings g) (ap (λ l. map (line_or_ring_at a) (of_parts 0 (map f (take i xs))) ++ l) (sym (inside_at a i (f x)))
     ∙ sym (map-append (line_or_ring_at a) (of_parts 0 (map f (take i xs))) (inside_part i (f x))) ∙ ap (map (line_or_ring_at a)) (sym m))
 
-pub parts_done : {A : Type 0} (f : A → Lines) (a : Address) (g now : Gathered) (xs : List A) (i : ℕ) → length xs ≤ i →
-    now ≡ with_lines_and_rings g (map (line_or_ring_at a) (of_parts 0 (map f (take i xs)))) → now ≡ with_lines_and_rings g (map (line_or_ring_at a) (of_parts 0 (map f xs)))
-parts_done f a g now xs i l h = h ∙ ap (λ z. with_lines_and_rings g (map (line_or_ring_at a) (of_parts 0 (map f z)))) (take_all i xs l)
-
 -- one element more of a list that is numbered from zero, be it of features or of layers
 module _ {X : Type 0} (of : ℕ → X → List Stroke) (all : ℕ → List X → List Stroke) (none : (i : ℕ) → all i [] ≡ [])
     (some : (i : ℕ) (x : X) (xs : List X) → all i (x ∷ xs) ≡ of i x ++ all (suc i) xs) where

@@ -1,5 +1,5 @@
 -- Requests only read files, but for their output.
-use Rattle.std.proofs.Common.{◌≡◌, ◌∙◌, inl, inr, ℕ, zero, suc, Bool, true, false, Option, Some, None, ap, length, refl}
+use Rattle.std.proofs.Common.{◌≡◌, ◌∙◌, inl, inr, ℕ, zero, suc, Option, Some, None, ap, length, refl}
 use Rattle.byte_ends.specs.Ends.{Drained, Fed}
 use Rattle.command_words.specs.declared.request.Request.{Request}
 use Rattle.command_words.specs.declared.request.Request.TheVariants.{Build, Simplify, Geo, Stat}
@@ -10,7 +10,7 @@ use Rattle.reports.specs.declared.report.Report.{Report}
 use Rattle.mapchain_engine.specs.declared.options.Options.{Options}
 use Rattle.mapchain_cli.specs.Asking.{IsAnswered, IsRefused, RefusesBuild, RefusesTopology, texts_of}
 use Rattle.mapchain_cli.specs.Endings.{RefusesFile, RefusesLayers}
-use Rattle.mapchain_cli.specs.Files.{FileState, FileUse, Layers, OnlyReads, Opened, ReadsAll, ReadsOne, RefusedAfter, one_more, opened_times, used}
+use Rattle.mapchain_cli.specs.Files.{FileState, FileUse, Layers, Opened, ReadsAll, ReadsOne, RefusedAfter, opened_times}
 use Rattle.mapchain_cli.specs.declared.ending.Ending.{Ending}
 use Rattle.mapchain_cli.specs.declared.ending.Ending.TheVariants.{BadArea, BadRingArea, BadShare, Refused, FileRefused, Memory}
 use Rattle.mapchain_cli.proofs.Opened.{times_contents}
@@ -56,40 +56,6 @@ following files n e = record {
   contents = ap (λ (s : FileState). s.contents) e ∙ times_contents n files.before;
   outputs = ap (λ (s : FileState). s.counts.outputs) e ∙ times_outputs n files.before;
   pending = ap (λ (s : FileState). s.pending) e ∙ times_pending n files.before;
-}
-
--- ---- one after another
-
--- nothing was done
-pub unread : (before after : FileState) → after ≡ before → OnlyReads (used before after)
-unread before after e = record {
-  contents = ap (λ (s : FileState). s.contents) e;
-  outputs = ap (λ (s : FileState). s.counts.outputs) e;
-  pending = ap (λ (s : FileState). s.pending) e;
-  noted = ap (λ (s : FileState). s.noted) e;
-}
-
--- one more file was opened, or wasn't
-pub one_read : (is_open : Bool) (before after : FileState) → after ≡ one_more is_open before → OnlyReads (used before after)
-one_read true before after e = record {
-  contents = ap (λ (s : FileState). s.contents) e;
-  outputs = ap (λ (s : FileState). s.counts.outputs) e;
-  pending = ap (λ (s : FileState). s.pending) e;
-  noted = ap (λ (s : FileState). s.noted) e;
-}
-one_read false before after e = record {
-  contents = ap (λ (s : FileState). s.contents) e;
-  outputs = ap (λ (s : FileState). s.counts.outputs) e;
-  pending = ap (λ (s : FileState). s.pending) e;
-  noted = ap (λ (s : FileState). s.noted) e;
-}
-
-pub reads_on : (before between after : FileState) → OnlyReads (used before between) → OnlyReads (used between after) → OnlyReads (used before after)
-reads_on before between after h k = record {
-  contents = k.contents ∙ h.contents;
-  outputs = k.outputs ∙ h.outputs;
-  pending = k.pending ∙ h.pending;
-  noted = k.noted ∙ h.noted;
 }
 
 -- ---- requests that are done

@@ -5,7 +5,7 @@ use Rattle.std.proofs.lemmas.Bool.{ltb-true, ltb-false}
 use Rattle.std.proofs.lemmas.List.{drop_all, map-append}
 use Rattle.build_meaning.proofs.DroppableLines.{some_append}
 use Rattle.geometry.specs.declared.shape.Geometry.TheVariants as g
-use Rattle.geometry.specs.Lists.{joined, map_some, then_some, with_some, some_of}
+use Rattle.geometry.specs.Lists.{joined, map_some, some_of}
 use Rattle.geometry.specs.Paths.{Placed, inside_part, of_parts}
 use Rattle.geometry.specs.Points.{Point}
 use Rattle.guarded_meaning.specs.Guards.{is_long}
@@ -148,15 +148,6 @@ module _ (arcs : List (List Point)) where
   best_is_greatest s = ap (λ xs. ring (all_met arcs None xs)) (at_start (outer_rings s)) ∙ none_met (outer_rings s)
 
 -- ---- features and objects
-
--- what was found for a feature
-pub way_found : (protects : Protection) (f : TopoFeature) (o : Option Found) → map_some (λ x. x.ring) o ≡ then_some protects f.shape → map_some (λ x. x.ring.path) o ∷ [] ≡ map (way_of protects) (f ∷ [])
-way_found protects f None e = ap (λ (z : Option (Placed (List ℤ))). map_some (λ x. x.path) z ∷ []) e
-way_found protects f (Some x) e = ap (λ (z : Option (Placed (List ℤ))). map_some (λ x. x.path) z ∷ []) e
-
-pub ring_found : (protects : Protection) (f : TopoFeature) (o : Option Found) → map_some (λ x. x.ring) o ≡ then_some protects f.shape → with_some (map_some (λ x. x.ring.part) o) [] ≡ some_of (protected_of protects) (f ∷ [])
-ring_found protects f None e = ap (λ (z : Option (Placed (List ℤ))). with_some (map_some (λ x. x.part) z) []) e
-ring_found protects f (Some x) e = ap (λ (z : Option (Placed (List ℤ))). with_some (map_some (λ x. x.part) z) []) e
 
 ways_append : (protects : Protection) (o : List ℕ × TopoObject) (os : List (List ℕ × TopoObject)) → ways_of protects (o ∷ os) ≡ map (way_of protects) (object_features o.1) ++ ways_of protects os
 ways_append protects o os = map-append (way_of protects) (object_features o.1) (joined (map (λ o. object_features o.1) os))

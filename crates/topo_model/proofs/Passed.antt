@@ -53,10 +53,6 @@ module _ {S V : Type 0} (value : S → List Point → V) where
   one_passed xs all i x old now new lt is so_far pass =
       run_passed (x ∷ []) (drop (i + 1) xs) all old now new (λ b. ap (λ l. value now (l ++ b)) (sym (drop_here xs i x lt is)) ∙ so_far b) pass
 
-  -- all of them are
-  pub all_passed : (xs all : List Point) (i : ℕ) (old now : S) → length xs ≤ i → Open (drop i xs) all old now → PassesBy value all old now
-  all_passed xs all i old now le so_far following = ap (λ l. value now (l ++ following)) (sym (drop_all i xs le)) ∙ so_far following
-
   pub nothing_passed : (from : ℕ) (arc : List Point) (n : S) → arc ≡ [] → PassesBy value (drop from arc) n n
   nothing_passed from arc n e following = sym (ap (λ a. value n (a ++ following)) (ap (drop from) e ∙ drop_all from [] (omega arith)))
 
@@ -70,10 +66,6 @@ module _ {S V : Type 0} (value : S → List Point → V) where
 
   pub later_all : (arcs : List (List Point)) (later : List ℤ) (i : ℕ) (all : List Point) (old now : S) → length later ≤ i → Open (later_left arcs (drop i later)) all old now → PassesBy value all old now
   later_all arcs later i all old now le so_far b = ap (λ rs. value now (later_left arcs rs ++ b)) (sym (drop_all i later le)) ∙ so_far b
-
--- where none is missing any more, all positions count as passed
-pub stopped : (left all : List Point) (old now : Need) → now.missing ≡ 0 → Open missing_after left all old now → Passes all old now
-stopped left all old now none so_far following = none_missing now following none ∙ sym (none_missing now (left ++ following) none) ∙ so_far following
 
 -- ---- arcs in one direction or the other
 

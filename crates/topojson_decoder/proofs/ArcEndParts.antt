@@ -43,10 +43,6 @@ count_more m n h = omega (arith, h)
 one_more : (cs : List Point) (x : Point) → with_more (ends_of cs) x ≡ ends_of (cs ++ x ∷ [])
 one_more cs x = λ i. (ends_more cs x i, count_more (length cs) (length (cs ++ x ∷ [])) (length_push cs x) i)
 
--- the ends of some cells, and of two or more
-pub counted_more : (n : ℕ) (first cell : Point) → ends_from (saturated (n + 1)) first cell ≡ first ∷ cell ∷ []
-counted_more n first cell = let some : (saturated (n + 1) == 0) ≡ false = grind (arith, nat_tests) in rw some refl
-
 pub both_ends : (n : ℕ) (first cell : Point) → 2 ≤ n → ends_from n first cell ≡ first ∷ cell ∷ []
 both_ends n first cell h = let some : (n == 0) ≡ false = grind (arith, nat_tests) in rw some refl
 

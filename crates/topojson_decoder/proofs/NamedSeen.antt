@@ -1,11 +1,10 @@
 -- Objects by name, seen one after another.
-use Rattle.std.proofs.Common.{◌≡◌, ◌≢◌, ℕ, ◌+◌, ◌<◌, ◌≤◌, true, false, List, [], ◌∷◌, ◌++◌, length, get_or, drop, Option, Some, None, Result, Ok, Err, refl, sym, ap, ◌∙◌, append_assoc}
-use Rattle.std.specs.Prelude.{bytes_eq, is_some, map}
+use Rattle.std.proofs.Common.{◌≡◌, ◌≢◌, ℕ, ◌+◌, true, false, List, [], ◌∷◌, ◌++◌, length, Option, Some, None, Result, Ok, Err, refl, sym, ap, ◌∙◌, append_assoc}
+use Rattle.std.specs.Prelude.{is_some, map}
 use Rattle.std.proofs.lemmas.List.{length-map, map-append}
 use Rattle.std.specs.Option.{option_copied}
 use Rattle.json_value.specs.declared.json.Json.{Json}
 use Rattle.json_value.specs.Members.{Members}
-use Rattle.json_value.proofs.Turns.{drop_end, drop_here}
 use Rattle.geojson_types.specs.declared.counts.Counts.{Counts}
 use Rattle.topojson_types.specs.declared.object.TopoObject.{TopoObject}
 use Rattle.topojson_meaning.specs.declared.fault.TopoFault.{TopoFault}
@@ -65,18 +64,6 @@ module _ (k : Keeping) (kept whole : List (List ℕ × TopoObject)) (h : kept �
 
   pub same_length : length kept ≡ length whole
   same_length = ap length h ∙ length-map whole (of_named k)
-
--- ---- a name among others
-
-module _ (name : List ℕ) (ms : List (List ℕ × TopoObject)) where
-  pub is_here : (i : ℕ) (m : List ℕ × TopoObject) → i < length ms → m ≡ get_or ms i m → is_met name (names_of ms) ≡ is_met name (names_of (drop i ms)) → bytes_eq m.0 name ≡ true → is_met name (names_of ms) ≡ true
-  is_here i m lt is now same = now ∙ ap (λ z. is_met name (names_of z)) (drop_here ms i m lt is) ∙ rw same refl
-
-  pub not_here : (i : ℕ) (m : List ℕ × TopoObject) → i < length ms → m ≡ get_or ms i m → is_met name (names_of ms) ≡ is_met name (names_of (drop i ms)) → bytes_eq m.0 name ≡ false → is_met name (names_of ms) ≡ is_met name (names_of (drop (i + 1) ms))
-  not_here i m lt is now other = now ∙ ap (λ z. is_met name (names_of z)) (drop_here ms i m lt is) ∙ rw other refl
-
-  pub not_there : (i : ℕ) → length ms ≤ i → is_met name (names_of ms) ≡ is_met name (names_of (drop i ms)) → is_met name (names_of ms) ≡ false
-  not_there i le now = now ∙ ap (λ z. is_met name (names_of z)) (drop_end i ms le)
 
 -- ---- all of them, in order
 

@@ -6,7 +6,7 @@ use Rattle.geojson_types.specs.declared.counts.Counts.{Counts}
 use Rattle.topojson_meaning.specs.declared.fault.TopoFault.{TopoFault}
 use Rattle.topojson_meaning.specs.Reader.{Reader, ◌>>=◌, and_then, give}
 use Rattle.json_cursor.specs.declared.stop.Stop.{Stop}
-use Rattle.json_cursor.specs.Answers.{Reads, Stops}
+use Rattle.json_cursor.specs.Answers.{Stops}
 use Rattle.json_cursor.specs.Folds.{fold}
 use Rattle.json_cursor.proofs.Steps.{then_stops}
 use Rattle.topojson_decoder.specs.Running.{running}
@@ -68,9 +68,6 @@ module _ {S B K : Type 0} (read : S → Json → Reader B) (next : S → B → S
 
   pub step_stops : (prefix : Option (Json × List ℕ)) (old : Counts) (why : Stop TopoFault) (s : S × K) → Stops (read s.0) prefix old why → Stops (stepping s) prefix old why
   step_stops prefix old why s h = then_stops (read s.0) (λ x. give (next s.0 x, step s.1 x)) (stepping s) prefix old (λ v. refl) why h
-
-  pub step_reads : (prefix : Option (Json × List ℕ)) (x : B) (rest : List ℕ) (old new : Counts) (s : S × K) → Reads (read s.0) prefix x rest old new → Reads (stepping s) prefix (next s.0 x, step s.1 x) rest old new
-  step_reads prefix x rest old new s r = record { value = r.value; prefix_is = r.prefix_is; means = rw r.means refl }
 
   module _ (of : List B → K) (law : (xs : List B) (x : B) → step (of xs) x ≡ of (xs ++ x ∷ [])) where
     abbrev pub made_so : S × List B → Reader (S × K)

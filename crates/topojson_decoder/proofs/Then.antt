@@ -1,12 +1,11 @@
 -- What is read in two steps.
-use Rattle.std.specs.Prelude.{option_to_list}
 use Rattle.std.proofs.Common.{◌≡◌, ℕ, List, [], ◌∷◌, Option, Result, Ok, Err, refl, ◌∙◌}
 use Rattle.std.specs.Borrow.{Bor}
 use Rattle.json_value.specs.Readers.{Counting, and_then, give}
 use Rattle.json_cursor.specs.declared.stop.Stop.{Stop}
 use Rattle.json_cursor.specs.declared.stop.Stop.TheVariants as stop
 use Rattle.json_cursor.specs.Answers.{Answers, Reads, Stops}
-use Rattle.json_cursor.specs.Folds.{one, some_one}
+use Rattle.json_cursor.specs.Folds.{one}
 use Rattle.json_cursor.proofs.Steps.{found_stops, then_stops}
 
 module _ {C E V A B : Type 0} (first : V → Counting C E A) (then : A → Counting C E B) (read : V → Counting C E B) (prefix : Option (V × List ℕ)) (old : C) (law : (v : V) → read v old ≡ and_then then (first v old))
@@ -30,6 +29,3 @@ module _ {C E V B X : Type 0} (read other : V → Counting C E B) (prefix : Opti
 module _ {C E V B : Type 0} where
   pub one_stops : (read : V → Counting C E B) (prefix : Option (V × List ℕ)) (old : C) (why : Stop E) → Stops read prefix old why → Stops (one read) prefix old why
   one_stops read prefix old why h = then_stops read (λ x. give (x ∷ [])) (one read) prefix old (λ v. refl) why h
-
-  pub some_one_stops : (read : V → Counting C E (Option B)) (prefix : Option (V × List ℕ)) (old : C) (why : Stop E) → Stops read prefix old why → Stops (some_one read) prefix old why
-  some_one_stops read prefix old why h = then_stops read (λ x. give (option_to_list x)) (some_one read) prefix old (λ v. refl) why h

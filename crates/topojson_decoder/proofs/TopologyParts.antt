@@ -121,13 +121,6 @@ pub part_reads : {B : Type 0} (name : List ℕ) (read : Json → Reader B) (ms :
     → need_as name read ms old ≡ Ok (x, new)
 part_reads name read ms old new d at x rest h r = part_is name read ms old r.value (needed_value name ms d at r.value rest h r.prefix_is) ∙ r.means
 
--- readers that answer the same give the same
-pub gives_same : {X B : Type 0} (view : X → B) (r s : Reader B) (old new : Counts) → r old ≡ s old → (answer : Result X (Stop TopoFault)) → Gives view s old new answer → Gives view r old new answer
-gives_same view r s old new is (Ok x) h = is ∙ h
-gives_same view r s old new is (Err (stop.Fault e)) h = is ∙ h
-gives_same view r s old new is (Err stop.NoValue) h = absurd h
-gives_same view r s old new is (Err stop.Memory) h = tt
-
 -- ---- what is made of a part, and of them all
 
 need_made_of : {V A B : Type 0} (f : A → B) (read : V → Reader A) (c : Counts) (r : Result V TopoFault) → (pure r >>= λ v. making f (read v)) c ≡ making f (pure r >>= read) c
@@ -158,9 +151,6 @@ read_by name read other same ms c = λ i. need_as name (sym same i) ms c
 -- ---- its transform
 
 module _ (ms : Members) (c : Counts) where
-  find_none : named (codes "transform") ms ≡ [] → transform_in ms c ≡ transform_if None c
-  find_none h = rw h refl
-
   pub no_transform : named (codes "transform") ms ≡ [] → transform_in ms c ≡ Ok (None, c)
   unfolding transform_if
   no_transform h = rw h refl
@@ -214,11 +204,6 @@ module _ {X : Type 0} (view : X → Contents) (ms : Members) (old : Counts) wher
   type_stop_gives new stop.Memory h = tt
 
   module _ (typed : type_in ms old ≡ Ok (tt, old)) where
-    pub transform_stop_gives : (new : Counts) (s : Stop TopoFault) → Gives {X = Option Transform} (λ x. x) (transform_in ms) old old (Err s) → Gives view (contents ms) old new (Err s)
-    transform_stop_gives new (stop.Fault e) h = transform_stops ms old typed e h
-    transform_stop_gives new stop.NoValue h = h
-    transform_stop_gives new stop.Memory h = tt
-
     module _ (t : Option Transform) (found : transform_in ms old ≡ Ok (t, old)) where
       arcs_by : (e : TopoFault) → need_as (codes "arcs") (arc_list t) ms old ≡ Err e → contents ms old ≡ Err e
       arcs_by e h = then_on ms old typed t found ∙ rw h refl

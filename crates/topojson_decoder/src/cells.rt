@@ -5,7 +5,7 @@ ghost use Rattle.json_cursor.specs.Answers.{Answers};
 ghost use Rattle.json_cursor.specs.Arrays.{prefix_value};
 ghost use Rattle.topojson_types.specs.Transforms.{grid_limit, moved, origin};
 ghost use Rattle.topojson_meaning.specs.Arcs as spec;
-ghost use Rattle.topojson_decoder.specs.Cells.{cell_from, whole};
+ghost use Rattle.topojson_decoder.specs.Cells.{whole};
 
 use crate::numbers::Scale;
 use crate::pairs::{pair_at, plain_pair_at};
@@ -215,22 +215,4 @@ pub(crate) fn difference_at<'a>(
         bytes,
         counts,
     )
-}
-
-/// The cell at the front, which is after this one in its arc, and what follows it. With a transform it stands as the difference from it
-/// (section 2.1.3).
-pub fn cell_at<'a>(
-    alloc: Global,
-    depth_left: u32,
-    transform: Option<&Transform>,
-    before: Cell,
-    bytes: &'a [u8],
-    counts: &mut Counts,
-) -> Result<(Cell, &'a [u8]), Stop<TopoFault>>
-    ensures { Answers (λ c. c) (cell_from (option_copied transform.entry) before) (prefix_value depth_left bytes.now) counts.old counts.new result }
-{
-    match transform {
-        None => position_at(alloc, depth_left, bytes, counts),
-        Some(transform) => difference_at(alloc, depth_left, transform, before, bytes, counts),
-    }
 }

@@ -39,7 +39,7 @@ mod types;
 
 pub use arcs::{arc_at, arcs_at};
 pub use areas::polygon_at;
-pub use cells::{cell_at, place_at};
+pub use cells::place_at;
 pub use collected_features::feature_at;
 pub use escaping::{quoted, shown};
 pub use geometries::geometry_at;

@@ -1,23 +1,13 @@
 -- Walks that are filled up by a position.
-use Rattle.std.proofs.Common.{◌≡◌, ℕ, suc, ◌-◌, ◌∷◌, [], ◌++◌, true, false, List, length, Option, None, Some, refl, ap, arith, append-nil}
+use Rattle.std.proofs.Common.{◌≡◌, ℕ, suc, ◌-◌, ◌∷◌, [], ◌++◌, List, length, Option, None, Some, refl, ap, arith}
 use Rattle.geometry.specs.Points.{Point}
-use Rattle.topojson_types.specs.Decoding.{repeated, completed}
+use Rattle.topojson_types.specs.Decoding.{repeated}
 use Rattle.topojson_types.specs.Filling.{filling}
 use Rattle.topojson_types.proofs.Opening.{First}
-
--- an open line, and a ring whose first position fills it up
-pub open_begins : (ps : List Point) → ps ++ filling None (4 - length ps) ≡ completed false ps
-open_begins ps = append-nil ps
-
-pub ring_begins : (ps rest : List Point) (p : Option Point) → First ps p rest → ps ++ filling p (4 - length ps) ≡ completed true ps
-ring_begins ps rest p h = grind arith
 
 -- what is left of a walk that is filled up
 abbrev pub left : List Point → Option Point → ℕ → List Point
 left ps filler missing = ps ++ filling filler (missing - length ps)
-
-pub walked : (ps rest : List Point) (p : Point) (filler : Option Point) (missing : ℕ) → First ps (Some p) rest → First (left ps filler missing) (Some p) (left rest filler (missing - 1))
-walked ps rest p filler missing h = grind arith
 
 one_more : (ps rest : List Point) (p : Point) (n m less : ℕ) → ps ≡ [] → rest ≡ [] → n ≡ suc less → m ≡ less → ps ++ repeated n p ≡ p ∷ (rest ++ repeated m p)
 one_more ps rest p n m less e f g h = rw (e, f, g, h) refl

@@ -7,7 +7,7 @@ use Rattle.owned_values.proofs.Elements.{all_at}
 use Rattle.geometry.specs.Lists.{tail}
 use Rattle.geometry.specs.Points.{Point}
 use Rattle.geometry.proofs.Agreement.{all_right}
-use Rattle.geometry.specs.Joins.{number_of, is_reversed, at, or_empty, arc_at, joined_after_first, stitched}
+use Rattle.geometry.specs.Joins.{number_of, is_reversed, at, or_empty, arc_at, joined_after_first}
 use Rattle.topojson_types.specs.Validity.{AreInRange}
 
 -- ---- the arc of an index
@@ -42,9 +42,6 @@ arc_long = arc_lasts (λ cs. 2 ≤ length cs) (λ cs h. omega (arith, h, length-
 -- what is left of a walk
 abbrev pub left : List (List Point) → List Point → List ℤ → List Point → List Point
 left arcs prefix refs back = prefix ++ (joined_after_first (map (arc_at arcs) refs) ++ back)
-
-pub begins : (arcs : List (List Point)) (refs rest : List ℤ) (r : ℤ) (prefix back : List Point) → refs ≡ r ∷ rest → prefix ≡ arc_at arcs r → back ≡ [] → left arcs prefix rest back ≡ stitched (map (arc_at arcs) refs)
-begins arcs refs rest r prefix back is e f = grind (arith, append-nil)
 
 abbrev pub First : List Point → Option Point → List Point → Type 0
 First = YieldsFirst {S = List Point} {A = Point} (λ w. w)

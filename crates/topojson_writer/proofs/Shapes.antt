@@ -62,8 +62,6 @@ pub value-group : (cell : Point → Json) (shapes : List TopoShape) → parts_va
 unfolding parts_value
 value-group cell shapes = ap parts_value (is-group cell shapes)
 
-pub ruleset values = (value-point, value-points, value-line, value-lines, value-area, value-areas, value-group)
-
 -- ---- a geometry has one member after its type
 
 abbrev HasOne : Geometrical → Type 0

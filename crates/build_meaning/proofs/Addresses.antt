@@ -11,7 +11,7 @@ use Rattle.junctions.specs.Cuts.{is_cut}
 use Rattle.junctions.specs.Visits.{Visit, inner_visits, all_visits, ends_open, is_end, is_junction, distinct}
 use Rattle.junctions.specs.declared.stroke.Stroke.{Stroke}
 use Rattle.linework.specs.Outlines.{Outline, outline}
-use Rattle.build_meaning.specs.Laws.{AddressesDoNotMatter}
+use Rattle.build_meaning.specs.BuiltLaws.{AddressesDoNotMatter}
 use Rattle.build_meaning.proofs.Linework.{each_plain, each_split, pieces_by}
 use Rattle.build_meaning.proofs.Once.{same_pieces}
 

@@ -6,10 +6,10 @@ pub mod Linework
 pub mod Names
 pub mod Once
 pub mod Renumbered
-mod Rows
+mod BuiltRows
 pub mod LinesAndRings
 pub mod Trimmed
-pub mod Valid
+pub mod ValidBuilt
 pub mod ValidEnds
 pub mod ValidIndexes
 pub mod ValidPositions
@@ -17,3 +17,51 @@ pub mod ValidShapes
 pub mod ValidTrimmed
 pub mod ValidUntrimmed
 pub mod Whole
+pub mod Again
+pub mod Assembled
+mod AssembledRows
+pub mod BuiltCells
+pub mod BuiltOnGrid
+pub mod Celled
+pub mod CelledDecoding
+mod GridRows
+pub mod Guarded
+pub mod Greatest
+pub mod GuardedLayers
+mod GuardedRows
+pub mod Kept
+pub mod KeptLabels
+pub mod Left
+pub mod SimplifiedNames
+pub mod Simplified
+pub mod Lying
+pub mod Made
+pub mod Marks
+pub mod Objects
+pub mod OnGrid
+pub mod Protected
+pub mod ProtectedRings
+pub mod Retained
+pub mod Reaching
+mod ProtectedRows
+pub mod Replaced
+pub mod RingKept
+mod SimplifiedRows
+pub mod Snapped
+mod SnappedRows
+pub mod Spared
+pub mod Twice
+pub mod ValidSimplified
+pub mod ValidCelled
+pub mod ValidRetained
+pub mod ValidPruned
+pub mod GreatestLeft
+pub mod LayersKept
+pub mod MarkedRing
+pub mod MarksLeft
+pub mod ProtectedLayers
+mod ProtectedLayersRows
+pub mod RingsAlike
+pub mod ShapesLeft
+pub mod SparedAlike
+pub mod SparedLeft

@@ -54,7 +54,7 @@ pub use Rattle.build_meaning.specs.DroppableLines.{DroppableLine, free, hole, ar
 unfoldable pub use Rattle.build_meaning.specs.DroppableLines.{droppable_lines}
 pub use Rattle.build_meaning.specs.Expected.{unless, cleaned, is_small, kept_line, own_pieces, expected_feature, own_cause, rebuilt}
 unfoldable pub use Rattle.build_meaning.specs.Expected.{expected}
-pub use Rattle.build_meaning.specs.Laws.{IsSound, AreSound, LosesNothing, IsRingIfClosed, DecodesBack, IsValid, EachSegmentOnce}
+pub use Rattle.build_meaning.specs.BuiltLaws.{IsSound, AreSound, LosesNothing, IsRingIfClosed, DecodesBack, IsValid, EachSegmentOnce}
 pub use Rattle.build_meaning.specs.Layers.{Named, named_lines_and_rings, layers_of, names_of, features_lines_and_rings}
 pub use Rattle.build_meaning.specs.Objects.{feature_by, features_by, objects_by, Kept}
 pub use Rattle.build_meaning.specs.Trimming.{is_used, line_renumbered, feature_renumbered, object_renumbered, keep_from, new_index_from, renumbered}

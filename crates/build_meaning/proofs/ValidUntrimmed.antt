@@ -1,7 +1,7 @@
 -- The layers over all arcs, with those that no kept line uses, are a valid topology.
 use Rattle.std.proofs.Common.{arith, ◌≡◌, ℕ, ℤ, Bool, true, List, [], ◌∷◌, map, Option, None, Some, refl, ap}
 use Rattle.build_meaning.proofs.Names.{AllByRecursion, all_weaker, then_some, Point, IsPosition, prune, Shape, Featured, is_some_list, is_proper_option, option_points, is_full_option, option_places, IsFeature, IsObject, AreDistinct, IsTopology, EndsStay, NoneIsNew, untrimmed, IsSound, AreSound, Named, names_of, Kept, features_by, objects_by}
-use Rattle.build_meaning.proofs.Valid.{some_kept, fewer_are_arcs, before_fine}
+use Rattle.build_meaning.proofs.ValidBuilt.{some_kept, fewer_are_arcs, before_fine}
 use Rattle.build_meaning.proofs.ValidShapes.{places_stay, made_full}
 
 names_are : (kept : Kept) (ls : Named) → map (λ o. o.0) (objects_by kept ls) ≡ names_of ls

@@ -1,7 +1,7 @@
 -- The first and the last cell of each arc.
 use Rattle.std.proofs.Common.{ℕ, ◌-◌, List, [], ◌∷◌, map, length, refl}
 use Rattle.geometry.specs.Points.{Point}
-use Rattle.simplified_topology.specs.Simplified.{EachFromFirstToLast}
+use Rattle.build_meaning.specs.Simplified.{EachFromFirstToLast}
 
 pub ends_reach : (arcs : List (List Point)) → EachFromFirstToLast (map (λ cells. 0 ∷ (length cells - 1) ∷ []) arcs) arcs
 ends_reach [] = tt

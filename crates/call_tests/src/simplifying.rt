@@ -1,6 +1,6 @@
 // What is left of a topology whose arcs keep their ends alone.
 ghost use Rattle.std.specs.Prelude.{◌≡◌, ◌-◌, ◌∷◌, [], IfOk, length, map};
-ghost use Rattle.simplified_topology.specs.Simplified.{EachFromFirstToLast};
+ghost use Rattle.build_meaning.specs.Simplified.{EachFromFirstToLast};
 
 use byte_ends::{Memory, MemoryDrain, Sink};
 use decimal_json::{Items, TOPOLOGY_DEPTH, parse};

@@ -5,9 +5,9 @@ use Rattle.geometry.specs.Lists.{then_some}
 use Rattle.geometry.specs.Points.{Point}
 use Rattle.geometry.specs.Pruning.{prune}
 use Rattle.grid_snap.specs.Axes.{Axes, cell}
-use Rattle.simplified_topology.specs.GridTransforms.{transform_of}
-use Rattle.simplified_topology.specs.Celled.{feature_celled, object_celled, objects_celled, celled, EachCell}
-use Rattle.simplified_topology.proofs.CelledDecoding.{placed_alike}
+use Rattle.build_meaning.specs.GridTransforms.{transform_of}
+use Rattle.build_meaning.specs.Celled.{feature_celled, object_celled, objects_celled, celled, EachCell}
+use Rattle.build_meaning.proofs.CelledDecoding.{placed_alike}
 use Rattle.owned_values.proofs.Elements.{all_weaker, all_left, all_right}
 use Rattle.owned_values.proofs.Lists.{map_agree}
 use Rattle.topojson_types.specs.declared.feature.TopoFeature.{TopoFeature}
@@ -15,7 +15,7 @@ use Rattle.topojson_types.specs.declared.object.TopoObject.{TopoObject}
 use Rattle.topojson_types.specs.declared.transform.Transform.{Transform}
 use Rattle.topojson_types.specs.Topologies.{TopoShape, Contents, object_features}
 use Rattle.topojson_types.specs.Validity.{places, option_places, features_places, objects_places}
-use Rattle.simplified_topology.specs.Quantized.{IsOn, quantized}
+use Rattle.build_meaning.specs.Quantized.{IsOn, quantized}
 use Rattle.topo_model.specs.Along.{feature_placed, object_placed, objects_placed}
 use Rattle.topo_model.specs.ArcUses.{as_they_are}
 use Rattle.layer_topology.specs.Replacing.{cell_if_covered}

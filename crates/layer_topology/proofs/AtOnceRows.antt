@@ -17,8 +17,8 @@ use Rattle.layer_topology.specs.Guarded.{is_simplifying_level}
 use Rattle.layer_topology.specs.Levels.{threshold_at}
 use Rattle.layer_topology.specs.declared.level.Level.{Level}
 use Rattle.layer_topology.specs.declared.level.Level.TheVariants.{Fixed, Share}
-use Rattle.simplified_topology.specs.Guarded.{arc_positions}
-use Rattle.simplified_topology.specs.Protected.{greatest_ring, protected_rings}
+use Rattle.build_meaning.specs.Guarded.{arc_positions}
+use Rattle.build_meaning.specs.Protected.{greatest_ring, protected_rings}
 
 pub share_stays_at_once : ShareStays → ShareStaysAtOnce
 share_stays_at_once stays no_crossings rings (Fixed t) arcs h = tt

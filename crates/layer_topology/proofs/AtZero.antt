@@ -12,10 +12,10 @@ use Rattle.layer_topology.proofs.Guarded.{layers_under}
 use Rattle.layer_topology.proofs.SparedAtZero.{nothing_goes, spared_alike}
 use Rattle.layer_topology.specs.Laws.{SimplifiesToWritten}
 use Rattle.layer_topology.specs.Written.{written}
-use Rattle.simplified_topology.specs.Guarded.{arc_positions, guarded_contents}
-use Rattle.simplified_topology.specs.GuardedLaws.{UnguardedIsSimplified}
-use Rattle.simplified_topology.specs.Protected.{greatest_ring, protected_rings, protecting_contents, protecting_indexes}
-use Rattle.simplified_topology.specs.Simplified.{simplified_by}
+use Rattle.build_meaning.specs.Guarded.{arc_positions, guarded_contents}
+use Rattle.build_meaning.specs.GuardedLaws.{UnguardedIsSimplified}
+use Rattle.build_meaning.specs.Protected.{greatest_ring, protected_rings, protecting_contents, protecting_indexes}
+use Rattle.build_meaning.specs.Simplified.{simplified_by}
 use Rattle.topojson_types.specs.Topologies.{Contents}
 
 same_at_zero : KeptByWeight → (guard other : Guard) (arcs : List (List Point)) → reduce_arcs guard 0 arcs ≡ reduce_arcs other 0 arcs

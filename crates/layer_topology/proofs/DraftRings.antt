@@ -3,7 +3,7 @@ use Rattle.std.proofs.Common.{◌≡◌, ◌∙◌, ℕ, ℤ, pos, Bool, true, L
 use Rattle.std.proofs.lemmas.List.{map-append}
 use Rattle.std.specs.List.{AllByRecursion}
 use Rattle.build_meaning.specs.Built.{kept_refs, untrimmed, built}
-use Rattle.build_meaning.specs.Laws.{AreSound}
+use Rattle.build_meaning.specs.BuiltLaws.{AreSound}
 use Rattle.build_meaning.specs.Layers.{Named, layers_of, names_of}
 use Rattle.build_meaning.specs.Objects.{objects_by}
 use Rattle.build_meaning.specs.Trimming.{is_used, new_index_from, renumbered}
@@ -17,16 +17,16 @@ use Rattle.geometry.specs.Paths.{Placed}
 use Rattle.geometry.specs.Points.{Point, IsPosition}
 use Rattle.linework.specs.Linework.{linework}
 use Rattle.owned_values.proofs.Elements.{all_weaker}
-use Rattle.simplified_topology.specs.Assembled.{arcs_of_layers, own_refs}
-use Rattle.simplified_topology.specs.OuterRings.{outer_rings}
-use Rattle.simplified_topology.specs.Protected.{greatest_ring, protected_of, protected_rings}
-use Rattle.simplified_topology.specs.ProtectedLayers.{drafted_refs, greatest_of_layers, ring_refs, layers_rings}
-use Rattle.simplified_topology.specs.ProtectedLayersLaws.{greatest_rings, BuiltRingsAreOfLayers}
-use Rattle.simplified_topology.specs.ProtectedRings.{CanStay, ProtectedRingsCanStay}
-use Rattle.simplified_topology.proofs.Again.{all_hold}
-use Rattle.simplified_topology.proofs.GreatestLeft.{put, ring_among, ring_made}
-use Rattle.simplified_topology.proofs.ProtectedLayers.{rings_of_layers}
-use Rattle.simplified_topology.proofs.RingsAlike.{as_it_is, rings_made}
+use Rattle.build_meaning.specs.Assembled.{arcs_of_layers, own_refs}
+use Rattle.build_meaning.specs.OuterRings.{outer_rings}
+use Rattle.build_meaning.specs.Protected.{greatest_ring, protected_of, protected_rings}
+use Rattle.build_meaning.specs.ProtectedLayers.{drafted_refs, greatest_of_layers, ring_refs, layers_rings}
+use Rattle.build_meaning.specs.ProtectedLayersLaws.{greatest_rings, BuiltRingsAreOfLayers}
+use Rattle.build_meaning.specs.ProtectedRings.{CanStay, ProtectedRingsCanStay}
+use Rattle.build_meaning.proofs.Again.{all_hold}
+use Rattle.build_meaning.proofs.GreatestLeft.{put, ring_among, ring_made}
+use Rattle.build_meaning.proofs.ProtectedLayers.{rings_of_layers}
+use Rattle.build_meaning.proofs.RingsAlike.{as_it_is, rings_made}
 use Rattle.topojson_types.specs.declared.object.TopoObject.{TopoObject}
 use Rattle.topojson_types.specs.Topologies.{object_features}
 use Rattle.topojson_types.specs.Validity.{AreDistinct, IsArc, IsTopology}

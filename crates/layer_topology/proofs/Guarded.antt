@@ -14,19 +14,19 @@ use Rattle.layer_topology.specs.Laws.{HasNames, IsValid, NestsNoDeeper, Simplifi
 use Rattle.layer_topology.specs.Written.{snapped_to, written, AreTaken}
 use Rattle.layer_topology.proofs.Laid.{snapped}
 use Rattle.layer_topology.proofs.Origins.{guarded_origins, protecting_origins}
-use Rattle.simplified_topology.specs.GridLaws.{SnappedAreOn}
-use Rattle.simplified_topology.specs.Assembled.{assembled}
-use Rattle.simplified_topology.specs.Guarded.{arc_positions, guarded_arc_indexes, guarded_contents, guarded_indexes}
-use Rattle.simplified_topology.specs.GuardedLaws.{GuardedArcsAreReduced, GuardedCrossingsNeverRise, GuardedIsAssembled, GuardedIsValid, GuardedKeeps, GuardedNoneStaysNone}
-use Rattle.simplified_topology.specs.Laws.{labels, ReducedIsValid, SimplifiedKeeps}
-use Rattle.simplified_topology.specs.Protected.{Protection, greatest_ring, protecting_contents, protecting_indexes}
-use Rattle.simplified_topology.specs.ProtectedLaws.{ProtectingArcsAreReduced, ProtectingCrossingsNeverRise, ProtectingIsValid, ProtectingKeeps, ProtectingNoneStaysNone, ShapesStay}
-use Rattle.simplified_topology.specs.ProtectedLayers.{protecting_arc_indexes, assembled_sparing}
-use Rattle.simplified_topology.specs.ProtectedLayersLaws.{ProtectingIsAssembled, SparedNestsNoDeeper}
-use Rattle.simplified_topology.specs.Quantized.{named_grid, quantized}
-use Rattle.simplified_topology.specs.Simplified.{Refs, feature_pruned}
-use Rattle.simplified_topology.specs.Thresholds.{reduced_indexes, simplified_contents}
-use Rattle.simplified_topology.proofs.Left.{left_features}
+use Rattle.build_meaning.specs.GridLaws.{SnappedAreOn}
+use Rattle.build_meaning.specs.Assembled.{assembled}
+use Rattle.build_meaning.specs.Guarded.{arc_positions, guarded_arc_indexes, guarded_contents, guarded_indexes}
+use Rattle.build_meaning.specs.GuardedLaws.{GuardedArcsAreReduced, GuardedCrossingsNeverRise, GuardedIsAssembled, GuardedIsValid, GuardedKeeps, GuardedNoneStaysNone}
+use Rattle.build_meaning.specs.SimplifiedLaws.{labels, ReducedIsValid, SimplifiedKeeps}
+use Rattle.build_meaning.specs.Protected.{Protection, greatest_ring, protecting_contents, protecting_indexes}
+use Rattle.build_meaning.specs.ProtectedLaws.{ProtectingArcsAreReduced, ProtectingCrossingsNeverRise, ProtectingIsValid, ProtectingKeeps, ProtectingNoneStaysNone, ShapesStay}
+use Rattle.build_meaning.specs.ProtectedLayers.{protecting_arc_indexes, assembled_sparing}
+use Rattle.build_meaning.specs.ProtectedLayersLaws.{ProtectingIsAssembled, SparedNestsNoDeeper}
+use Rattle.build_meaning.specs.Quantized.{named_grid, quantized}
+use Rattle.build_meaning.specs.Simplified.{Refs, feature_pruned}
+use Rattle.build_meaning.specs.Thresholds.{reduced_indexes, simplified_contents}
+use Rattle.build_meaning.proofs.Left.{left_features}
 use Rattle.topojson_meaning.specs.Bounds as bounds
 use Rattle.topojson_types.specs.declared.feature.TopoFeature.{TopoFeature}
 use Rattle.topojson_types.specs.declared.object.TopoObject.{TopoObject}

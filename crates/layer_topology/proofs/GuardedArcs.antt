@@ -3,7 +3,7 @@ use Rattle.std.proofs.Common.{◌≡◌, ℕ, ◌≤◌, ℤ, zero, suc, Bool, t
 use Rattle.std.specs.List.{AllByRecursion}
 use Rattle.std.specs.Prelude.{not}
 use Rattle.build_meaning.specs.Built.{built, untrimmed}
-use Rattle.build_meaning.specs.Laws.{AreSound}
+use Rattle.build_meaning.specs.BuiltLaws.{AreSound}
 use Rattle.build_meaning.specs.Layers.{Named}
 use Rattle.build_meaning.specs.Trimming.{is_used, keep_from}
 use Rattle.elimination_meaning.specs.Laws.{ZeroLaw}
@@ -17,18 +17,18 @@ use Rattle.guarded_meaning.specs.Laws.{ArcsRise}
 use Rattle.guarded_meaning.proofs.Lists.{as_many as each_as_many}
 use Rattle.layer_topology.specs.GuardedLevels.{guarded_chosen, guarded_threshold, reduced_by}
 use Rattle.layer_topology.specs.declared.level.Level.{Level}
-use Rattle.simplified_topology.specs.Assembled.{arcs_of_layers}
-use Rattle.simplified_topology.specs.Guarded.{all_indexes, arc_positions, spread}
-use Rattle.simplified_topology.specs.Simplified.{EachFromFirstToLast, retained, retained_arcs}
-use Rattle.simplified_topology.proofs.Guarded.{each_through, sub_left}
-use Rattle.simplified_topology.proofs.GuardedLayers.{all_retained, built_arcs, built_positions, layers_long, spread_left}
+use Rattle.build_meaning.specs.Assembled.{arcs_of_layers}
+use Rattle.build_meaning.specs.Guarded.{all_indexes, arc_positions, spread}
+use Rattle.build_meaning.specs.Simplified.{EachFromFirstToLast, retained, retained_arcs}
+use Rattle.build_meaning.proofs.Guarded.{each_through, sub_left}
+use Rattle.build_meaning.proofs.GuardedLayers.{all_retained, built_arcs, built_positions, layers_long, spread_left}
 use Rattle.topojson_types.specs.declared.object.TopoObject.{TopoObject}
 use Rattle.topo_model.specs.Retaining.{IsDraftOf}
 use Rattle.topo_model.specs.DraftLaws.{DraftUsesAtZero}
 use Rattle.topo_model.specs.DraftUses.{with_refs}
 use Rattle.topo_model.specs.Uses.{answers, chosen}
 use Rattle.topo_model.proofs.Chosen.{chosen_as}
-use Rattle.simplified_topology.specs.Simplified.{objects_pruned}
+use Rattle.build_meaning.specs.Simplified.{objects_pruned}
 
 -- ---- as many lists as arcs
 

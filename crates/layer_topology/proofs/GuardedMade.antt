@@ -2,7 +2,7 @@
 use Rattle.std.proofs.Common.{◌≡◌, ◌∙◌, ℕ, ℤ, Bool, true, false, cond, List, [], ◌∷◌, Option, None, Some, refl, ap, subst, sym}
 use Rattle.std.specs.List.{AllByRecursion}
 use Rattle.build_meaning.specs.Built.{built}
-use Rattle.build_meaning.specs.Laws.{AreSound}
+use Rattle.build_meaning.specs.BuiltLaws.{AreSound}
 use Rattle.build_meaning.specs.Layers.{Named}
 use Rattle.build_meaning.proofs.Renumbered.{built_has_no_transform}
 use Rattle.build_meaning.specs.Trimming.{trimmed}
@@ -17,22 +17,22 @@ use Rattle.layer_topology.specs.GuardedWritten.{made_under, written_under}
 use Rattle.layer_topology.specs.Levels.{level_chosen, level_threshold}
 use Rattle.layer_topology.specs.Written.{snapped_to, written, AreTaken}
 use Rattle.layer_topology.proofs.Laid.{snapped}
-use Rattle.simplified_topology.specs.Assembled.{assembled}
-use Rattle.simplified_topology.specs.Celled.{celled, EachCell, LiesBack}
-use Rattle.simplified_topology.specs.GridLaws.{BuiltCellsAreOn, SnappedAreOn}
-use Rattle.simplified_topology.specs.GridTransforms.{transform_of}
-use Rattle.simplified_topology.specs.Guarded.{arc_positions, guarded_arc_indexes, guarded_contents, guarded_indexes}
-use Rattle.simplified_topology.specs.GuardedLaws.{GuardedIsAssembled}
-use Rattle.simplified_topology.specs.Protected.{protected_rings, spared_by}
-use Rattle.simplified_topology.specs.ProtectedLayers.{protecting_arc_indexes, assembled_sparing}
-use Rattle.simplified_topology.specs.ProtectedLayersLaws.{greatest_rings, AssembledSparingIsOn, ProtectingOnGrid}
-use Rattle.simplified_topology.specs.Quantized.{AreOn, IsOn, named_grid, named_points, quantized}
-use Rattle.simplified_topology.specs.Simplified.{simplified_by}
-use Rattle.simplified_topology.proofs.BuiltCells.{built_cells}
-use Rattle.simplified_topology.proofs.Celled.{all_lie_back}
-use Rattle.simplified_topology.proofs.GuardedLayers.{built_positions}
-use Rattle.simplified_topology.proofs.Left.{left_cells}
-use Rattle.simplified_topology.proofs.OnGrid.{all_lie}
+use Rattle.build_meaning.specs.Assembled.{assembled}
+use Rattle.build_meaning.specs.Celled.{celled, EachCell, LiesBack}
+use Rattle.build_meaning.specs.GridLaws.{BuiltCellsAreOn, SnappedAreOn}
+use Rattle.build_meaning.specs.GridTransforms.{transform_of}
+use Rattle.build_meaning.specs.Guarded.{arc_positions, guarded_arc_indexes, guarded_contents, guarded_indexes}
+use Rattle.build_meaning.specs.GuardedLaws.{GuardedIsAssembled}
+use Rattle.build_meaning.specs.Protected.{protected_rings, spared_by}
+use Rattle.build_meaning.specs.ProtectedLayers.{protecting_arc_indexes, assembled_sparing}
+use Rattle.build_meaning.specs.ProtectedLayersLaws.{greatest_rings, AssembledSparingIsOn, ProtectingOnGrid}
+use Rattle.build_meaning.specs.Quantized.{AreOn, IsOn, named_grid, named_points, quantized}
+use Rattle.build_meaning.specs.Simplified.{simplified_by}
+use Rattle.build_meaning.proofs.BuiltCells.{built_cells}
+use Rattle.build_meaning.proofs.Celled.{all_lie_back}
+use Rattle.build_meaning.proofs.GuardedLayers.{built_positions}
+use Rattle.build_meaning.proofs.Left.{left_cells}
+use Rattle.build_meaning.proofs.OnGrid.{all_lie}
 use Rattle.topojson_types.specs.Topologies.{Contents}
 
 -- ---- what is assembled of layers

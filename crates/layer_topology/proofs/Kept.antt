@@ -10,7 +10,7 @@ use Rattle.geojson_types.specs.Features.{Featured}
 use Rattle.geojson_types.specs.Nesting.{feature_nesting}
 use Rattle.geojson_types.specs.Numbers.{FeatureHasNumbers}
 use Rattle.geojson_types.specs.Texts.{FeatureHasTexts}
-use Rattle.simplified_topology.specs.GridLaws.{EachFeature}
+use Rattle.build_meaning.specs.GridLaws.{EachFeature}
 use Rattle.owned_values.proofs.Elements.{all_append}
 use Rattle.topojson_meaning.specs.Bounds as bounds
 use Rattle.topojson_meaning.specs.Texts as texts

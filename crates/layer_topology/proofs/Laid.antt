@@ -2,11 +2,11 @@
 use Rattle.std.proofs.Common.{◌∙◌, ℕ, List, map, Option, subst, sym}
 use Rattle.std.specs.Prelude.{IsUtf8}
 use Rattle.std.specs.List.{AllByRecursion}
-use Rattle.build_meaning.specs.Laws as build
+use Rattle.build_meaning.specs.BuiltLaws as build
 use Rattle.build_meaning.specs.Built.{built}
 use Rattle.build_meaning.specs.Layers.{Named, names_of}
-use Rattle.simplified_topology.specs.Quantized.{named_grid}
-use Rattle.simplified_topology.specs.GridLaws as grid
+use Rattle.build_meaning.specs.Quantized.{named_grid}
+use Rattle.build_meaning.specs.GridLaws as grid
 use Rattle.layer_topology.specs.Laws.{IsValid, HasNames, DecodesBack, EachSegmentOnce, NestsNoDeeper, NumbersStay, TextsStay, SimplifiesToWritten}
 use Rattle.layer_topology.specs.Written.{snapped_to, written, AreTaken}
 use Rattle.layer_topology.proofs.Kept.{built_names, built_nests, built_numbers, built_texts}

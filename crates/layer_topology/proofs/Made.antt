@@ -6,8 +6,8 @@ use Rattle.build_meaning.specs.Layers.{Named, layers_of}
 use Rattle.cutter.specs.Slices.{split_of}
 use Rattle.elimination_meaning.specs.Elimination.{reduce}
 use Rattle.geometry.specs.Points.{Point}
-use Rattle.simplified_topology.specs.Assembled.{arc_indexes, arcs_of_layers}
-use Rattle.simplified_topology.specs.Simplified.{retained_arcs}
+use Rattle.build_meaning.specs.Assembled.{arc_indexes, arcs_of_layers}
+use Rattle.build_meaning.specs.Simplified.{retained_arcs}
 use Rattle.linework.specs.Linework.{linework}
 use Rattle.layer_topology.specs.Levels.{threshold_at}
 use Rattle.layer_topology.specs.declared.level.Level.{Level}

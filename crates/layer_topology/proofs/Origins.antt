@@ -20,11 +20,11 @@ use Rattle.guarded_meaning.proofs.Lists.{filter_map}
 use Rattle.guarded_meaning.proofs.Neighbours.{line_segments, all_segments, segments_are}
 use Rattle.guarded_meaning.proofs.Thinned.{remaining_thinned}
 use Rattle.layer_topology.specs.Guarded.{HasOrigins}
-use Rattle.simplified_topology.specs.Guarded.{arc_positions, guarded_contents, guarded_indexes}
-use Rattle.simplified_topology.specs.GuardedLaws.{GuardedArcsAreReduced}
-use Rattle.simplified_topology.specs.Protected.{Protection, protected_rings, protecting_contents, protecting_indexes, spared_whole}
-use Rattle.simplified_topology.specs.ProtectedLaws.{ProtectingArcsAreReduced}
-use Rattle.simplified_topology.specs.Simplified.{retained_whole}
+use Rattle.build_meaning.specs.Guarded.{arc_positions, guarded_contents, guarded_indexes}
+use Rattle.build_meaning.specs.GuardedLaws.{GuardedArcsAreReduced}
+use Rattle.build_meaning.specs.Protected.{Protection, protected_rings, protecting_contents, protecting_indexes, spared_whole}
+use Rattle.build_meaning.specs.ProtectedLaws.{ProtectingArcsAreReduced}
+use Rattle.build_meaning.specs.Simplified.{retained_whole}
 use Rattle.topojson_types.specs.Topologies.{Contents}
 
 -- ---- the segments of some of the arcs

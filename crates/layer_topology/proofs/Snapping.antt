@@ -9,7 +9,7 @@ use Rattle.geometry.specs.Points.{Point}
 use Rattle.grid_snap.specs.Axes.{Axes, covers}
 use Rattle.grid_snap.specs.Snapping.{snapped_layer}
 use Rattle.owned_values.proofs.Elements.{all_at, all_left, all_right}
-use Rattle.simplified_topology.specs.Quantized.{named_points}
+use Rattle.build_meaning.specs.Quantized.{named_points}
 
 -- a value under a name
 abbrev pub named : {X : Type 0} → List ℕ → X → List ℕ × X

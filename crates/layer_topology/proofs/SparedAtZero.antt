@@ -23,15 +23,15 @@ use Rattle.guarded_meaning.specs.Weights.{passing, weight}
 use Rattle.guarded_meaning.proofs.Weights.{kept_at_zero}
 use Rattle.junctions.specs.Cleaning.{clean, is_short}
 use Rattle.owned_values.proofs.Elements.{all_weaker}
-use Rattle.simplified_topology.specs.Guarded.{arc_positions}
-use Rattle.simplified_topology.specs.OuterRings.{outer_rings, into_part, along, unmarked, rings_marked, marked}
-use Rattle.simplified_topology.specs.Protected.{enclosed, greatest_ring, sparing, shape_marked, feature_spared, object_spared, objects_spared, spared_by}
-use Rattle.simplified_topology.specs.Simplified.{Refs, feature_pruned, object_pruned, objects_pruned, large_refs, retained, retained_arcs, simplified_by}
-use Rattle.simplified_topology.proofs.GreatestLeft.{greatest_of, way_of}
-use Rattle.simplified_topology.proofs.GuardedLayers.{all_retained}
-use Rattle.simplified_topology.proofs.MarkedRing.{MarkPasses, marks_pass}
-use Rattle.simplified_topology.proofs.Marks.{left-point, left-points, left-line, left-lines, left-area, left-areas, left-group, some_made}
-use Rattle.simplified_topology.proofs.Spared.{by_refs}
+use Rattle.build_meaning.specs.Guarded.{arc_positions}
+use Rattle.build_meaning.specs.OuterRings.{outer_rings, into_part, along, unmarked, rings_marked, marked}
+use Rattle.build_meaning.specs.Protected.{enclosed, greatest_ring, sparing, shape_marked, feature_spared, object_spared, objects_spared, spared_by}
+use Rattle.build_meaning.specs.Simplified.{Refs, feature_pruned, object_pruned, objects_pruned, large_refs, retained, retained_arcs, simplified_by}
+use Rattle.build_meaning.proofs.GreatestLeft.{greatest_of, way_of}
+use Rattle.build_meaning.proofs.GuardedLayers.{all_retained}
+use Rattle.build_meaning.proofs.MarkedRing.{MarkPasses, marks_pass}
+use Rattle.build_meaning.proofs.Marks.{left-point, left-points, left-line, left-lines, left-area, left-areas, left-group, some_made}
+use Rattle.build_meaning.proofs.Spared.{by_refs}
 use Rattle.topojson_types.specs.declared.feature.TopoFeature.{TopoFeature}
 use Rattle.topojson_types.specs.declared.object.TopoObject.{TopoObject}
 use Rattle.topojson_types.specs.declared.object.TopoObject.TheVariants.{One, Many}

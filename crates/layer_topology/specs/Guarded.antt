@@ -15,11 +15,11 @@ use Rattle.layer_topology.specs.Levels.{is_level}
 use Rattle.layer_topology.specs.declared.guards.Guards.{Guards}
 use Rattle.layer_topology.specs.declared.level.Level.{Level}
 use Rattle.layer_topology.specs.declared.level.Level.TheVariants.{Fixed, Share}
-use Rattle.simplified_topology.specs.GridLaws.{all_features}
-use Rattle.simplified_topology.specs.Guarded.{arc_positions, crossings_of, guarded_contents, guarded_dropped, guarded_removed_count}
-use Rattle.simplified_topology.specs.Protected.{greatest_ring, protected_of, protected_rings, protecting_contents, protecting_dropped, protecting_removed_count}
-use Rattle.simplified_topology.specs.ProtectedLaws.{protecting_reduced, HasRing}
-use Rattle.simplified_topology.specs.Thresholds.{simplified_contents, simplified_dropped, simplified_removed_count}
+use Rattle.build_meaning.specs.GridLaws.{all_features}
+use Rattle.build_meaning.specs.Guarded.{arc_positions, crossings_of, guarded_contents, guarded_dropped, guarded_removed_count}
+use Rattle.build_meaning.specs.Protected.{greatest_ring, protected_of, protected_rings, protecting_contents, protecting_dropped, protecting_removed_count}
+use Rattle.build_meaning.specs.ProtectedLaws.{protecting_reduced, HasRing}
+use Rattle.build_meaning.specs.Thresholds.{simplified_contents, simplified_dropped, simplified_removed_count}
 use Rattle.topojson_types.specs.Topologies.{Contents}
 
 -- nothing is asked for

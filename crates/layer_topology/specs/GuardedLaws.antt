@@ -12,9 +12,9 @@ use Rattle.layer_topology.specs.Guarded.{is_simplifying_level, simplified_under,
 use Rattle.layer_topology.specs.GuardedLevels.{guarded_threshold, KeepsShare, KeepsShareUnder}
 use Rattle.layer_topology.specs.GuardedWritten.{made_under, written_under}
 use Rattle.layer_topology.specs.Written.{snapped_to, written, AreTaken}
-use Rattle.simplified_topology.specs.GridLaws.{EachFeature}
-use Rattle.simplified_topology.specs.Laws.{labels}
-use Rattle.simplified_topology.specs.Quantized.{named_grid, quantized}
+use Rattle.build_meaning.specs.GridLaws.{EachFeature}
+use Rattle.build_meaning.specs.SimplifiedLaws.{labels}
+use Rattle.build_meaning.specs.Quantized.{named_grid, quantized}
 use Rattle.topojson_meaning.specs.Bounds as bounds
 use Rattle.topojson_types.specs.Topologies.{Contents}
 use Rattle.topojson_types.specs.Validity.{IsTopology}

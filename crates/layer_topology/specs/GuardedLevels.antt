@@ -15,9 +15,9 @@ use Rattle.layer_topology.specs.declared.level.Level.TheVariants.{Fixed, Share}
 use Rattle.layer_topology.specs.Guarded.{guard_under, is_at_once}
 use Rattle.layer_topology.specs.Levels.{threshold_at, chosen_at, level_threshold, level_chosen}
 use Rattle.layer_topology.specs.Written.{written}
-use Rattle.simplified_topology.specs.Assembled.{arcs_of_layers}
-use Rattle.simplified_topology.specs.Guarded.{arc_positions}
-use Rattle.simplified_topology.specs.Protected.{greatest_ring, protected_rings}
+use Rattle.build_meaning.specs.Assembled.{arcs_of_layers}
+use Rattle.build_meaning.specs.Guarded.{arc_positions}
+use Rattle.build_meaning.specs.Protected.{greatest_ring, protected_rings}
 use Rattle.topojson_types.specs.Topologies.{Contents}
 
 -- ---- arcs that are reduced at once

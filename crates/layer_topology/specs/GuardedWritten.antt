@@ -10,10 +10,10 @@ use Rattle.layer_topology.specs.declared.level.Level.{Level}
 use Rattle.layer_topology.specs.Guarded.{is_at_once}
 use Rattle.layer_topology.specs.Levels.{level_calls}
 use Rattle.layer_topology.specs.Written.{snapped_to, written}
-use Rattle.simplified_topology.specs.Assembled.{assembled, assembled_dropped, assembled_removed_count}
-use Rattle.simplified_topology.specs.Guarded.{arc_positions, guarded_arc_indexes, guarded_contents}
-use Rattle.simplified_topology.specs.Protected.{greatest_ring, protecting_contents}
-use Rattle.simplified_topology.specs.ProtectedLayers.{protecting_arc_indexes, assembled_sparing, assembled_sparing_dropped, assembled_sparing_removed_count}
+use Rattle.build_meaning.specs.Assembled.{assembled, assembled_dropped, assembled_removed_count}
+use Rattle.build_meaning.specs.Guarded.{arc_positions, guarded_arc_indexes, guarded_contents}
+use Rattle.build_meaning.specs.Protected.{greatest_ring, protecting_contents}
+use Rattle.build_meaning.specs.ProtectedLayers.{protecting_arc_indexes, assembled_sparing, assembled_sparing_dropped, assembled_sparing_removed_count}
 use Rattle.topojson_types.specs.Topologies.{Contents}
 
 -- ---- what is made of layers as they are

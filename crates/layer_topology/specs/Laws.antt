@@ -10,8 +10,8 @@ use Rattle.geojson_types.specs.declared.layer.FeatureSet.TheVariants as set
 use Rattle.geojson_types.specs.Nesting.{feature_nesting}
 use Rattle.geojson_types.specs.Numbers.{FeatureHasNumbers}
 use Rattle.geojson_types.specs.Texts.{FeatureHasTexts}
-use Rattle.simplified_topology.specs.GridLaws.{EachFeature}
-use Rattle.simplified_topology.specs.Thresholds.{simplified_contents}
+use Rattle.build_meaning.specs.GridLaws.{EachFeature}
+use Rattle.build_meaning.specs.Thresholds.{simplified_contents}
 use Rattle.linework.specs.Linework.{linework}
 use Rattle.topojson_meaning.specs.Bounds as bounds
 use Rattle.topojson_meaning.specs.Texts.{ContentsHaveTexts}

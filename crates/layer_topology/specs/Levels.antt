@@ -9,7 +9,7 @@ use Rattle.geometry.specs.Units.{threshold_limit}
 use Rattle.layer_topology.specs.declared.level.Level.{Level}
 use Rattle.layer_topology.specs.declared.level.Level.TheVariants.{Fixed, Share}
 use Rattle.layer_topology.specs.Written.{snapped_to}
-use Rattle.simplified_topology.specs.Assembled.{arcs_of_layers}
+use Rattle.build_meaning.specs.Assembled.{arcs_of_layers}
 
 -- a threshold is twice an area, in square units; a share is p of q, which is from 1 to 10^9
 abbrev pub is_level : Level → Bool

@@ -1,9 +1,9 @@
 -- The topology that is written of layers: on the grid that is asked for, if one is, at a threshold, and with a least ring area.
 use Rattle.std.specs.Prelude.{ℕ, Option}
 use Rattle.build_meaning.specs.Built.{built}
-use Rattle.build_meaning.specs.Laws.{AreSound}
+use Rattle.build_meaning.specs.BuiltLaws.{AreSound}
 use Rattle.build_meaning.specs.Layers.{Named, names_of}
-use Rattle.simplified_topology.specs.Quantized.{IsCount, AreInputs, named_grid, snapped_named, quantized}
+use Rattle.build_meaning.specs.Quantized.{IsCount, AreInputs, named_grid, snapped_named, quantized}
 use Rattle.topojson_types.specs.Topologies.{Contents}
 use Rattle.topojson_types.specs.Validity.{AreDistinct}
 

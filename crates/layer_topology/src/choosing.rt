@@ -7,7 +7,7 @@ ghost use Rattle.effective_area.specs.Shares.{interior_weights, kept_at, share};
 ghost use Rattle.effective_area.specs.Weights.{weights_of};
 ghost use Rattle.elimination_meaning.specs.Elimination.{reduce};
 ghost use Rattle.layer_topology.specs.Levels.{calls_at, chosen_at, is_level, threshold_at};
-ghost use Rattle.simplified_topology.specs.Simplified.{retained, retained_arcs};
+ghost use Rattle.build_meaning.specs.Simplified.{retained, retained_arcs};
 
 use crate::level::Level;
 use effective_area::{

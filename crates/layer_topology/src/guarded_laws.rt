@@ -2,14 +2,14 @@
 ghost use Rattle.layer_topology.specs.GuardedLaws.{GuardedAtZero, ShareStaysAtOnce, ShareStaysUnder, SimplifiedUnderLaw, WrittenIsMade, WrittenUnderLaw};
 
 use crate::laws::{simplifies_to_written, written_laws};
-use guarded_meaning::{kept_by_weight, no_crossings_law, share_stays};
-use simplified_topology::{
+use build_meaning::{
     guarded_arcs_are_reduced, guarded_crossings_never_rise, guarded_is_assembled, guarded_is_valid,
     guarded_keeps, guarded_none_stays_none, protecting_arcs_are_reduced,
     protecting_crossings_never_rise, protecting_is_assembled, protecting_is_valid,
     protecting_keeps, protecting_none_stays_none, reduced_is_valid, shapes_stay, simplified_keeps,
     snapped_are_on, spared_nests_no_deeper, unguarded_is_simplified,
 };
+use guarded_meaning::{kept_by_weight, no_crossings_law, share_stays};
 
 /// What is left of a valid topology is valid, with the same names, identifiers, properties and transform, and nests no deeper, whatever guards
 /// are asked for.

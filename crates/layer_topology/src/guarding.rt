@@ -3,9 +3,9 @@ ghost use Rattle.std.specs.Prelude.{◌≡◌, ℕ, Bool, IfOk, length, true};
 ghost use Rattle.layer_topology.specs.Guarded.{is_simplifying_level};
 ghost use Rattle.layer_topology.specs.GuardedLevels.{guarded_chosen, reduced_by};
 ghost use Rattle.build_meaning.specs.Trimming.{keep_from};
-ghost use Rattle.simplified_topology.specs.Guarded.{spread};
-ghost use Rattle.simplified_topology.specs.ProtectedRings.{CanStay};
-ghost use Rattle.simplified_topology.specs.Simplified.{EachFromFirstToLast, retained_arcs};
+ghost use Rattle.build_meaning.specs.Guarded.{spread};
+ghost use Rattle.build_meaning.specs.ProtectedRings.{CanStay};
+ghost use Rattle.build_meaning.specs.Simplified.{EachFromFirstToLast, retained_arcs};
 ghost use Rattle.topo_model.specs.Uses.{answers, chosen as chosen_of};
 
 use crate::at_once::kept_at_once;

@@ -1,10 +1,9 @@
 // Laws of the definitions. A function here changes nothing: its contract is the law.
 ghost use Rattle.layer_topology.specs.Laws.{SimplifiesToWritten, WrittenLaws};
 
-use build_meaning::each_segment_once;
-use simplified_topology::{
-    built_decodes_quantized, built_is_valid_quantized, quantized_keeps, simplifies_quantized,
-    snapped_are_on, snapped_keep,
+use build_meaning::{
+    built_decodes_quantized, built_is_valid_quantized, each_segment_once, quantized_keeps,
+    simplifies_quantized, snapped_are_on, snapped_keep,
 };
 
 /// What is written of layers is a valid topology with an object for each layer. Decoding it gives each layer the features that are

@@ -1,7 +1,7 @@
 // Quantized layers.
 ghost use Rattle.std.specs.Prelude.{◌≡◌, true, Some};
 ghost use Rattle.std.specs.List.{AllByRecursion};
-ghost use Rattle.simplified_topology.specs.Quantized.{AreInputs, IsCount, named_grid, named_points, snapped_named};
+ghost use Rattle.build_meaning.specs.Quantized.{AreInputs, IsCount, named_grid, named_points, snapped_named};
 ghost use Rattle.grid_snap.specs.Axes.{covers};
 
 use geojson_types::Layer;

@@ -4,21 +4,21 @@ ghost use Rattle.std.specs.List.{AllByRecursion};
 ghost use Rattle.arc_table.specs.Arcs.{table_of};
 ghost use Rattle.build_meaning.specs.Built.{built, removed_count};
 ghost use Rattle.build_meaning.specs.Expected.{expected_dropped};
-ghost use Rattle.build_meaning.specs.Laws.{AreSound};
+ghost use Rattle.build_meaning.specs.BuiltLaws.{AreSound};
 ghost use Rattle.build_meaning.specs.Layers.{Named, layers_of, named_lines_and_rings, names_of};
+ghost use Rattle.build_meaning.specs.Quantized.{AreInputs, IsCount, named_grid};
+ghost use Rattle.build_meaning.specs.Assembled.{arcs_of_layers, assembled, assembled_dropped, assembled_removed_count};
+ghost use Rattle.build_meaning.specs.Guarded.{arc_positions, guarded_arc_indexes};
+ghost use Rattle.build_meaning.specs.Simplified.{retained_arcs};
 ghost use Rattle.byte_ends.specs.Ends.{saturated};
 ghost use Rattle.cutter.specs.Slices.{split_of};
 ghost use Rattle.geometry.specs.Units.{threshold_limit};
-ghost use Rattle.simplified_topology.specs.Quantized.{AreInputs, IsCount, named_grid};
 ghost use Rattle.layer_topology.specs.Guarded.{is_at_once, is_simplifying_level};
 ghost use Rattle.layer_topology.specs.GuardedLevels.{guarded_chosen, guarded_threshold, level_chosen_under, level_threshold_under, made_chosen, made_threshold};
 ghost use Rattle.layer_topology.specs.GuardedWritten.{calls_under, lines_dropped_under, made_dropped_under, made_removed_under, made_under};
 ghost use Rattle.layer_topology.specs.GuardedWritten.{positions_removed_under, written_under};
 ghost use Rattle.layer_topology.specs.Levels.{calls_at, chosen_at, is_level, threshold_at};
 ghost use Rattle.layer_topology.specs.Written.{AreTaken, snapped_to};
-ghost use Rattle.simplified_topology.specs.Assembled.{arcs_of_layers, assembled, assembled_dropped, assembled_removed_count};
-ghost use Rattle.simplified_topology.specs.Guarded.{arc_positions, guarded_arc_indexes};
-ghost use Rattle.simplified_topology.specs.Simplified.{retained_arcs};
 ghost use Rattle.linework.specs.Linework.{linework};
 ghost use Rattle.linework.specs.Outlines.{IsRingIfClosed, is_short_outline};
 ghost use Rattle.topojson_types.specs.Validity.{AreDistinct};
@@ -33,7 +33,11 @@ use crate::level::Level;
 use crate::sparing::sparing_topology;
 use crate::topology::on_grid;
 use arc_table::Table;
-use build_meaning::addresses_do_not_matter;
+use build_meaning::{
+    addresses_do_not_matter, arc_indexes_reach, assembled_sparing_is_on, assembles_to_built,
+    assembling_drops_expected, assembling_removes, built_cells_are_on, guarded_arc_indexes_reach,
+    guarded_is_assembled, protecting_on_grid, snapped_are_on,
+};
 use cutter::{Pieces, cut};
 use effective_area::Reducer;
 use elimination_meaning::{nothing_is_new, zero_law};
@@ -43,11 +47,6 @@ use guarded_meaning::arcs_rise;
 use json_value::{Items, OwnText};
 use linework::{Lines, Outline, Vertices, lines_of_outlines};
 use owned_values::Memory;
-use simplified_topology::{
-    arc_indexes_reach, assembled_sparing_is_on, assembles_to_built, assembling_drops_expected,
-    assembling_removes, built_cells_are_on, guarded_arc_indexes_reach, guarded_is_assembled,
-    protecting_on_grid, snapped_are_on,
-};
 use std::alloc::Global;
 use topo_model::{
     assemble_draft, draft_arcs, draft_uses_at_zero, filled, position_counts, take_apart,

@@ -3,16 +3,16 @@ ghost use Rattle.std.specs.Prelude.{◌≡◌, ◌<◌, ◌≤◌, ◌^◌, IfOk
 ghost use Rattle.build_meaning.specs.Built.{built};
 ghost use Rattle.build_meaning.specs.Layers.{Named};
 ghost use Rattle.build_meaning.specs.Trimming.{is_used};
+ghost use Rattle.build_meaning.specs.Assembled.{arcs_of_layers};
+ghost use Rattle.build_meaning.specs.Protected.{greatest_ring, protected_rings as all_protected};
+ghost use Rattle.build_meaning.specs.ProtectedLayers.{assembled_sparing, assembled_sparing_dropped, assembled_sparing_removed_count, protecting_arc_indexes};
+ghost use Rattle.build_meaning.specs.ProtectedLayersLaws.{greatest_rings};
+ghost use Rattle.build_meaning.specs.Simplified.{objects_pruned, retained_arcs};
 ghost use Rattle.byte_ends.specs.Ends.{saturated};
 ghost use Rattle.geometry.specs.Lists.{map_some};
 ghost use Rattle.geometry.specs.Units.{threshold_limit};
 ghost use Rattle.layer_topology.specs.Guarded.{is_simplifying_level};
 ghost use Rattle.layer_topology.specs.GuardedLevels.{sparing_chosen, sparing_threshold};
-ghost use Rattle.simplified_topology.specs.Assembled.{arcs_of_layers};
-ghost use Rattle.simplified_topology.specs.Protected.{greatest_ring, protected_rings as all_protected};
-ghost use Rattle.simplified_topology.specs.ProtectedLayers.{assembled_sparing, assembled_sparing_dropped, assembled_sparing_removed_count, protecting_arc_indexes};
-ghost use Rattle.simplified_topology.specs.ProtectedLayersLaws.{greatest_rings};
-ghost use Rattle.simplified_topology.specs.Simplified.{objects_pruned, retained_arcs};
 ghost use Rattle.topo_model.specs.DraftUses.{with_refs};
 ghost use Rattle.topo_model.specs.Retaining.{IsDraftOf};
 ghost use Rattle.topo_model.specs.Uses.{answers};
@@ -21,15 +21,15 @@ ghost use Rattle.topo_model.specs.Ways.{ways_of};
 use crate::guarding::{guarded_arcs, whole_arcs};
 use crate::level::Level;
 use crate::renumbering::renumbered_rings;
-use build_meaning::built_is_valid;
+use build_meaning::{
+    built_is_valid, built_rings_are_of_layers, protected_rings_can_stay,
+    protecting_arc_indexes_reach,
+};
 use elimination_meaning::{ends_stay, nothing_is_new, zero_law};
 use geojson_types::{Dropped, Position};
 use guarded_meaning::arcs_rise;
 use json_value::{Items, OwnText};
 use owned_values::Memory;
-use simplified_topology::{
-    built_rings_are_of_layers, protected_rings_can_stay, protecting_arc_indexes_reach,
-};
 use std::alloc::Global;
 use topo_model::{
     ArcRef, assemble_draft_sparing, draft_arcs, draft_uses_at_zero, position_counts,

@@ -1,14 +1,14 @@
 // Quantized topologies.
 ghost use Rattle.std.specs.Prelude.{◌≡◌, IfOk, None, Some};
-ghost use Rattle.simplified_topology.specs.Quantized.{IsOn, quantized};
-ghost use Rattle.simplified_topology.specs.GridTransforms.{transform_of};
-ghost use Rattle.simplified_topology.specs.Celled.{EachCell};
+ghost use Rattle.build_meaning.specs.Quantized.{IsOn, quantized};
+ghost use Rattle.build_meaning.specs.GridTransforms.{transform_of};
+ghost use Rattle.build_meaning.specs.Celled.{EachCell};
 
 use crate::cells::{Gridding, arcs_on};
 use crate::transforms::transform;
+use build_meaning::quantized_is_valid;
 use grid_snap::Grid;
 use owned_values::Memory;
-use simplified_topology::quantized_is_valid;
 use std::alloc::Global;
 use topo_model::prune_objects;
 use topojson_types::{Topology, Transform};

@@ -2,7 +2,7 @@
 ghost use Rattle.std.specs.Prelude.{◌≡◌, ◌≤◌, IfOk, unsigned_abs};
 ghost use Rattle.decimal_text.specs.Scaling.{units_text};
 ghost use Rattle.geometry.specs.Units.{position_limit, unit_places};
-ghost use Rattle.simplified_topology.specs.GridTransforms.{transform_of};
+ghost use Rattle.build_meaning.specs.GridTransforms.{transform_of};
 
 use decimal_text::{NumText, units_again};
 use geojson_types::PLACES;
@@ -49,7 +49,7 @@ fn units_numbers(
 }
 
 /// The transform by which the cells of the grid lie at its positions: its steps as scale, and its first coordinates as translation.
-#[tactic(auto, unfolding(simplified_topology::specs::GridTransforms::transform_of))]
+#[tactic(auto, unfolding(build_meaning::specs::GridTransforms::transform_of))]
 pub fn transform(alloc: Global, grid: &Grid) -> Result<Transform, Memory>
     ensures { IfOk result (λ t. t ≡ transform_of grid.now) }
 {

@@ -32,8 +32,8 @@ use Rattle.json_value.specs.Limits.{topology_depth}
 use Rattle.mapchain_engine.specs.Files.{IsTopologyRead, IsSummarised}
 use Rattle.mapchain_engine.specs.Simplified.{simplified_contents_text, topology_chosen, topology_threshold, IsSimplified}
 use Rattle.layer_topology.specs.Written.{snapped_to, written as written_on, AreTaken}
-use Rattle.simplified_topology.specs.Assembled.{arcs_of_layers}
-use Rattle.simplified_topology.specs.Guarded.{arc_positions}
+use Rattle.build_meaning.specs.Assembled.{arcs_of_layers}
+use Rattle.build_meaning.specs.Guarded.{arc_positions}
 use Rattle.build_meaning.specs.Layers.{names_of}
 use Rattle.json_value.specs.declared.json.Json.{Json}
 use Rattle.json_value.specs.Grammar.{Reads}

@@ -5,7 +5,7 @@ use Rattle.std.specs.List.{AllByRecursion}
 use Rattle.geojson_types.specs.declared.id.Id.{Id}
 use Rattle.geojson_types.specs.declared.layer.FeatureSet.{FeatureSet}
 use Rattle.geojson_types.specs.Features.{Featured}
-use Rattle.geojson_writer.specs.Numbered.{features_of}
+use Rattle.topojson_writer.specs.Numbered.{features_of}
 use Rattle.geometry.specs.Lists.{map_some}
 use Rattle.geometry.specs.Points.{Point}
 use Rattle.json_value.proofs.Yields.{IfThere}

@@ -6,7 +6,7 @@ use Rattle.geometry.specs.Lists.{map_some}
 use Rattle.topojson_types.specs.declared.object.TopoObject.{TopoObject}
 use Rattle.topojson_types.specs.Decoding.{decoded, of_name}
 use Rattle.topojson_types.specs.Topologies.{Contents}
-use Rattle.geojson_writer.specs.Decoded.{object_in}
+use Rattle.topojson_writer.specs.Decoded.{object_in}
 use Rattle.inputs.specs.declared.file_fault.FileFault.{FileFault}
 use Rattle.inputs.specs.declared.file_fault.FileFault.TheVariants.{Read, Json, Topo, NoObject, Write, Memory}
 use Rattle.mapchain_engine.specs.Files.{IsTopologyRead, FailsToGive}

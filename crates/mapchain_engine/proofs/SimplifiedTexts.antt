@@ -6,7 +6,7 @@ use Rattle.geojson_types.specs.declared.id.Id.{Id}
 use Rattle.geojson_types.specs.Numbers.{IdHasNumbers, PropertiesHaveNumbers}
 use Rattle.geojson_types.specs.Texts.{IdHasTexts, PropertiesHaveTexts}
 use Rattle.json_value.specs.declared.json.Json.{Json}
-use Rattle.simplified_topology.specs.Laws.{labels}
+use Rattle.build_meaning.specs.SimplifiedLaws.{labels}
 use Rattle.owned_values.proofs.Elements.{all_left, all_map, all_of_map, all_parts, all_right, all_weaker}
 use Rattle.topojson_meaning.specs.Bounds.{objects_features}
 use Rattle.topojson_meaning.specs.Laws.{FeaturesHaveNumbers}

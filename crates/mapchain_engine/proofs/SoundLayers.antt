@@ -17,10 +17,10 @@ use Rattle.geometry.specs.Pruning.{option_lines_and_rings}
 use Rattle.geometry.specs.Units.{threshold_limit}
 use Rattle.geojson_meaning.specs.Laws.{RingCloses}
 use Rattle.owned_values.proofs.Elements.{all_append, all_left, all_right, all_weaker}
-use Rattle.build_meaning.specs.Laws.{IsSound, AreSound}
+use Rattle.build_meaning.specs.BuiltLaws.{IsSound, AreSound}
 use Rattle.build_meaning.specs.Layers.{names_of}
-use Rattle.simplified_topology.specs.Quantized.{IsCount, AreInputs, named_points}
-use Rattle.simplified_topology.specs.GridLaws.{EachFeature}
+use Rattle.build_meaning.specs.Quantized.{IsCount, AreInputs, named_points}
+use Rattle.build_meaning.specs.GridLaws.{EachFeature}
 use Rattle.layer_topology.specs.Guarded.{is_simplifying_level}
 use Rattle.layer_topology.specs.Levels.{is_level}
 use Rattle.layer_topology.specs.Written.{AreTaken}

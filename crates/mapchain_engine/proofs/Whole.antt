@@ -7,7 +7,7 @@ use Rattle.geometry.specs.Points.{Point}
 use Rattle.inputs.specs.declared.file_fault.FileFault.{FileFault}
 use Rattle.inputs.specs.declared.file_fault.FileFault.TheVariants.{Read, Json, Topo, NoObject, Write, Memory}
 use Rattle.json_value.specs.Text.{json_text}
-use Rattle.simplified_topology.specs.Thresholds.{placed_cells}
+use Rattle.build_meaning.specs.Thresholds.{placed_cells}
 use Rattle.reports.specs.declared.report.Report.{Report}
 use Rattle.topojson_types.specs.declared.transform.Transform.{Transform}
 use Rattle.topojson_types.specs.Topologies.{Contents}

@@ -27,7 +27,7 @@ use Rattle.layer_topology.specs.GuardedLevels.{level_chosen_under, level_thresho
 use Rattle.layer_topology.specs.GuardedWritten.{calls_under, lines_dropped_under, positions_removed_under, written_under}
 use Rattle.layer_topology.specs.Laws.{WrittenLaws}
 use Rattle.layer_topology.specs.Written.{snapped_to, written as written_on}
-use Rattle.simplified_topology.specs.Laws.{labels}
+use Rattle.build_meaning.specs.SimplifiedLaws.{labels}
 use Rattle.topojson_meaning.specs.Laws.{ReadsBack, TextIsRead}
 use Rattle.topojson_meaning.specs.Texts.{TextIsUtf8}
 use Rattle.topojson_meaning.specs.Topologies.{topology}

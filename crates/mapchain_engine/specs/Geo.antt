@@ -5,7 +5,7 @@ use Rattle.byte_ends.specs.Writes.{WritesAll, WritesPrefix}
 use Rattle.json_value.specs.Text.{json_text}
 use Rattle.geojson_types.specs.declared.counts.Counts.{Counts}
 use Rattle.geojson_types.specs.declared.layer.FeatureSet.{FeatureSet}
-use Rattle.geojson_writer.specs.FeatureValues.{features_value}
+use Rattle.topojson_writer.specs.FeatureValues.{features_value}
 use Rattle.topojson_types.specs.Decoding.{decoded}
 use Rattle.topojson_types.specs.Topologies.{Contents}
 use Rattle.inputs.specs.declared.file_fault.FileFault.{FileFault}

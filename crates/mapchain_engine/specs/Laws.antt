@@ -5,7 +5,7 @@ use Rattle.byte_ends.specs.Ends.{Fed, Drained, Takes}
 use Rattle.byte_ends.specs.Writes.{WritesAll}
 use Rattle.geojson_types.specs.declared.layer.FeatureSet.TheVariants.{Many}
 use Rattle.build_meaning.specs.Expected.{kept_line}
-use Rattle.build_meaning.specs.Laws.{whole_line}
+use Rattle.build_meaning.specs.BuiltLaws.{whole_line}
 use Rattle.build_meaning.specs.Layers.{layers_of, named_lines_and_rings}
 use Rattle.layer_topology.specs.declared.level.Level.TheVariants.{Fixed}
 use Rattle.layer_topology.specs.Guarded.{is_at_once}
@@ -18,8 +18,8 @@ use Rattle.mapchain_engine.specs.Geo.{features_text, IsDecoded}
 use Rattle.inputs.specs.Outcomes.{Texts, HaveBytes}
 use Rattle.inputs.specs.Sources.{Sources, Named}
 use Rattle.reports.specs.Summaries.{summary_of}
-use Rattle.simplified_topology.specs.Assembled.{arcs_of_layers}
-use Rattle.simplified_topology.specs.Guarded.{arc_positions}
+use Rattle.build_meaning.specs.Assembled.{arcs_of_layers}
+use Rattle.build_meaning.specs.Guarded.{arc_positions}
 use Rattle.mapchain_engine.specs.Files.{IsSummarised}
 use Rattle.mapchain_engine.specs.Simplified.{IsSimplified}
 

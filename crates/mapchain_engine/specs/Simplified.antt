@@ -12,7 +12,7 @@ use Rattle.layer_topology.specs.GuardedLevels.{chosen_under, threshold_under, Ke
 use Rattle.layer_topology.specs.Levels.{calls_at}
 use Rattle.layer_topology.specs.declared.guards.Guards.{Guards}
 use Rattle.layer_topology.specs.declared.level.Level.{Level}
-use Rattle.simplified_topology.specs.Thresholds.{placed_cells}
+use Rattle.build_meaning.specs.Thresholds.{placed_cells}
 use Rattle.reports.specs.declared.report.Report.{Report}
 use Rattle.reports.specs.Summaries.{report_with}
 use Rattle.topojson_types.specs.Topologies.{Contents}

@@ -3,7 +3,7 @@ ghost use Rattle.std.specs.Prelude.{◌≡◌, ℕ, List, Some, Result, IfOk, If
 ghost use Rattle.inputs.specs.declared.file_fault.FileFault.{FileFault as Fault};
 ghost use Rattle.reports.specs.declared.summary.Summary.{Summary as Counted};
 ghost use Rattle.reports.specs.Summaries.{most_crossings, summary_of, with_crossings};
-ghost use Rattle.simplified_topology.specs.Guarded.{crossings_of};
+ghost use Rattle.build_meaning.specs.Guarded.{crossings_of};
 ghost use Rattle.mapchain_engine.specs.FileOutcomes.{FileHasOutcome, FollowsSummary, summarised_with_crossings};
 ghost use Rattle.mapchain_engine.specs.Files.{FailsToGive, IsCounted};
 

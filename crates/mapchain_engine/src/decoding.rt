@@ -4,18 +4,18 @@ ghost use Rattle.std.specs.List.{AllByRecursion};
 ghost use Rattle.inputs.specs.declared.file_fault.FileFault.{FileFault as Fault};
 ghost use Rattle.topojson_types.specs.Topologies.{object_features};
 ghost use Rattle.topojson_types.specs.LinesAndRings.{IsShapeOption};
-ghost use Rattle.geojson_writer.specs.Decoded.{object_in};
+ghost use Rattle.topojson_writer.specs.Decoded.{object_in};
 ghost use Rattle.mapchain_engine.specs.FileOutcomes.{FileHasOutcome, FollowsText, object_text};
 ghost use Rattle.mapchain_engine.specs.Geo.{features_text, IsDecoded, IsGeoFault, SendsText};
 
 use crate::file_laws::decoded_text_is_utf8;
 use crate::file_reading::read_file;
 use byte_ends::{Drain, Feed, Sink, Source, flush_after};
-use geojson_writer::write_object;
 use inputs::FileFault;
 use std::alloc::Global;
 use std::mem;
 use topojson_types::{TopoObject, Topology, named_object};
+use topojson_writer::write_object;
 
 /// Writes the features of the object and flushes the sink.
 fn send<W: Drain>(

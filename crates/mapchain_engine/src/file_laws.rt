@@ -3,9 +3,9 @@ ghost use Rattle.std.specs.Prelude.{ℕ, List};
 ghost use Rattle.mapchain_engine.specs.FileOutcomes.{object_text, summarised};
 ghost use Rattle.mapchain_engine.specs.FileLaws.{DecodedIsUtf8, HaveFileOutcome, HaveOneFileOutcome};
 
-use geojson_writer::features_text_is_utf8;
 use json_value::read_values_are_well_formed;
 use topojson_meaning::{numbers_stay, texts_stay};
+use topojson_writer::features_text_is_utf8;
 
 /// The bytes of a file have exactly one outcome where `stat` is asked: either the summary, or the fault. What nothing promises is
 /// where and why a malformed text is malformed.

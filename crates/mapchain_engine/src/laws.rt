@@ -12,11 +12,10 @@ ghost use Rattle.mapchain_engine.specs.Laws.{
 };
 
 use crate::build_laws::read_layers_are_taken;
-use build_meaning::zero_loses_nothing;
+use build_meaning::{snapped_are_on, zero_loses_nothing};
 use inputs::{layers_have_one_outcome, read_layers_are_the_outcome};
 use json_reading::one_value;
 use layer_topology::{guarded_at_zero, written_under_law};
-use simplified_topology::snapped_are_on;
 use topojson_meaning::topology_is_valid;
 
 /// What `build` wrote, at any threshold, without guards, `to_geo` reads again: with the name of a layer, answering `Ok`, it writes the text of the

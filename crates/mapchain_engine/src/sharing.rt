@@ -4,15 +4,15 @@ ghost use Rattle.byte_ends.specs.Ends.{saturated};
 ghost use Rattle.effective_area.specs.Shares.{interior_weights, kept_at, share};
 ghost use Rattle.effective_area.specs.Weights.{weights_of};
 ghost use Rattle.geometry.specs.Units.{threshold_limit};
-ghost use Rattle.simplified_topology.specs.Guarded as spec;
-ghost use Rattle.simplified_topology.specs.Thresholds.{reduced_indexes, simplified_contents, simplified_dropped, simplified_removed_count};
+ghost use Rattle.build_meaning.specs.Guarded as spec;
+ghost use Rattle.build_meaning.specs.Thresholds.{reduced_indexes, simplified_contents, simplified_dropped, simplified_removed_count};
 
 use crate::guarding::arc_positions;
+use build_meaning::indexes_reach;
 use byte_ends::Memory;
 use effective_area::{Weight, kept_by_weights};
 use geojson_types::Dropped;
 use layer_topology::weigh_arcs;
-use simplified_topology::indexes_reach;
 use std::alloc::Global;
 use topo_model::Reduces;
 use topojson_types::Topology;

@@ -10,11 +10,11 @@ use Rattle.geometry.specs.Pruning.{lines_and_rings, prune}
 use Rattle.geometry.proofs.Agreement.{agreed}
 use Rattle.geometry.proofs.Composition.{both, composed}
 use Rattle.owned_values.proofs.Elements.{all_weaker}
-use Rattle.simplified_topology.specs.OuterRings.{marked}
-use Rattle.simplified_topology.specs.Protected.{MarkedRefs}
-use Rattle.simplified_topology.specs.Simplified.{feature_pruned, object_pruned, objects_pruned}
-use Rattle.simplified_topology.proofs.Again.{all_hold}
-use Rattle.simplified_topology.proofs.Objects.{objects_then}
+use Rattle.build_meaning.specs.OuterRings.{marked}
+use Rattle.build_meaning.specs.Protected.{MarkedRefs}
+use Rattle.build_meaning.specs.Simplified.{feature_pruned, object_pruned, objects_pruned}
+use Rattle.build_meaning.proofs.Again.{all_hold}
+use Rattle.build_meaning.proofs.Objects.{objects_then}
 use Rattle.topojson_types.specs.declared.feature.TopoFeature.{TopoFeature}
 use Rattle.topojson_types.specs.declared.object.TopoObject.{TopoObject}
 use Rattle.topojson_types.specs.declared.object.TopoObject.TheVariants.{One, Many}

@@ -5,11 +5,11 @@ use Rattle.std.proofs.lemmas.List.{length-map, map-append}
 use Rattle.geometry.specs.Lists.{joined, map_some, tail, then_some}
 use Rattle.geometry.specs.Points.{Point}
 use Rattle.geometry.specs.Pruning.{prune}
-use Rattle.simplified_topology.specs.OuterRings.{marked}
-use Rattle.simplified_topology.specs.Protected.{Protection, no_protection, MarkedRefs, sparing, shape_marked, feature_spared, object_spared, objects_spared}
-use Rattle.simplified_topology.specs.Simplified.{Refs, object_pruned, objects_pruned}
-use Rattle.simplified_topology.proofs.Marks.{left_plain}
-use Rattle.simplified_topology.proofs.Spared.{objects_plain}
+use Rattle.build_meaning.specs.OuterRings.{marked}
+use Rattle.build_meaning.specs.Protected.{Protection, no_protection, MarkedRefs, sparing, shape_marked, feature_spared, object_spared, objects_spared}
+use Rattle.build_meaning.specs.Simplified.{Refs, object_pruned, objects_pruned}
+use Rattle.build_meaning.proofs.Marks.{left_plain}
+use Rattle.build_meaning.proofs.Spared.{objects_plain}
 use Rattle.topojson_types.specs.declared.feature.TopoFeature.{TopoFeature}
 use Rattle.topojson_types.specs.declared.object.TopoObject.{TopoObject}
 use Rattle.topojson_types.specs.declared.object.TopoObject.TheVariants.{One, Many}

@@ -7,7 +7,7 @@ use Rattle.topo_model.specs.Rebuilding.{Rebuilding}
 use Rattle.arc_table.specs.Arcs.{ArcsAndIndexes, arcs_of, index_in, table_of}
 use Rattle.build_meaning.specs.Built.{all_arcs, untrimmed, positions_of}
 use Rattle.build_meaning.specs.Expected.{own_pieces, is_small, kept_line}
-use Rattle.build_meaning.specs.Laws.{AreSound, whole_line}
+use Rattle.build_meaning.specs.BuiltLaws.{AreSound, whole_line}
 use Rattle.build_meaning.specs.Layers.{Named, layers_of, named_lines_and_rings, names_of}
 use Rattle.build_meaning.specs.Objects.{Kept, objects_by}
 use Rattle.build_meaning.specs.Trimming.{is_used, keep_from, trimmed}
@@ -28,14 +28,14 @@ use Rattle.geometry.specs.Points.{Point}
 use Rattle.geometry.specs.Pruning.{prune}
 use Rattle.junctions.specs.Cleaning.{clean, is_short}
 use Rattle.junctions.specs.declared.stroke.Stroke.{Stroke}
-use Rattle.simplified_topology.specs.Assembled.{arcs_of_layers, own_refs, assembled_cause, option_caused, layers_caused, assembled, assembled_dropped, assembled_removed_count}
-use Rattle.simplified_topology.specs.Simplified.{Refs, small_cause, large_refs, feature_pruned, objects_pruned, retained_arcs, retained_whole, simplified_by, EachFromFirstToLast}
-use Rattle.simplified_topology.proofs.Assembled.{contents, kept_by, before_trimming, layers_alike}
-use Rattle.simplified_topology.specs.Protected.{no_protection}
-use Rattle.simplified_topology.proofs.Protected.{unprotected_is_simplified}
-use Rattle.simplified_topology.proofs.Spared.{whole_plain}
-use Rattle.simplified_topology.proofs.Simplified.{IsWholeAtZero, no_small}
-use Rattle.simplified_topology.proofs.ValidRetained.{retained_length}
+use Rattle.build_meaning.specs.Assembled.{arcs_of_layers, own_refs, assembled_cause, option_caused, layers_caused, assembled, assembled_dropped, assembled_removed_count}
+use Rattle.build_meaning.specs.Simplified.{Refs, small_cause, large_refs, feature_pruned, objects_pruned, retained_arcs, retained_whole, simplified_by, EachFromFirstToLast}
+use Rattle.build_meaning.proofs.Assembled.{contents, kept_by, before_trimming, layers_alike}
+use Rattle.build_meaning.specs.Protected.{no_protection}
+use Rattle.build_meaning.proofs.Protected.{unprotected_is_simplified}
+use Rattle.build_meaning.proofs.Spared.{whole_plain}
+use Rattle.build_meaning.proofs.Simplified.{IsWholeAtZero, no_small}
+use Rattle.build_meaning.proofs.ValidRetained.{retained_length}
 use Rattle.linework.specs.Linework.{linework}
 use Rattle.linework.specs.Outlines.{Outline, is_short_outline}
 use Rattle.owned_values.proofs.Elements.{all_weaker}

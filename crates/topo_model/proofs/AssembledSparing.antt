@@ -5,7 +5,7 @@ use Rattle.std.specs.Prelude.{sum, if◌then◌else◌}
 use Rattle.std.proofs.Math.Path.{fun_ext}
 use Rattle.build_meaning.specs.Built.{untrimmed, positions_of}
 use Rattle.build_meaning.specs.Expected.{unless}
-use Rattle.build_meaning.specs.Laws.{AreSound}
+use Rattle.build_meaning.specs.BuiltLaws.{AreSound}
 use Rattle.build_meaning.specs.Layers.{Named, layers_of, features_lines_and_rings, named_lines_and_rings}
 use Rattle.build_meaning.specs.Trimming.{is_used, keep_from, trimmed}
 use Rattle.build_meaning.proofs.Whole.{loses_nothing}
@@ -23,17 +23,17 @@ use Rattle.junctions.specs.Cleaning.{clean, is_short}
 use Rattle.junctions.specs.declared.stroke.Stroke.{Stroke}
 use Rattle.linework.specs.Linework.{linework}
 use Rattle.owned_values.proofs.Elements.{all_left, all_right, all_weaker}
-use Rattle.simplified_topology.specs.Assembled.{arcs_of_layers, own_refs}
-use Rattle.simplified_topology.specs.OuterRings.{outer_rings, marked}
-use Rattle.simplified_topology.specs.Protected.{Protection, greatest_ring, cause_sparing, sparing, shape_marked, feature_spared, objects_spared, spared_whole, spared_by}
-use Rattle.simplified_topology.specs.ProtectedLayers.{greatest_of_layers, layer_shape_marked, drafted_refs, unprotected_cause, feature_sparing, assembled_sparing, option_unspared, assembled_sparing_dropped, assembled_sparing_removed_count}
-use Rattle.simplified_topology.specs.Simplified.{small_cause, large_refs, retained_arcs, EachFromFirstToLast}
-use Rattle.simplified_topology.proofs.Assembled.{contents}
-use Rattle.simplified_topology.proofs.GreatestLeft.{put, ring_among, ring_made}
-use Rattle.simplified_topology.proofs.Marks.{without_mark}
-use Rattle.simplified_topology.proofs.ProtectedLayers.{sparing_of_layers}
-use Rattle.simplified_topology.proofs.RingsAlike.{all_marked}
-use Rattle.simplified_topology.proofs.Simplified.{IsWholeAtZero}
+use Rattle.build_meaning.specs.Assembled.{arcs_of_layers, own_refs}
+use Rattle.build_meaning.specs.OuterRings.{outer_rings, marked}
+use Rattle.build_meaning.specs.Protected.{Protection, greatest_ring, cause_sparing, sparing, shape_marked, feature_spared, objects_spared, spared_whole, spared_by}
+use Rattle.build_meaning.specs.ProtectedLayers.{greatest_of_layers, layer_shape_marked, drafted_refs, unprotected_cause, feature_sparing, assembled_sparing, option_unspared, assembled_sparing_dropped, assembled_sparing_removed_count}
+use Rattle.build_meaning.specs.Simplified.{small_cause, large_refs, retained_arcs, EachFromFirstToLast}
+use Rattle.build_meaning.proofs.Assembled.{contents}
+use Rattle.build_meaning.proofs.GreatestLeft.{put, ring_among, ring_made}
+use Rattle.build_meaning.proofs.Marks.{without_mark}
+use Rattle.build_meaning.proofs.ProtectedLayers.{sparing_of_layers}
+use Rattle.build_meaning.proofs.RingsAlike.{all_marked}
+use Rattle.build_meaning.proofs.Simplified.{IsWholeAtZero}
 use Rattle.topojson_types.specs.declared.feature.TopoFeature.{TopoFeature}
 use Rattle.topojson_types.specs.declared.object.TopoObject.{TopoObject}
 use Rattle.topojson_types.specs.declared.object.TopoObject.TheVariants.{Many}

@@ -10,9 +10,9 @@ use Rattle.geometry.specs.Paths.{Placed, inside_part, of_parts}
 use Rattle.geometry.specs.Points.{Point}
 use Rattle.guarded_meaning.specs.Guards.{is_long}
 use Rattle.owned_values.proofs.Lists.{drop_here}
-use Rattle.simplified_topology.specs.OuterRings.{outer_ring, outer_rings}
-use Rattle.simplified_topology.specs.Protected.{Protection, greater, greatest, enclosed, greatest_ring, protected_of, protected_rings}
-use Rattle.simplified_topology.proofs.Marks.{outer_rings_at}
+use Rattle.build_meaning.specs.OuterRings.{outer_ring, outer_rings}
+use Rattle.build_meaning.specs.Protected.{Protection, greater, greatest, enclosed, greatest_ring, protected_of, protected_rings}
+use Rattle.build_meaning.proofs.Marks.{outer_rings_at}
 use Rattle.topojson_types.specs.declared.feature.TopoFeature.{TopoFeature}
 use Rattle.topojson_types.specs.declared.object.TopoObject.{TopoObject}
 use Rattle.topojson_types.specs.Topologies.{TopoShape, object_features}

@@ -3,7 +3,7 @@ use Rattle.std.proofs.Common.{◌≡◌, ℕ, ℤ, Bool, true, false, cond, ◌|
 use Rattle.arc_table.specs.Arcs.{index_in}
 use Rattle.build_meaning.specs.Built.{all_arcs, kept_refs, untrimmed}
 use Rattle.build_meaning.specs.Expected.{own_pieces, kept_line, unless}
-use Rattle.build_meaning.specs.Laws.{AreSound, whole_line}
+use Rattle.build_meaning.specs.BuiltLaws.{AreSound, whole_line}
 use Rattle.build_meaning.specs.Layers.{Named, named_lines_and_rings}
 use Rattle.build_meaning.specs.Objects.{objects_by}
 use Rattle.build_meaning.specs.Trimming.{is_used}
@@ -14,11 +14,11 @@ use Rattle.geometry.specs.Points.{Point}
 use Rattle.junctions.specs.Cleaning.{clean, is_short}
 use Rattle.junctions.specs.declared.stroke.Stroke.{Stroke}
 use Rattle.owned_values.proofs.Elements.{all_weaker}
-use Rattle.simplified_topology.specs.Assembled.{own_refs}
-use Rattle.simplified_topology.specs.Simplified.{objects_pruned}
-use Rattle.simplified_topology.proofs.Made.{objects_made}
-use Rattle.simplified_topology.proofs.Objects.{objects_replaced}
-use Rattle.simplified_topology.proofs.Simplified.{IsWholeAtZero, no_small}
+use Rattle.build_meaning.specs.Assembled.{own_refs}
+use Rattle.build_meaning.specs.Simplified.{objects_pruned}
+use Rattle.build_meaning.proofs.Made.{objects_made}
+use Rattle.build_meaning.proofs.Objects.{objects_replaced}
+use Rattle.build_meaning.proofs.Simplified.{IsWholeAtZero, no_small}
 use Rattle.topojson_types.specs.Topologies.{objects_lines_and_rings}
 use Rattle.topo_model.specs.ArcUses.{any_uses}
 use Rattle.topo_model.specs.DraftUses.{with_refs}

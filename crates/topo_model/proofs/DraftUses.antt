@@ -11,9 +11,9 @@ use Rattle.geometry.proofs.Cases.{prune-point, prune-points, prune-line, prune-l
 use Rattle.build_meaning.specs.Trimming.{is_used}
 use Rattle.geojson_types.specs.Features.{is_some_list}
 use Rattle.owned_values.proofs.Elements.{all_weaker}
-use Rattle.simplified_topology.specs.Simplified.{Refs, feature_pruned, object_pruned, objects_pruned}
-use Rattle.simplified_topology.proofs.Again.{all_hold}
-use Rattle.simplified_topology.proofs.Objects.{objects_then, objects_replaced}
+use Rattle.build_meaning.specs.Simplified.{Refs, feature_pruned, object_pruned, objects_pruned}
+use Rattle.build_meaning.proofs.Again.{all_hold}
+use Rattle.build_meaning.proofs.Objects.{objects_then, objects_replaced}
 use Rattle.topojson_types.specs.declared.feature.TopoFeature.{TopoFeature}
 use Rattle.topojson_types.specs.declared.object.TopoObject.{TopoObject}
 use Rattle.topojson_types.specs.declared.object.TopoObject.TheVariants.{Many}

@@ -11,9 +11,9 @@ use Rattle.geometry.specs.Paths.{Placed, of_parts}
 use Rattle.geometry.specs.Points.{Point}
 use Rattle.geometry.proofs.Cases.{drop_causes-line, drop_causes-lines, drop_causes-area, drop_causes-areas, drop_causes-group, drop_causes_at}
 use Rattle.junctions.specs.Gathering.{part_address}
-use Rattle.simplified_topology.specs.OuterRings.{into_part, ends_here, along, unmarked, rings_marked, marked}
-use Rattle.simplified_topology.specs.Protected.{Protection, no_protection, cause_sparing, shape_marked}
-use Rattle.simplified_topology.proofs.Marks.{causes_plain, marked_at, marked-line, marked-lines, marked-area, marked-areas, marked-group}
+use Rattle.build_meaning.specs.OuterRings.{into_part, ends_here, along, unmarked, rings_marked, marked}
+use Rattle.build_meaning.specs.Protected.{Protection, no_protection, cause_sparing, shape_marked}
+use Rattle.build_meaning.proofs.Marks.{causes_plain, marked_at, marked-line, marked-lines, marked-area, marked-areas, marked-group}
 use Rattle.topojson_types.specs.declared.feature.TopoFeature.{TopoFeature}
 use Rattle.topojson_types.specs.Topologies.{TopoShape, object_features}
 use Rattle.topo_model.specs.Along.{Ways, AreWays}

@@ -3,7 +3,7 @@ use Rattle.std.proofs.Common.{arith, ◌≡◌, ℕ, ◌+◌, ◌<◌, ◌≤◌
 use Rattle.std.proofs.lemmas.List.{drop_all}
 use Rattle.geometry.specs.Points.{Point}
 use Rattle.owned_values.proofs.Lists.{drop_here}
-use Rattle.simplified_topology.specs.Simplified.{retained, retained_arcs, EachFromFirstToLast}
+use Rattle.build_meaning.specs.Simplified.{retained, retained_arcs, EachFromFirstToLast}
 
 pub arcs_more : {K : Type 0} (numbers : K → List ℕ) (ks : List K) (arcs made new whole : List (List Point)) (i : ℕ) (k : K) (a p : List Point) → i < length ks → length ks ≡ length arcs → k ≡ get_or ks i k → a ≡ get_or arcs i a
     → made ++ retained_arcs (map numbers (drop i ks)) (drop i arcs) ≡ whole → p ≡ retained (numbers k) a → new ≡ made ++ p ∷ [] → new ++ retained_arcs (map numbers (drop (i + 1) ks)) (drop (i + 1) arcs) ≡ whole

@@ -6,9 +6,9 @@ use Rattle.topo_model.proofs.Passed.{at_got}
 use Rattle.geometry.specs.Joins.{at}
 use Rattle.geometry.specs.Lists.{some_of}
 use Rattle.geometry.specs.Points.{Point}
-use Rattle.simplified_topology.specs.Simplified.{retained_arcs}
-use Rattle.simplified_topology.specs.Thresholds.{placed_cells}
-use Rattle.simplified_topology.proofs.ValidRetained.{all_retained}
+use Rattle.build_meaning.specs.Simplified.{retained_arcs}
+use Rattle.build_meaning.specs.Thresholds.{placed_cells}
+use Rattle.build_meaning.proofs.ValidRetained.{all_retained}
 use Rattle.owned_values.proofs.Elements.{all_weaker}
 use Rattle.topojson_types.specs.declared.transform.Transform.{Transform}
 use Rattle.topojson_types.specs.Decoding.{placed_arcs}

@@ -6,10 +6,10 @@ use Rattle.geometry.specs.declared.shape.Geometry.TheVariants as g
 use Rattle.geometry.specs.Lists.{map_some, with_some, some_of, unless_empty}
 use Rattle.geometry.specs.Points.{Point}
 use Rattle.geometry.specs.Pruning.{area_by, prune}
-use Rattle.simplified_topology.specs.OuterRings.{into_part, ends_here, unmarked, along, marked, rings_marked}
-use Rattle.simplified_topology.specs.Protected.{sparing}
-use Rattle.simplified_topology.specs.Simplified.{Refs}
-use Rattle.simplified_topology.proofs.Marks.{some_made, left-point, left-points, left-line, left-lines, left-area, left-areas, left-group}
+use Rattle.build_meaning.specs.OuterRings.{into_part, ends_here, unmarked, along, marked, rings_marked}
+use Rattle.build_meaning.specs.Protected.{sparing}
+use Rattle.build_meaning.specs.Simplified.{Refs}
+use Rattle.build_meaning.proofs.Marks.{some_made, left-point, left-points, left-line, left-lines, left-area, left-areas, left-group}
 use Rattle.topojson_types.specs.Topologies.{TopoShape}
 use Rattle.topo_model.proofs.KeptParts.{some_more}
 

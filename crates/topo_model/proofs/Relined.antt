@@ -5,9 +5,9 @@ use Rattle.geometry.specs.declared.address.Cause.{Cause}
 use Rattle.geometry.specs.DropCauses.{drop_causes}
 use Rattle.geometry.specs.Points.{Point}
 use Rattle.geometry.specs.Pruning.{prune}
-use Rattle.simplified_topology.specs.Simplified.{Refs}
-use Rattle.simplified_topology.proofs.Marks.{left_plain, causes_plain}
-use Rattle.simplified_topology.proofs.Spared.{by_refs}
+use Rattle.build_meaning.specs.Simplified.{Refs}
+use Rattle.build_meaning.proofs.Marks.{left_plain, causes_plain}
+use Rattle.build_meaning.proofs.Spared.{by_refs}
 use Rattle.topo_model.specs.Drafts.{RefsOf, relined}
 use Rattle.topo_model.proofs.RelinedMarks.{pruned_once as marked_pruned, dropped_once as marked_dropped}
 

@@ -15,9 +15,9 @@ use Rattle.geometry.specs.Pruning.{area_by, prune}
 use Rattle.geometry.proofs.ByKind.{AtKinds, at_kinds}
 use Rattle.geometry.proofs.Cases.{drop_causes_at}
 use Rattle.geometry.proofs.Induction.{by_kinds}
-use Rattle.simplified_topology.specs.OuterRings.{outer_ring, outer_rings, into_part, ends_here, along, unmarked, rings_marked, marked}
-use Rattle.simplified_topology.proofs.GreatestLeft.{put}
-use Rattle.simplified_topology.proofs.Marks.{outer_rings_at, some_made, marked_at, marked-line, marked-lines, marked-area, marked-areas, marked-group, left-point, left-points, left-line, left-lines, left-area, left-areas, left-group}
+use Rattle.build_meaning.specs.OuterRings.{outer_ring, outer_rings, into_part, ends_here, along, unmarked, rings_marked, marked}
+use Rattle.build_meaning.proofs.GreatestLeft.{put}
+use Rattle.build_meaning.proofs.Marks.{outer_rings_at, some_made, marked_at, marked-line, marked-lines, marked-area, marked-areas, marked-group, left-point, left-points, left-line, left-lines, left-area, left-areas, left-group}
 use Rattle.topojson_types.specs.Topologies.{TopoShape}
 use Rattle.topo_model.specs.Drafts.{RefsOf, relined_step, relined}
 

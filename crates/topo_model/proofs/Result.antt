@@ -19,14 +19,14 @@ use Rattle.geometry.specs.Lists.{map_some}
 use Rattle.geometry.proofs.Omitted.{drop_causes_agree}
 use Rattle.geojson_types.specs.Features.{is_some_list}
 use Rattle.geometry.specs.Points.{Point, IsPosition}
-use Rattle.simplified_topology.specs.OuterRings.{marked}
-use Rattle.simplified_topology.specs.Protected.{Protection, MarkedRefs, cause_sparing, sparing, objects_spared, spared_whole, spared_by, option_unprotected, spared_dropped, spared_removed_count}
-use Rattle.simplified_topology.specs.Simplified.{Refs, large_refs, object_pruned, objects_pruned, retained_arcs, EachFromFirstToLast, small_cause}
-use Rattle.simplified_topology.proofs.Again.{all_hold}
-use Rattle.simplified_topology.proofs.Marks.{lines_and_rings_back, without_mark}
-use Rattle.simplified_topology.proofs.Objects.{objects_then}
-use Rattle.simplified_topology.proofs.Spared.{Leaves, objects_left as spared_left}
-use Rattle.simplified_topology.proofs.ValidRetained.{retained_length}
+use Rattle.build_meaning.specs.OuterRings.{marked}
+use Rattle.build_meaning.specs.Protected.{Protection, MarkedRefs, cause_sparing, sparing, objects_spared, spared_whole, spared_by, option_unprotected, spared_dropped, spared_removed_count}
+use Rattle.build_meaning.specs.Simplified.{Refs, large_refs, object_pruned, objects_pruned, retained_arcs, EachFromFirstToLast, small_cause}
+use Rattle.build_meaning.proofs.Again.{all_hold}
+use Rattle.build_meaning.proofs.Marks.{lines_and_rings_back, without_mark}
+use Rattle.build_meaning.proofs.Objects.{objects_then}
+use Rattle.build_meaning.proofs.Spared.{Leaves, objects_left as spared_left}
+use Rattle.build_meaning.proofs.ValidRetained.{retained_length}
 use Rattle.owned_values.proofs.Elements.{all_append, all_two, all_of_map, all_weaker}
 use Rattle.topojson_types.proofs.Standing.{lines_and_rings_full}
 use Rattle.topojson_types.specs.declared.feature.TopoFeature.{TopoFeature}

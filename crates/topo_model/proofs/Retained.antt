@@ -2,7 +2,7 @@
 use Rattle.std.proofs.Common.{◌≡◌, ℕ, List, [], ◌∷◌, ◌++◌, map, drop, length, refl, sym, ap, ◌∙◌}
 use Rattle.std.proofs.lemmas.List.{drop-map}
 use Rattle.geometry.specs.Points.{Point}
-use Rattle.simplified_topology.specs.Simplified.{retained, retained_arcs}
+use Rattle.build_meaning.specs.Simplified.{retained, retained_arcs}
 use Rattle.topo_model.proofs.Chosen.{following, no_more, one_longer}
 
 -- ---- numbers that each arc has for itself

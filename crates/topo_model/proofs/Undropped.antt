@@ -17,9 +17,9 @@ use Rattle.geometry.specs.Pruning.{area_by, prune}
 use Rattle.geometry.proofs.Induction.{by_kinds}
 use Rattle.owned_values.proofs.Elements.{all_weaker, all_two, all_passed}
 use Rattle.owned_values.proofs.Lists.{made_of_some}
-use Rattle.simplified_topology.specs.OuterRings.{into_part, ends_here, along, marked, rings_marked}
-use Rattle.simplified_topology.specs.Protected.{cause_sparing, sparing}
-use Rattle.simplified_topology.specs.Simplified.{Refs, large_refs}
+use Rattle.build_meaning.specs.OuterRings.{into_part, ends_here, along, marked, rings_marked}
+use Rattle.build_meaning.specs.Protected.{cause_sparing, sparing}
+use Rattle.build_meaning.specs.Simplified.{Refs, large_refs}
 use Rattle.topojson_types.specs.declared.feature.TopoFeature.{TopoFeature}
 use Rattle.topojson_types.specs.Topologies.{TopoShape}
 use Rattle.topojson_types.specs.Validity.{is_full, is_full_option}

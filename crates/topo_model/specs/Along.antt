@@ -4,9 +4,9 @@ use Rattle.std.specs.Prelude.{◌≡◌, ◌⊎◌, ℕ, List, [], ◌∷◌, Op
 use Rattle.geometry.specs.Lists.{tail, then_some}
 use Rattle.geometry.specs.Points.{Point}
 use Rattle.geometry.specs.Pruning.{prune}
-use Rattle.simplified_topology.specs.OuterRings.{marked}
-use Rattle.simplified_topology.specs.Protected.{Protection, no_protection, MarkedRefs, sparing}
-use Rattle.simplified_topology.specs.Simplified.{Refs, large_refs}
+use Rattle.build_meaning.specs.OuterRings.{marked}
+use Rattle.build_meaning.specs.Protected.{Protection, no_protection, MarkedRefs, sparing}
+use Rattle.build_meaning.specs.Simplified.{Refs, large_refs}
 use Rattle.topojson_types.specs.declared.feature.TopoFeature.{TopoFeature}
 use Rattle.topojson_types.specs.declared.object.TopoObject.{TopoObject}
 use Rattle.topojson_types.specs.declared.object.TopoObject.TheVariants.{One, Many}

@@ -5,7 +5,7 @@ use Rattle.geojson_types.specs.Features.{is_some_list}
 use Rattle.geometry.specs.Joins.{AreInRange}
 use Rattle.topo_model.specs.Marks.{names_arc}
 use Rattle.topo_model.specs.Renumbering.{renumbered_by}
-use Rattle.simplified_topology.specs.Simplified.{Refs}
+use Rattle.build_meaning.specs.Simplified.{Refs}
 use Rattle.topojson_types.specs.declared.object.TopoObject.{TopoObject}
 use Rattle.topojson_types.specs.Topologies.{objects_lines_and_rings}
 

@@ -1,12 +1,12 @@
 -- What is true of the arcs that a draft uses.
 use Rattle.std.specs.Prelude.{◌≡◌, ℕ}
 use Rattle.build_meaning.specs.Built.{untrimmed}
-use Rattle.build_meaning.specs.Laws.{AreSound}
+use Rattle.build_meaning.specs.BuiltLaws.{AreSound}
 use Rattle.build_meaning.specs.Layers.{Named, layers_of}
 use Rattle.build_meaning.specs.Trimming.{is_used}
 use Rattle.linework.specs.Linework.{linework}
-use Rattle.simplified_topology.specs.Assembled.{own_refs}
-use Rattle.simplified_topology.specs.Simplified.{objects_pruned}
+use Rattle.build_meaning.specs.Assembled.{own_refs}
+use Rattle.build_meaning.specs.Simplified.{objects_pruned}
 use Rattle.topo_model.specs.DraftUses.{with_refs}
 use Rattle.topo_model.specs.Drafts.{objects_drafted}
 

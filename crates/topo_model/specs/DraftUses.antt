@@ -4,7 +4,7 @@ use Rattle.std.specs.Prelude.{ℕ, ℤ, Bool, false, List, [], ◌∷◌, Option
 use Rattle.std.specs.List.{list_any}
 use Rattle.geometry.specs.Lists.{then_some}
 use Rattle.geometry.specs.Pruning.{prune, option_lines_and_rings}
-use Rattle.simplified_topology.specs.Simplified.{Refs}
+use Rattle.build_meaning.specs.Simplified.{Refs}
 use Rattle.topojson_types.specs.Topologies.{TopoShape}
 use Rattle.topo_model.specs.ArcUses.{any_uses}
 use Rattle.topo_model.specs.Marks.{names_arc}

@@ -7,9 +7,9 @@ use Rattle.geometry.specs.declared.address.Cause.TheVariants.{Collapsed}
 use Rattle.geometry.specs.declared.address.Dropped.{Dropped}
 use Rattle.geometry.specs.DropCauses.{drop_causes, dropped_of_layer, dropped_of_layers}
 use Rattle.geometry.specs.Paths.{Placed}
-use Rattle.simplified_topology.specs.OuterRings.{marked}
-use Rattle.simplified_topology.specs.Protected.{cause_sparing}
-use Rattle.simplified_topology.specs.Simplified.{small_cause}
+use Rattle.build_meaning.specs.OuterRings.{marked}
+use Rattle.build_meaning.specs.Protected.{cause_sparing}
+use Rattle.build_meaning.specs.Simplified.{small_cause}
 use Rattle.topojson_types.specs.declared.feature.TopoFeature.{TopoFeature}
 use Rattle.topojson_types.specs.declared.object.TopoObject.{TopoObject}
 use Rattle.topojson_types.specs.Topologies.{TopoShape, object_features}

@@ -1,12 +1,12 @@
 -- Arcs of which only some positions are left.
 use Rattle.std.specs.Prelude.{◌≡◌, ℕ, List, Option, length, map}
-use Rattle.build_meaning.specs.Laws.{AreSound}
+use Rattle.build_meaning.specs.BuiltLaws.{AreSound}
 use Rattle.build_meaning.specs.Layers.{Named, layers_of, names_of}
 use Rattle.geometry.specs.Points.{Point}
 use Rattle.linework.specs.Linework.{linework}
-use Rattle.simplified_topology.specs.Assembled.{arcs_of_layers, own_refs}
-use Rattle.simplified_topology.specs.Protected.{greatest_ring}
-use Rattle.simplified_topology.specs.Simplified.{EachFromFirstToLast, retained_arcs}
+use Rattle.build_meaning.specs.Assembled.{arcs_of_layers, own_refs}
+use Rattle.build_meaning.specs.Protected.{greatest_ring}
+use Rattle.build_meaning.specs.Simplified.{EachFromFirstToLast, retained_arcs}
 use Rattle.topojson_types.specs.declared.object.TopoObject.{TopoObject}
 use Rattle.topojson_types.specs.declared.transform.Transform.{Transform}
 use Rattle.topojson_types.specs.Validity.{AreDistinct, IsTopology}

@@ -1,7 +1,7 @@
 -- The ways to the protected rings of features.
 use Rattle.std.specs.Prelude.{ℕ, List, Option, map}
 use Rattle.geometry.specs.Lists.{joined, map_some, then_some}
-use Rattle.simplified_topology.specs.Protected.{Protection}
+use Rattle.build_meaning.specs.Protected.{Protection}
 use Rattle.topojson_types.specs.declared.feature.TopoFeature.{TopoFeature}
 use Rattle.topojson_types.specs.declared.object.TopoObject.{TopoObject}
 use Rattle.topojson_types.specs.Topologies.{object_features}

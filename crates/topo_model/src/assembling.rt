@@ -1,13 +1,13 @@
 // The topology of layers over reduced arcs.
 ghost use Rattle.std.specs.Prelude.{◌≡◌, ◌<◌, ◌≤◌, ◌^◌, ℕ, IfOk, List, None, length, map};
 ghost use Rattle.arc_table.specs.Arcs.{table_of};
-ghost use Rattle.build_meaning.specs.Laws.{AreSound};
+ghost use Rattle.build_meaning.specs.BuiltLaws.{AreSound};
 ghost use Rattle.build_meaning.specs.Layers.{Named, layers_of, names_of};
+ghost use Rattle.build_meaning.specs.Assembled.{arcs_of_layers, assembled, assembled_dropped, assembled_removed_count};
+ghost use Rattle.build_meaning.specs.Simplified.{EachFromFirstToLast, retained_arcs};
 ghost use Rattle.byte_ends.specs.Ends.{saturated};
 ghost use Rattle.cutter.specs.Slices.{split_of};
 ghost use Rattle.geometry.specs.Units.{threshold_limit};
-ghost use Rattle.simplified_topology.specs.Assembled.{arcs_of_layers, assembled, assembled_dropped, assembled_removed_count};
-ghost use Rattle.simplified_topology.specs.Simplified.{EachFromFirstToLast, retained_arcs};
 ghost use Rattle.linework.specs.Linework.{linework};
 ghost use Rattle.topojson_types.specs.Validity.{AreDistinct};
 ghost use Rattle.topo_model.specs.Retaining.{IsDraft, IsDraftOf};
@@ -18,12 +18,12 @@ use crate::given_numbers::positions_of_all;
 use crate::position_counting::position_counts;
 use crate::taking_apart::take_apart;
 use arc_table::Table;
+use build_meaning::assembled_is_valid;
 use elimination_meaning::{ends_stay, nothing_is_new, zero_law};
 use geojson_types::{Dropped, Layer};
 use json_value::{Items, OwnText};
 use linework::lines_of_outlines;
 use owned_values::Memory;
-use simplified_topology::assembled_is_valid;
 use std::alloc::Global;
 use topojson_types::{Cell, TopoObject, Topology};
 

@@ -1,6 +1,6 @@
 // Which lines and rings of a topology stay, and with which arc indexes.
 ghost use Rattle.std.specs.Prelude.{◌≡◌};
-ghost use Rattle.simplified_topology.specs.Simplified.{large_refs};
+ghost use Rattle.build_meaning.specs.Simplified.{large_refs};
 ghost use Rattle.topo_model.specs.ArcUses.{renumbered_refs};
 
 use crate::pruning::Keeps;

@@ -2,7 +2,7 @@
 ghost use Rattle.std.specs.Prelude.{◌≡◌, IfOk, Some};
 ghost use Rattle.std.specs.List.{list_any};
 ghost use Rattle.build_meaning.specs.Trimming.{is_used};
-ghost use Rattle.simplified_topology.specs.Simplified.{object_pruned, objects_pruned};
+ghost use Rattle.build_meaning.specs.Simplified.{object_pruned, objects_pruned};
 ghost use Rattle.topojson_types.specs.Topologies.{features_lines_and_rings, object_features};
 ghost use Rattle.topo_model.specs.ArcUses.{any_uses};
 ghost use Rattle.topo_model.specs.DraftUses.{area_uses, shape_uses, with_refs};

@@ -5,8 +5,8 @@ ghost use Rattle.geometry.specs.Lists.{map_some};
 ghost use Rattle.geometry.specs.Paths.{of_parts};
 ghost use Rattle.topo_model.specs.Places.{dropped_at};
 ghost use Rattle.topo_model.specs.Drops.{draft_cause, shape_drops};
-ghost use Rattle.simplified_topology.specs.OuterRings.{along, ends_here, marked, rings_marked};
-ghost use Rattle.simplified_topology.specs.Protected.{cause_sparing};
+ghost use Rattle.build_meaning.specs.OuterRings.{along, ends_here, marked, rings_marked};
+ghost use Rattle.build_meaning.specs.Protected.{cause_sparing};
 
 use crate::places::{Place, add_here, add_part, hole_cause};
 use crate::rebuilding::Rebuilding;

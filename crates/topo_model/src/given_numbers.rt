@@ -1,6 +1,6 @@
 // Arcs of which the positions stay whose numbers are given for all arcs at once.
 ghost use Rattle.std.specs.Prelude.{◌≡◌, IfOk, length, map};
-ghost use Rattle.simplified_topology.specs.Simplified.{retained_arcs};
+ghost use Rattle.build_meaning.specs.Simplified.{retained_arcs};
 
 use crate::retaining::{retained_cells, retained_positions};
 use geojson_types::Position;

@@ -1,8 +1,8 @@
 // Objects without the lines and rings that are small, which are found and left out in one walk.
 ghost use Rattle.std.specs.Prelude.{◌≡◌, ◌++◌, IfOk, OnOk, map};
 ghost use Rattle.geometry.specs.Lists.{map_some};
-ghost use Rattle.simplified_topology.specs.Protected.{sparing};
-ghost use Rattle.simplified_topology.specs.Simplified.{large_refs};
+ghost use Rattle.build_meaning.specs.Protected.{sparing};
+ghost use Rattle.build_meaning.specs.Simplified.{large_refs};
 ghost use Rattle.topojson_types.specs.Topologies.{object_features};
 ghost use Rattle.topo_model.specs.Along.{by_ways, feature_along, large_along, object_along, ways_after};
 ghost use Rattle.topo_model.specs.Drops.{object_drops, objects_drops, shape_drops};

@@ -5,7 +5,7 @@
 //! an arc is made of it alone (`retained_positions`, `retained_cells`), so that it can be freed before the next is reduced; `assemble` and
 //! `Reduces::reduce` are for who has the numbers of all arcs at once. Where in each feature a ring is protected, it is named by the way to its
 //! polygon, and stays (`reassemble_sparing`, `assemble_draft_sparing`); where none is, no ways are given. `rings_to_stay` finds the rings of a
-//! topology that are protected. It stands on `simplified_topology`, which says what topology that is and when it is what is built of the
+//! topology that are protected. It stands on `build_meaning`, which says what topology that is and when it is what is built of the
 //! layers, and on `arc_table`. The layers above use the contracts of `take_apart`, `filled`, `assemble_draft` and of `reassemble`, and put cells
 //! in the place of positions by `prune_objects`.
 #![tactic(auto)]

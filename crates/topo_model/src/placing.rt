@@ -2,7 +2,7 @@
 ghost use Rattle.std.specs.Prelude.{◌≡◌, IfOk};
 ghost use Rattle.std.specs.List.{AllByRecursion};
 ghost use Rattle.std.specs.Option.{option_copied};
-ghost use Rattle.simplified_topology.specs.Thresholds.{placed_cells as all_cells};
+ghost use Rattle.build_meaning.specs.Thresholds.{placed_cells as all_cells};
 ghost use Rattle.topojson_types.specs.Decoding.{placed_arcs as all_placed};
 ghost use Rattle.topojson_types.specs.Validity.{IsPlace};
 

@@ -6,8 +6,8 @@ ghost use Rattle.geometry.specs.declared.shape.Geometry.TheVariants as kind;
 ghost use Rattle.geometry.specs.Lists.{map_some, some_of, then_some, unless_empty};
 ghost use Rattle.geometry.specs.Points.{Point};
 ghost use Rattle.geometry.specs.Pruning.{area_by, prune};
-ghost use Rattle.simplified_topology.specs.OuterRings.{along, ends_here, marked, rings_marked};
-ghost use Rattle.simplified_topology.specs.Protected.{sparing};
+ghost use Rattle.build_meaning.specs.OuterRings.{along, ends_here, marked, rings_marked};
+ghost use Rattle.build_meaning.specs.Protected.{sparing};
 ghost use Rattle.topo_model.specs.Along.{feature_placed, feature_placed_along, object_placed, objects_placed};
 
 use crate::way_steps::{ends_here, into_part};

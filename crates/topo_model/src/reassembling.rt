@@ -5,17 +5,17 @@ ghost use Rattle.byte_ends.specs.Ends.{saturated};
 ghost use Rattle.geometry.specs.Lists.{map_some};
 ghost use Rattle.geometry.specs.Points.{Point};
 ghost use Rattle.geometry.specs.Units.{threshold_limit};
-ghost use Rattle.simplified_topology.specs.Protected.{Protection, spared_by, spared_dropped, spared_removed_count};
-ghost use Rattle.simplified_topology.specs.Simplified.{dropped_by, removed_count_by, retained_arcs, simplified_by};
+ghost use Rattle.build_meaning.specs.Protected.{Protection, spared_by, spared_dropped, spared_removed_count};
+ghost use Rattle.build_meaning.specs.Simplified.{dropped_by, removed_count_by, retained_arcs, simplified_by};
 ghost use Rattle.topo_model.specs.Along.{AreWays, Protect};
 ghost use Rattle.topo_model.specs.Parts.{contents};
 ghost use Rattle.topo_model.specs.Retaining.{AreRetainedOf};
 
 use crate::finishing::{Finished, finish};
+use build_meaning::{spared_is_valid, unprotected_is_simplified};
 use geojson_types::Dropped;
 use json_value::{Items, OwnText};
 use owned_values::Memory;
-use simplified_topology::{spared_is_valid, unprotected_is_simplified};
 use std::alloc::Global;
 use topojson_types::{Cell, TopoObject, Topology, Transform};
 

@@ -3,17 +3,17 @@ ghost use Rattle.std.specs.Prelude.{◌≡◌, ◌≤◌, IfOk, map};
 ghost use Rattle.byte_ends.specs.Ends.{saturated};
 ghost use Rattle.geometry.specs.Lists.{map_some};
 ghost use Rattle.geometry.specs.Units.{threshold_limit};
-ghost use Rattle.simplified_topology.specs.Protected.{Protection, spared_by, spared_dropped, spared_removed_count};
-ghost use Rattle.simplified_topology.specs.Simplified.{EachFromFirstToLast, dropped_by, simplified_by, removed_count_by};
+ghost use Rattle.build_meaning.specs.Protected.{Protection, spared_by, spared_dropped, spared_removed_count};
+ghost use Rattle.build_meaning.specs.Simplified.{EachFromFirstToLast, dropped_by, simplified_by, removed_count_by};
 ghost use Rattle.topojson_types.specs.Topologies.{Contents};
 ghost use Rattle.topo_model.specs.Along.{AreWays, Protect};
 
 use crate::given_numbers::cells_of_all;
 use crate::position_counting::position_counts;
 use crate::reassembling::reassemble_sparing;
+use build_meaning::unprotected_is_simplified;
 use geojson_types::Dropped;
 use owned_values::Memory;
-use simplified_topology::unprotected_is_simplified;
 use std::alloc::Global;
 use topojson_types::Topology;
 

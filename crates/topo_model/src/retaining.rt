@@ -1,6 +1,6 @@
 // Arcs of which only some positions stay.
 ghost use Rattle.std.specs.Prelude.{◌≡◌, IfOk};
-ghost use Rattle.simplified_topology.specs.Simplified.{retained};
+ghost use Rattle.build_meaning.specs.Simplified.{retained};
 
 use geojson_types::Position;
 use json_value::Items;

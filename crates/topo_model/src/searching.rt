@@ -4,8 +4,8 @@ ghost use Rattle.std.specs.List.{AllByRecursion};
 ghost use Rattle.geometry.specs.Lists.{map_some, then_some};
 ghost use Rattle.geometry.specs.Paths.{of_parts};
 ghost use Rattle.geometry.specs.Points.{IsPosition};
-ghost use Rattle.simplified_topology.specs.OuterRings.{outer_ring, outer_rings};
-ghost use Rattle.simplified_topology.specs.Protected.{greatest_ring};
+ghost use Rattle.build_meaning.specs.OuterRings.{outer_ring, outer_rings};
+ghost use Rattle.build_meaning.specs.Protected.{greatest_ring};
 ghost use Rattle.topo_model.specs.Searching.{all_met, at_way, encloses_less as is_less, met};
 
 use crate::enclosing::ring_sum;

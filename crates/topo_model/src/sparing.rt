@@ -1,22 +1,22 @@
 // The topology of layers over reduced arcs, where in each feature the ring that encloses most is protected.
 ghost use Rattle.std.specs.Prelude.{◌≡◌, ◌<◌, ◌≤◌, ◌^◌, ℕ, IfOk, List, None, length, map};
 ghost use Rattle.build_meaning.specs.Layers.{Named};
+ghost use Rattle.build_meaning.specs.Assembled.{arcs_of_layers};
+ghost use Rattle.build_meaning.specs.Protected.{greatest_ring};
+ghost use Rattle.build_meaning.specs.ProtectedLayers.{assembled_sparing, assembled_sparing_dropped, assembled_sparing_removed_count};
+ghost use Rattle.build_meaning.specs.Simplified.{retained_arcs};
 ghost use Rattle.byte_ends.specs.Ends.{saturated};
 ghost use Rattle.geometry.specs.Lists.{map_some};
 ghost use Rattle.geometry.specs.Units.{threshold_limit};
-ghost use Rattle.simplified_topology.specs.Assembled.{arcs_of_layers};
-ghost use Rattle.simplified_topology.specs.Protected.{greatest_ring};
-ghost use Rattle.simplified_topology.specs.ProtectedLayers.{assembled_sparing, assembled_sparing_dropped, assembled_sparing_removed_count};
-ghost use Rattle.simplified_topology.specs.Simplified.{retained_arcs};
 ghost use Rattle.topo_model.specs.Retaining.{IsDraftOf, IsSparedDraft};
 ghost use Rattle.topo_model.specs.Ways.{ways_of};
 
 use crate::finishing::{Finished, finish};
+use build_meaning::assembled_sparing_is_valid;
 use elimination_meaning::{ends_stay, nothing_is_new, zero_law};
 use geojson_types::Dropped;
 use json_value::{Items, OwnText};
 use owned_values::Memory;
-use simplified_topology::assembled_sparing_is_valid;
 use std::alloc::Global;
 use topojson_types::{Cell, TopoObject, Topology};
 

@@ -1,7 +1,7 @@
 // The ways to the rings of features that stay whatever is left of them, and the steps along them.
 ghost use Rattle.std.specs.Prelude.{◌≡◌, map};
 ghost use Rattle.geometry.specs.Lists.{map_some, tail};
-ghost use Rattle.simplified_topology.specs.OuterRings.{ends_here, into_part};
+ghost use Rattle.build_meaning.specs.OuterRings.{ends_here, into_part};
 ghost use Rattle.topo_model.specs.Along.{first_way};
 
 use std::marker::Model;

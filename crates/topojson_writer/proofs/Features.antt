@@ -10,7 +10,7 @@ use Rattle.geojson_types.specs.declared.id.Id.{Id}
 use Rattle.topojson_types.specs.declared.feature.TopoFeature.{TopoFeature}
 use Rattle.topojson_types.specs.Values.{Members, Geometrical, geometrical_option, id_value, id_members, properties_members, feature_with, feature_value}
 use Rattle.topojson_writer.specs.Texts.{type_text, members_text}
-use Rattle.topojson_writer.proofs.Objects.{member-alone, members-append, members-none, object-text, type-null}
+use Rattle.topojson_writer.proofs.GeometryObjects.{member-alone, members-append, members-none, object-text, type-null}
 
 -- ---- identifier and properties
 

@@ -1,6 +1,14 @@
+pub mod Elements
+pub mod FeatureParts
+pub mod FeatureRows
 pub mod Features
+pub mod GeometryObjects
 pub mod Objects
-pub mod Rows
+pub mod Rules
+pub mod ShapeParts
 pub mod Shapes
+pub mod Shown
+pub mod TopologyRows
 pub mod Transforms
 pub mod Whole
+pub mod Written

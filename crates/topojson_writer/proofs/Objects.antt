@@ -1,45 +1,39 @@
--- The text of an object that has a type and further members.
-use Rattle.std.proofs.Common.{◌≡◌, ℕ, false, List, [], ◌∷◌, ◌++◌, map, refl, sym, ap, ◌∙◌, append_assoc}
+-- The text of an object of fixed members, part by part.
+use Rattle.std.proofs.Common.{◌≡◌, ℕ, Bool, true, false, List, [], ◌∷◌, ◌++◌, map, refl, ap, ◌∙◌, append_assoc}
 use Rattle.std.specs.Prelude.{codes}
-use Rattle.std.proofs.lemmas.List.{append-nil}
-use Rattle.owned_values.specs.Commas.{with_commas}
+use Rattle.owned_values.specs.Commas.{comma_unless, with_commas}
+use Rattle.json_writer.proofs.Lists.{list_left}
 use Rattle.json_value.specs.declared.json.Json.{Json}
 use Rattle.json_value.specs.declared.json.Json.TheVariants as j
-use Rattle.json_value.specs.Text.{json_text, name_text, escaped_byte}
-use Rattle.json_value.proofs.Texts.{text-null, text-object, one_member}
-use Rattle.topojson_types.specs.Values.{Members, Geometrical, inner_value}
-use Rattle.topojson_writer.specs.Texts.{type_text, members_text}
+use Rattle.json_value.specs.Text.{json_text, quoted, escaped_byte}
+use Rattle.json_value.proofs.Texts.{text-text, text-object, one_member}
 
-pub members-none : members_text [] ≡ []
-unfolding members_text
-members-none = refl
+-- what is left of an object in front of these members
+abbrev pub members_left : Bool → List (List ℕ × Json) → List ℕ
+members_left is_first ms = list_left one_member (codes "}") is_first ms
 
-pub type-null : type_text (record { type = j.Null; parts = [] }) ≡ codes "{\"type\":null"
-unfolding type_text
-type-null = ap (λ (text : List ℕ). codes "{\"type\":" ++ text) text-null
+-- after the brace: all members
+pub object-text : (ms : List (List ℕ × Json)) → json_text (j.Object ms) ≡ codes "{" ++ members_left true ms
+object-text ms = text-object ms
 
--- what has no members
-pub ruleset none = (members-none, append-nil)
+regrouped : (comma name colon text more closing : List ℕ) → (comma ++ (((name ++ colon) ++ text) ++ more)) ++ closing ≡ comma ++ (name ++ (colon ++ (text ++ (more ++ closing))))
+regrouped comma name colon text more closing = simp append_assoc
 
--- a member alone
-pub member-alone : (name : List ℕ) (v : Json) → members_text ((name, v) ∷ []) ≡ (codes "," ++ name_text name) ++ json_text v
-unfolding members_text
-member-alone name v = append-nil ((codes "," ++ name_text name) ++ json_text v)
+-- in front of a member: its comma, its name between quotation marks as `written`, the colon, its text, and the members after it
+pub member-text : (is_first : Bool) (name written : List ℕ) (v : Json) (text : List ℕ) (ms : List (List ℕ × Json)) → quoted name ≡ written → json_text v ≡ text
+    → members_left is_first ((name, v) ∷ ms) ≡ comma_unless is_first ++ (written ++ (codes ":" ++ (text ++ members_left false ms)))
+member-text is_first name written v text ms e f =
+    rw (← e, ← f) (regrouped (comma_unless is_first) (quoted name) (codes ":") (json_text v) (with_commas false (map one_member ms)) (codes "}"))
 
-with_commas-append : (xs ys : List (List ℕ × Json)) → with_commas false (map one_member (xs ++ ys)) ≡ with_commas false (map one_member xs) ++ with_commas false (map one_member ys)
-with_commas-append [] ys = refl
-with_commas-append (x ∷ xs) ys =
-    ap (λ (text : List ℕ). codes "," ++ (one_member x ++ text)) (with_commas-append xs ys)
-    ∙ ap (λ (text : List ℕ). codes "," ++ text) (sym (append_assoc (one_member x) (with_commas false (map one_member xs)) (with_commas false (map one_member ys))))
+-- ---- objects that have a type
 
--- members and further members
-pub members-append : (ms ns : Members) → members_text (ms ++ ns) ≡ members_text ms ++ members_text ns
-unfolding members_text
-members-append ms ns = with_commas-append ms ns
+pub quoted-type : quoted (codes "type") ≡ codes "\"type\""
+quoted-type = unfold escaped_byte in refl
 
--- an object of a type with these members after it
-pub object-text : (o : Geometrical) → json_text (inner_value o) ≡ type_text o ++ (members_text o.parts ++ codes "}")
-unfolding type_text members_text escaped_byte
-object-text o =
-    text-object ((codes "type", o.type) ∷ o.parts)
-    ∙ ap (λ (text : List ℕ). codes "{\"type\":" ++ text) (append_assoc (json_text o.type) (with_commas false (map one_member o.parts)) (codes "}"))
+-- an object of its type and one more member
+pub object-of_two : (type_name type_written name written : List ℕ) (v : Json) → quoted type_name ≡ type_written → quoted name ≡ written
+    → json_text (j.Object ((codes "type", j.Text type_name) ∷ ((name, v) ∷ [])))
+    ≡ codes "{\"type\":" ++ (type_written ++ (codes "," ++ (written ++ (codes ":" ++ (json_text v ++ codes "}")))))
+object-of_two type_name type_written name written v e f = object-text ((codes "type", j.Text type_name) ∷ ((name, v) ∷ []))
+    ∙ ap (λ (text : List ℕ). codes "{" ++ text) (member-text true (codes "type") (codes "\"type\"") (j.Text type_name) type_written ((name, v) ∷ []) quoted-type (text-text type_name ∙ e))
+    ∙ ap (λ (text : List ℕ). codes "{\"type\":" ++ (type_written ++ text)) (member-text false name written v (json_text v) [] f refl)

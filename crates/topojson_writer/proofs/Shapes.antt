@@ -12,7 +12,7 @@ use Rattle.topojson_types.specs.Topologies.{TopoShape}
 use Rattle.topojson_types.specs.Values.{Geometrical, typed, inner_value, line_value, lines_value, geometrical}
 use Rattle.topojson_types.proofs.ByKind.{geometrical_at}
 use Rattle.topojson_writer.specs.Texts.{shape_value, type_text, members_text, parts_name, parts_value}
-use Rattle.topojson_writer.proofs.Objects.{member-alone}
+use Rattle.topojson_writer.proofs.GeometryObjects.{member-alone}
 
 -- ---- the value of each kind
 

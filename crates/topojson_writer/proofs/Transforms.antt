@@ -14,7 +14,7 @@ use Rattle.topojson_types.specs.Differences.{difference, deltas_from}
 use Rattle.topojson_types.specs.Values.{pair_value, transform_object, members_of_transform}
 use Rattle.topojson_types.proofs.SumsBack.{next}
 use Rattle.topojson_writer.specs.Texts.{members_text}
-use Rattle.topojson_writer.proofs.Objects.{member-alone}
+use Rattle.topojson_writer.proofs.GeometryObjects.{member-alone}
 
 -- ---- transforms
 

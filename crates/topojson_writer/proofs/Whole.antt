@@ -10,7 +10,7 @@ use Rattle.topojson_types.specs.Bounds.{Corners, bounds}
 use Rattle.topojson_types.specs.Topologies.{Contents}
 use Rattle.topojson_types.specs.Values.{Members, cell_value, members_of_transform, bounds_value, members_of_bounds, objects_value, arcs_value, topology_value}
 use Rattle.topojson_writer.specs.Texts.{type_text, members_text, contents_members}
-use Rattle.topojson_writer.proofs.Objects.{member-alone, members-append, object-text}
+use Rattle.topojson_writer.proofs.GeometryObjects.{member-alone, members-append, object-text}
 
 -- ---- a collection
 

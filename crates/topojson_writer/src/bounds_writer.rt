@@ -30,7 +30,7 @@ fn put_bounds_member<O: Out>(least: Position, greatest: Position, out: &mut O)
 }
 
 /// Puts the member `bbox` after a comma, if there is a position.
-#[tactic(auto, using(crate::proofs::Objects::none))]
+#[tactic(auto, using(crate::proofs::GeometryObjects::none))]
 pub fn put_bounds<O: Out>(bounds: Option<(Position, Position)>, out: &mut O)
     ensures text { O.text out.new ≡ O.text out.old ++ members_text (members_of_bounds bounds) }
     ensures kept { (start : Start) → O.good out.old start → O.good out.new start }

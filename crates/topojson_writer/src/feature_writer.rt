@@ -1,19 +1,20 @@
-// Geometry objects with their identifiers and properties as they are written (TopoJSON 1.0, section 2.2).
+// Features as they are written (RFC 7946, sections 3.2 and 3.3).
 ghost use Rattle.std.specs.Prelude.{◌≡◌, ◌++◌};
-ghost use Rattle.json_value.specs.Text.{json_text};
+ghost use Rattle.std.specs.Option.{option_copied};
+ghost use Rattle.byte_ends.specs.Writes.{Writes};
 ghost use Rattle.json_writer.specs.Standing.{Start};
-ghost use Rattle.topojson_types.specs.Values.{geometrical_option, id_value, id_members, properties_members, feature_value};
-ghost use Rattle.topojson_writer.specs.Texts.{type_text, members_text};
+ghost use Rattle.json_value.specs.Text.{json_text};
+ghost use Rattle.topojson_writer.specs.FeatureTexts.{collection_head, feature_head, id_text};
+ghost use Rattle.topojson_writer.specs.FeatureValues.{id_value, properties_value, geometry_value, feature_value, collection_value, features_value};
 
-use crate::shape_writer::{put_parts, type_start};
-use geojson_types::{Id, Properties};
-use json_writer::{Out, PutValue, put_properties, put_text};
-use std::marker::PhantomData;
-use topojson_types::{Cell, TopoFeature, TopoShape};
+use crate::shape_writer::put_shape;
+use byte_ends::{Drain, Sink, WriteFault};
+use geojson_types::{Feature, FeatureSet, Id, Properties};
+use json_writer::{Buffered, Out, PutValue, put_array, put_properties, put_text};
 
 /// Puts an identifier: a text, or a number by its text.
 #[tactic(auto, using(json_value::proofs::Texts::texts))]
-fn put_id_value<O: Out>(id: &Id, out: &mut O)
+fn put_id<O: Out>(id: &Id, out: &mut O)
     ensures text { O.text out.new ≡ O.text out.old ++ json_text (id_value id.now) }
     ensures kept { (start : Start) → O.good out.old start → O.good out.new start }
 {
@@ -24,73 +25,107 @@ fn put_id_value<O: Out>(id: &Id, out: &mut O)
 }
 
 /// Puts the member `id` after a comma, if there is an identifier.
-#[tactic(auto, using(crate::proofs::Features::parts))]
-fn put_id<O: Out>(id: &Option<Id>, out: &mut O)
-    ensures text { O.text out.new ≡ O.text out.old ++ members_text (id_members id.now) }
+fn put_id_member<O: Out>(id: Option<&Id>, out: &mut O)
+    ensures text { O.text out.new ≡ O.text out.old ++ id_text (option_copied id.entry) }
     ensures kept { (start : Start) → O.good out.old start → O.good out.new start }
 {
     if let Some(id) = id {
         out.put(b",\"id\":");
-        put_id_value(id, out);
+        put_id(id, out);
     }
 }
 
-/// Puts the member `properties` after a comma, if they are an object.
-#[tactic(auto, using(crate::proofs::Features::parts))]
-fn put_properties_option<O: Out>(properties: &Option<Properties>, out: &mut O)
-    ensures text { O.text out.new ≡ O.text out.old ++ members_text (properties_members properties.now) }
+/// Puts properties, or null.
+#[tactic(auto, using(json_value::proofs::Texts::texts))]
+fn put_properties_option<O: Out>(properties: Option<&Properties>, out: &mut O)
+    ensures text { O.text out.new ≡ O.text out.old ++ json_text (properties_value (option_copied properties.entry)) }
     ensures kept { (start : Start) → O.good out.old start → O.good out.new start }
 {
-    if let Some(properties) = properties {
-        out.put(b",\"properties\":");
-        put_properties(properties, out);
+    match properties {
+        None => out.put(b"null"),
+        Some(properties) => put_properties(properties, out),
     }
 }
 
-/// The opening brace of a geometry object, and its type, or null.
-#[tactic(auto, using(crate::proofs::Features::parts))]
-fn option_type_start<C: PutValue<Cell>>(shape: &Option<TopoShape>) -> &'static [u8]
-    ensures { result.now ≡ type_text (geometrical_option C.value shape.now) }
-{
-    match shape {
-        None => b"{\"type\":null",
-        Some(shape) => type_start::<C>(shape),
-    }
-}
-
-/// Puts what a geometry has after its type, identifier and properties: nothing, if it is null.
-#[tactic(auto, using(crate::proofs::Features::parts))]
-fn put_option_parts<C: PutValue<Cell>, O: Out>(shape: &Option<TopoShape>, out: &mut O)
-    ensures text { O.text out.new ≡ O.text out.old ++ members_text (geometrical_option C.value shape.now).parts }
+/// Puts the feature's geometry, or null.
+#[tactic(auto, using(json_value::proofs::Texts::texts))]
+fn put_geometry<O: Out>(feature: &Feature, out: &mut O)
+    ensures text { O.text out.new ≡ O.text out.old ++ json_text (geometry_value feature.now.shape) }
     ensures kept { (start : Start) → O.good out.old start → O.good out.new start }
 {
-    if let Some(shape) = shape {
-        put_parts::<C, O>(shape, out);
+    match feature.shape() {
+        None => out.put(b"null"),
+        Some(shape) => put_shape(shape, out),
     }
 }
 
-/// Puts a geometry object with its identifier and properties.
-#[tactic(auto, using(crate::proofs::Features::features))]
-pub fn put_feature<C: PutValue<Cell>, O: Out>(feature: &TopoFeature, out: &mut O)
-    ensures text { O.text out.new ≡ O.text out.old ++ json_text (feature_value C.value feature.now) }
+/// Puts a feature with this identifier and these properties, up to its geometry.
+pub fn put_feature_head<O: Out>(id: Option<&Id>, properties: Option<&Properties>, out: &mut O)
+    ensures text { O.text out.new ≡ O.text out.old ++ feature_head (option_copied id.entry) (option_copied properties.entry) }
     ensures kept { (start : Start) → O.good out.old start → O.good out.new start }
 {
-    out.put(option_type_start::<C>(&feature.shape));
-    put_id(&feature.id, out);
-    put_properties_option(&feature.properties, out);
-    put_option_parts::<C, O>(&feature.shape, out);
+    out.put(b"{\"type\":\"Feature\"");
+    put_id_member(id, out);
+    out.put(b",\"properties\":");
+    put_properties_option(properties, out);
+    out.put(b",\"geometry\":");
+}
+
+// The way to write features.
+struct Features;
+
+impl PutValue<Feature> for Features {
+    ghost value = { feature_value };
+
+    #[tactic(auto, using(crate::proofs::Rules::features))]
+    fn put<O: Out>(feature: &Feature, out: &mut O) {
+        put_feature_head(feature.id(), feature.properties(), out);
+        put_geometry(feature, out);
+        out.put(b"}");
+    }
+}
+
+/// Puts a collection of features up to the list of these.
+pub fn put_collection_head<O: Out>(out: &mut O)
+    ensures text { O.text out.new ≡ O.text out.old ++ collection_head }
+    ensures kept { (start : Start) → O.good out.old start → O.good out.new start }
+{
+    out.put(b"{\"type\":\"FeatureCollection\",\"features\":");
+}
+
+/// Puts a collection of these features.
+#[tactic(auto, using(crate::proofs::Rules::features))]
+fn put_collection<O: Out>(features: &[Feature], out: &mut O)
+    ensures text { O.text out.new ≡ O.text out.old ++ json_text (collection_value features.now) }
+    ensures kept { (start : Start) → O.good out.old start → O.good out.new start }
+{
+    put_collection_head(out);
+    put_array::<Features, Feature, O>(features, out);
     out.put(b"}");
 }
 
-/// The way to write features, with their cells in this way.
-pub struct Features<C> {
-    cells: PhantomData<C>,
+/// Puts the features, as `write_features`, as a part of a longer text.
+pub fn put_features<O: Out>(features: &FeatureSet, out: &mut O)
+    ensures text { O.text out.new ≡ O.text out.old ++ json_text (features_value features.now) }
+    ensures kept { (start : Start) → O.good out.old start → O.good out.new start }
+{
+    match features {
+        FeatureSet::One(feature) => Features::put(feature, out),
+        FeatureSet::Many(features) => put_collection(features.as_slice(), out),
+    }
 }
 
-impl<C: PutValue<Cell>> PutValue<TopoFeature> for Features<C> {
-    ghost value = { feature_value C.value };
-
-    fn put<O: Out>(feature: &TopoFeature, out: &mut O) {
-        put_feature::<C, O>(feature, out);
-    }
+/// Writes the GeoJSON text of the features with no white space, and answers the number of bytes: a Feature, or a
+/// FeatureCollection. Coordinates are least decimals, x first, identifiers and properties keep the texts of their
+/// numbers, their order and their duplicates, and what is absent in a feature is null, but for the identifier, which is
+/// left out. `Write` says how many bytes of the text the device took before it failed. This takes no memory.
+pub fn write_features<W: Drain>(
+    features: &FeatureSet,
+    sink: &mut Sink<W>,
+) -> Result<u64, WriteFault>
+    ensures { Writes sink.old sink.new 0 (json_text (features_value features.now)) result }
+{
+    let mut out = Buffered::over(sink);
+    put_features(features, &mut out);
+    out.end()
 }

@@ -1,83 +1,60 @@
-// Geometries as they are written (TopoJSON 1.0, section 2.2), over a way to write cells.
-ghost use Rattle.std.specs.Prelude.{◌≡◌, ◌++◌};
-ghost use Rattle.json_value.specs.Text.{json_text};
+// Geometries as they are written (RFC 7946, section 3.1).
+ghost use Rattle.std.specs.Prelude.{◌≡◌, ◌++◌, map};
 ghost use Rattle.json_writer.specs.Standing.{Start};
-ghost use Rattle.topojson_types.specs.Values.{geometrical};
-ghost use Rattle.topojson_writer.specs.Texts.{shape_value, shapes_value, type_text, members_text, parts_name, parts_value};
+ghost use Rattle.json_value.specs.Text.{json_text};
+ghost use Rattle.json_value.specs.declared.json.Json.TheVariants as j;
+ghost use Rattle.topojson_writer.specs.FeatureTexts.{head_text, contents_value};
+ghost use Rattle.topojson_writer.specs.FeatureValues.{shape_value};
 
-use crate::index_writer::ArcRefs;
-use geojson_types::Geometry;
-use json_value::Items;
-use json_writer::{ArrayOf, Out, PutValue, put_array, put_comma};
-use topojson_types::{ArcRef, Cell, TopoShape};
+use crate::position_writer::{Positions, Rings, put_position};
+use geojson_types::{Geometry, Position, Ring, Shape};
+use json_writer::{ArrayOf, Out, put_array, put_comma};
+use owned_values::Items;
 
-/// The opening brace of a geometry object, and its type.
-pub fn type_start<C: PutValue<Cell>>(shape: &TopoShape) -> &'static [u8]
-    ensures { result.now ≡ type_text (geometrical C.value shape.now) }
+/// What stands in front of the coordinates or the geometries: the type, and the member's name.
+#[tactic(auto, using(crate::proofs::Rules::outs), unfolding(crate::specs::FeatureTexts::head_text))]
+pub fn head<P, L, R>(shape: &Geometry<P, L, R>) -> &'static [u8]
+    ensures { result.now ≡ head_text shape.now }
 {
     match shape {
-        Geometry::Point(_) => b"{\"type\":\"Point\"",
-        Geometry::MultiPoint(_) => b"{\"type\":\"MultiPoint\"",
-        Geometry::Line(_) => b"{\"type\":\"LineString\"",
-        Geometry::Lines(_) => b"{\"type\":\"MultiLineString\"",
-        Geometry::Area(_) => b"{\"type\":\"Polygon\"",
-        Geometry::Areas(_) => b"{\"type\":\"MultiPolygon\"",
-        Geometry::Group(_) => b"{\"type\":\"GeometryCollection\"",
+        Geometry::Point(_) => b"{\"type\":\"Point\",\"coordinates\":",
+        Geometry::MultiPoint(_) => b"{\"type\":\"MultiPoint\",\"coordinates\":",
+        Geometry::Line(_) => b"{\"type\":\"LineString\",\"coordinates\":",
+        Geometry::Lines(_) => b"{\"type\":\"MultiLineString\",\"coordinates\":",
+        Geometry::Area(_) => b"{\"type\":\"Polygon\",\"coordinates\":",
+        Geometry::Areas(_) => b"{\"type\":\"MultiPolygon\",\"coordinates\":",
+        Geometry::Group(_) => b"{\"type\":\"GeometryCollection\",\"geometries\":",
     }
 }
 
-/// A comma, the name of what a geometry of this type has, and the colon.
-fn name_of_parts<C: PutValue<Cell>>(shape: &TopoShape) -> &'static [u8]
-    ensures { result.now ≡ parts_name (geometrical C.value shape.now) }
-{
-    match shape {
-        Geometry::Point(_) => b",\"coordinates\":",
-        Geometry::MultiPoint(_) => b",\"coordinates\":",
-        Geometry::Line(_) => b",\"arcs\":",
-        Geometry::Lines(_) => b",\"arcs\":",
-        Geometry::Area(_) => b",\"arcs\":",
-        Geometry::Areas(_) => b",\"arcs\":",
-        Geometry::Group(_) => b",\"geometries\":",
-    }
-}
-
-/// Puts the coordinates, the arc indexes or the geometries.
+/// Puts the coordinates, or the geometries of a GeometryCollection.
 #[cycle(shapes)]
-fn put_parts_value<C: PutValue<Cell>, O: Out>(shape: &TopoShape, out: &mut O)
-    ensures text { O.text out.new ≡ O.text out.old ++ json_text (parts_value (geometrical C.value shape.now)) }
+#[tactic(auto, using(crate::proofs::Rules::shapes))]
+fn put_contents<O: Out>(shape: &Shape, out: &mut O)
+    ensures text { O.text out.new ≡ O.text out.old ++ json_text (contents_value shape.now) }
     ensures kept { (start : Start) → O.good out.old start → O.good out.new start }
 {
     match shape {
-        Geometry::Point(cell) => C::put(cell, out),
-        Geometry::MultiPoint(cells) => put_array::<C, Cell, O>(cells.as_slice(), out),
-        Geometry::Line(references) => put_array::<ArcRefs, ArcRef, O>(references.as_slice(), out),
+        Geometry::Point(position) => put_position(*position, out),
+        Geometry::MultiPoint(positions) => {
+            put_array::<Positions, Position, O>(positions.as_slice(), out);
+        }
+        Geometry::Line(line) => put_array::<Positions, Position, O>(line.as_slice(), out),
         Geometry::Lines(lines) => {
-            put_array::<ArrayOf<ArcRefs>, Items<ArcRef>, O>(lines.as_slice(), out);
+            put_array::<ArrayOf<Positions>, Items<Position>, O>(lines.as_slice(), out);
         }
-        Geometry::Area(rings) => {
-            put_array::<ArrayOf<ArcRefs>, Items<ArcRef>, O>(rings.as_slice(), out);
+        Geometry::Area(rings) => put_array::<Rings, Ring, O>(rings.as_slice(), out),
+        Geometry::Areas(polygons) => {
+            put_array::<ArrayOf<Rings>, Items<Ring>, O>(polygons.as_slice(), out);
         }
-        Geometry::Areas(areas) => {
-            put_array::<ArrayOf<ArrayOf<ArcRefs>>, Items<Items<ArcRef>>, O>(areas.as_slice(), out);
-        }
-        Geometry::Group(shapes) => put_shapes::<C, O>(shapes.as_slice(), out),
+        Geometry::Group(shapes) => put_shapes(shapes.as_slice(), out),
     }
-}
-
-/// Puts what a geometry has after its type, identifier and properties.
-#[cycle(shapes)]
-pub fn put_parts<C: PutValue<Cell>, O: Out>(shape: &TopoShape, out: &mut O)
-    ensures text { O.text out.new ≡ O.text out.old ++ members_text (geometrical C.value shape.now).parts }
-    ensures kept { (start : Start) → O.good out.old start → O.good out.new start }
-{
-    out.put(name_of_parts::<C>(shape));
-    put_parts_value::<C, O>(shape, out);
 }
 
 /// Puts the geometries of a GeometryCollection.
 #[cycle(shapes)]
-fn put_shapes<C: PutValue<Cell>, O: Out>(shapes: &[TopoShape], out: &mut O)
-    ensures text { O.text out.new ≡ O.text out.old ++ json_text (shapes_value C.value shapes.now) }
+fn put_shapes<O: Out>(shapes: &[Shape], out: &mut O)
+    ensures text { O.text out.new ≡ O.text out.old ++ json_text (j.Array (map shape_value shapes.now)) }
     ensures kept { (start : Start) → O.good out.old start → O.good out.new start }
 {
     out.put(b"[");
@@ -85,18 +62,19 @@ fn put_shapes<C: PutValue<Cell>, O: Out>(shapes: &[TopoShape], out: &mut O)
     'shapes: for shape in shapes {
         put_comma(is_first, out);
         is_first = false;
-        put_shape::<C, O>(shape, out);
+        put_shape(shape, out);
     }
     out.put(b"]");
 }
 
-/// Puts a geometry inside a GeometryCollection, which has no identifier and no properties.
+/// Puts a geometry: its type, and its coordinates or its geometries.
 #[cycle(shapes)]
-fn put_shape<C: PutValue<Cell>, O: Out>(shape: &TopoShape, out: &mut O)
-    ensures text { O.text out.new ≡ O.text out.old ++ json_text (shape_value C.value shape.now) }
+#[tactic(auto, using(crate::proofs::Rules::shapes))]
+pub fn put_shape<O: Out>(shape: &Shape, out: &mut O)
+    ensures text { O.text out.new ≡ O.text out.old ++ json_text (shape_value shape.now) }
     ensures kept { (start : Start) → O.good out.old start → O.good out.new start }
 {
-    out.put(type_start::<C>(shape));
-    put_parts::<C, O>(shape, out);
+    out.put(head(shape));
+    put_contents(shape, out);
     out.put(b"}");
 }

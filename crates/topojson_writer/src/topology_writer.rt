@@ -11,7 +11,7 @@ ghost use Rattle.topojson_writer.specs.Texts.{members_text, contents_members};
 use crate::arc_writer::Differences;
 use crate::bounds_writer::put_bounds;
 use crate::cell_writer::{GridCells, Positions};
-use crate::feature_writer::{Features, put_feature};
+use crate::object_writer::{Features, put_feature};
 use crate::transform_writer::put_transform;
 use byte_ends::{Drain, Sink, WriteFault};
 use json_value::Items;

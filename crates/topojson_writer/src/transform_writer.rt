@@ -35,7 +35,7 @@ fn put_transform_member<O: Out>(transform: &Transform, out: &mut O)
 }
 
 /// Puts the member `transform` after a comma, if there is a transform.
-#[tactic(auto, using(crate::proofs::Objects::none))]
+#[tactic(auto, using(crate::proofs::GeometryObjects::none))]
 pub fn put_transform<O: Out>(transform: Option<&Transform>, out: &mut O)
     ensures text { O.text out.new ≡ O.text out.old ++ members_text (members_of_transform (option_copied transform.entry)) }
     ensures kept { (start : Start) → O.good out.old start → O.good out.new start }

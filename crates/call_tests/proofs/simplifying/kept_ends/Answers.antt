@@ -1,5 +1,5 @@
 use Rattle.std.proofs.Common.{◌∙◌, ◌-◌, [], ◌∷◌, length, map, ap, sym, subst}
-use Rattle.simplified_topology.specs.Simplified.{EachFromFirstToLast}
+use Rattle.build_meaning.specs.Simplified.{EachFromFirstToLast}
 use Rattle.call_tests.proofs.Ends.{ends_reach}
 use Rattle.call_tests.proofs.simplifying.kept_ends.Goals as goal
 

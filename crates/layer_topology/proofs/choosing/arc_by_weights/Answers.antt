@@ -1,6 +1,6 @@
 use Rattle.std.proofs.Common.{◌∙◌, ap}
 use Rattle.std.proofs.lemmas.Result.{IfOk-weaker}
-use Rattle.simplified_topology.specs.Simplified.{retained}
+use Rattle.build_meaning.specs.Simplified.{retained}
 use Rattle.layer_topology.proofs.choosing.arc_by_weights.Goals as goal
 
 pub returns : goal.returns

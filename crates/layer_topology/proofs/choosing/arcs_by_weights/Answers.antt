@@ -1,7 +1,7 @@
 use Rattle.std.proofs.Common.{◌≡◌, [], ◌∷◌, ◌∙◌, ap, rules}
 use Rattle.std.proofs.lemmas.List.{nil_from_length}
 use Rattle.effective_area.specs.Shares.{kept_at}
-use Rattle.simplified_topology.specs.Simplified.{retained}
+use Rattle.build_meaning.specs.Simplified.{retained}
 use Rattle.topo_model.proofs.Retained.{picks_first, picks_none, picks_more}
 use Rattle.layer_topology.proofs.choosing.arcs_by_weights.Goals as goal
 

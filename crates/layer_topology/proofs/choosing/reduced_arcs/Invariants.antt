@@ -3,7 +3,7 @@ use Rattle.std.specs.List.{AllByRecursion}
 use Rattle.std.specs.Vec.Iter.{into_iter_items}
 use Rattle.effective_area.specs.Calls.{calls_for}
 use Rattle.elimination_meaning.specs.Elimination.{reduce}
-use Rattle.simplified_topology.specs.Simplified.{retained_arcs}
+use Rattle.build_meaning.specs.Simplified.{retained_arcs}
 use Rattle.layer_topology.proofs.choosing.reduced_arcs.Given as goal
 
 -- those so far, and the calls for them

@@ -3,7 +3,7 @@ use Rattle.effective_area.specs.Shares.{interior_weights, kept_at, share}
 use Rattle.effective_area.specs.Weights.{weights_of}
 use Rattle.elimination_meaning.specs.Elimination.{reduce}
 use Rattle.geometry.specs.Points.{Point}
-use Rattle.simplified_topology.specs.Simplified.{retained_arcs}
+use Rattle.build_meaning.specs.Simplified.{retained_arcs}
 use Rattle.layer_topology.proofs.choosing.shared_out_arcs.Goals as goal
 
 pub returns-clause-retained : goal.returns-clause-retained

@@ -1,7 +1,7 @@
 use Rattle.std.proofs.Common.{◌∙◌, ap, subst, sym}
 use Rattle.layer_topology.specs.GuardedLevels.{guarded_chosen, reduced_by}
 use Rattle.layer_topology.proofs.GuardedArcs.{guarded_are, marked_are}
-use Rattle.simplified_topology.specs.ProtectedRings.{CanStay}
+use Rattle.build_meaning.specs.ProtectedRings.{CanStay}
 use Rattle.layer_topology.proofs.guarding.guarded_arcs.Goals as goal
 
 pub reduced_at_once-requires-clause-rings : goal.reduced_at_once-requires-clause-rings

@@ -1,5 +1,5 @@
 use Rattle.std.proofs.Common.{ap, map, length, ◌∙◌}
-use Rattle.simplified_topology.specs.Assembled.{arc_indexes, arcs_of_layers}
+use Rattle.build_meaning.specs.Assembled.{arc_indexes, arcs_of_layers}
 use Rattle.layer_topology.proofs.Made.{left_at_level}
 use Rattle.layer_topology.specs.Levels.{threshold_at}
 use Rattle.layer_topology.proofs.making.reduced_topology.Goals as goal

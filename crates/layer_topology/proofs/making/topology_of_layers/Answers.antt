@@ -5,7 +5,7 @@ use Rattle.layer_topology.specs.GuardedWritten.{made_dropped_under, made_removed
 use Rattle.layer_topology.specs.GuardedLevels.{level_threshold_under}
 use Rattle.layer_topology.specs.Guarded.{is_at_once}
 use Rattle.layer_topology.specs.Levels.{calls_at}
-use Rattle.simplified_topology.specs.Assembled.{arcs_of_layers}
+use Rattle.build_meaning.specs.Assembled.{arcs_of_layers}
 use Rattle.layer_topology.proofs.GuardedMade.{as_written_under, cells_under, plain_under, same_chosen, same_threshold}
 use Rattle.layer_topology.proofs.making.topology_of_layers.Goals as goal
 

@@ -2,11 +2,11 @@ use Rattle.std.proofs.Common.{◌≡◌, ◌∙◌, length, ap, rules, subst, sy
 use Rattle.build_meaning.specs.Built.{built, untrimmed}
 use Rattle.build_meaning.specs.Trimming.{is_used}
 use Rattle.layer_topology.specs.GuardedLevels.{guarded_chosen, reduced_by}
-use Rattle.simplified_topology.specs.Assembled.{arcs_of_layers}
-use Rattle.simplified_topology.specs.Guarded.{arc_positions, spread}
-use Rattle.simplified_topology.specs.Protected.{greatest_ring}
-use Rattle.simplified_topology.specs.ProtectedRings.{CanStay}
-use Rattle.simplified_topology.specs.Simplified.{objects_pruned, retained_arcs}
+use Rattle.build_meaning.specs.Assembled.{arcs_of_layers}
+use Rattle.build_meaning.specs.Guarded.{arc_positions, spread}
+use Rattle.build_meaning.specs.Protected.{greatest_ring}
+use Rattle.build_meaning.specs.ProtectedRings.{CanStay}
+use Rattle.build_meaning.specs.Simplified.{objects_pruned, retained_arcs}
 use Rattle.topo_model.specs.DraftUses.{with_refs}
 use Rattle.topo_model.specs.Uses.{answers}
 use Rattle.topo_model.specs.Ways.{ways_of}

@@ -3,8 +3,8 @@ use Rattle.std.specs.List.{AllByRecursion}
 use Rattle.build_meaning.specs.Built.{untrimmed}
 use Rattle.build_meaning.specs.Trimming.{is_used}
 use Rattle.geometry.specs.Points.{IsPosition}
-use Rattle.simplified_topology.specs.Protected.{greatest_ring}
-use Rattle.simplified_topology.specs.Simplified.{objects_pruned}
+use Rattle.build_meaning.specs.Protected.{greatest_ring}
+use Rattle.build_meaning.specs.Simplified.{objects_pruned}
 use Rattle.topo_model.specs.DraftUses.{with_refs}
 use Rattle.topo_model.specs.Uses.{answers}
 use Rattle.topo_model.specs.Ways.{ways_of}

@@ -3,8 +3,8 @@ use Rattle.build_meaning.specs.Built.{built}
 use Rattle.geometry.specs.Lists.{map_some}
 use Rattle.geometry.specs.Points.{Point}
 use Rattle.layer_topology.specs.GuardedLevels.{sparing_threshold}
-use Rattle.simplified_topology.specs.Protected.{greatest_ring}
-use Rattle.simplified_topology.specs.ProtectedLayers.{protecting_arc_indexes}
+use Rattle.build_meaning.specs.Protected.{greatest_ring}
+use Rattle.build_meaning.specs.ProtectedLayers.{protecting_arc_indexes}
 use Rattle.topo_model.specs.Ways.{ways_of}
 use Rattle.layer_topology.proofs.sparing.sparing_topology.Goals as goal
 

@@ -1,5 +1,5 @@
 use Rattle.std.proofs.lemmas.Result.{err_from_is_err_and}
-use Rattle.geojson_writer.specs.Decoded.{object_in}
+use Rattle.topojson_writer.specs.Decoded.{object_in}
 use Rattle.mapchain_engine.specs.Geo.{features_text}
 use Rattle.mapchain_engine.proofs.Sent.{cut}
 use Rattle.mapchain_engine.proofs.decoding.send.Goals as goal

@@ -1,6 +1,6 @@
 use Rattle.std.proofs.Common.{refl}
 use Rattle.std.proofs.lemmas.Result.{err_from_is_err_and}
-use Rattle.geojson_writer.specs.Decoded.{object_in}
+use Rattle.topojson_writer.specs.Decoded.{object_in}
 use Rattle.inputs.specs.declared.file_fault.FileFault.TheVariants.{NoObject}
 use Rattle.mapchain_engine.proofs.FilesDecided.{found_fails, sent_decides}
 use Rattle.mapchain_engine.proofs.ObjectsFound.{fails, fails_decoding, gives, lacks}

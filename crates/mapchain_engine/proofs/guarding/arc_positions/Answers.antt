@@ -3,7 +3,7 @@ use Rattle.std.specs.List.{AllByRecursion}
 use Rattle.std.specs.Option.{option_copied}
 use Rattle.owned_values.proofs.Elements.{all_at}
 use Rattle.owned_values.proofs.Lists.{mapped_more, mapped_all}
-use Rattle.simplified_topology.specs.Thresholds.{placed_cells}
+use Rattle.build_meaning.specs.Thresholds.{placed_cells}
 use Rattle.topo_model.proofs.Picks.{arcs_are}
 use Rattle.topojson_types.specs.Validity.{IsArc, IsPlace}
 use Rattle.mapchain_engine.proofs.Whole.{placed}

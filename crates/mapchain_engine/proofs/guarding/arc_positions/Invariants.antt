@@ -1,6 +1,6 @@
 use Rattle.std.proofs.Common.{◌≡◌, map, take}
 use Rattle.std.specs.Option.{option_copied}
-use Rattle.simplified_topology.specs.Thresholds.{placed_cells}
+use Rattle.build_meaning.specs.Thresholds.{placed_cells}
 use Rattle.mapchain_engine.proofs.guarding.arc_positions.Given as goal
 
 abbrev pub invariant-arcs : goal.invariant-arcs

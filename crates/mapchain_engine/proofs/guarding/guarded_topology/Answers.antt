@@ -1,7 +1,7 @@
 use Rattle.std.proofs.Common.{◌∙◌, map, ap}
 use Rattle.byte_ends.specs.Ends.{saturated}
-use Rattle.simplified_topology.specs.Guarded.{guarded_contents, guarded_dropped, guarded_removed_count}
-use Rattle.simplified_topology.specs.Simplified.{dropped_by, removed_count_by, simplified_by}
+use Rattle.build_meaning.specs.Guarded.{guarded_contents, guarded_dropped, guarded_removed_count}
+use Rattle.build_meaning.specs.Simplified.{dropped_by, removed_count_by, simplified_by}
 use Rattle.mapchain_engine.proofs.guarding.guarded_topology.Goals as goal
 
 pub returns-in_ok-less-in-Ok-clause-topology : goal.returns-in_ok-less-in-Ok-clause-topology

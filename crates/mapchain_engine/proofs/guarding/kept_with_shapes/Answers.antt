@@ -1,6 +1,6 @@
 use Rattle.std.proofs.Common.{◌≡◌, ◌∙◌, rules, subst, sym}
-use Rattle.simplified_topology.specs.Guarded.{arc_positions}
-use Rattle.simplified_topology.specs.ProtectedRings.{CanStay}
+use Rattle.build_meaning.specs.Guarded.{arc_positions}
+use Rattle.build_meaning.specs.ProtectedRings.{CanStay}
 use Rattle.mapchain_engine.proofs.guarding.kept_with_shapes.Goals as goal
 
 pub kept_at_once-requires-clause-meet : goal.kept_at_once-requires-clause-meet

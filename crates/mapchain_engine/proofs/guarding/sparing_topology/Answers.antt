@@ -1,8 +1,8 @@
 use Rattle.std.proofs.Common.{◌∙◌, inl, map, ap}
 use Rattle.byte_ends.specs.Ends.{saturated}
 use Rattle.geometry.specs.Lists.{map_some}
-use Rattle.simplified_topology.specs.Guarded.{arc_positions}
-use Rattle.simplified_topology.specs.Protected.{greatest_ring, protecting_contents, protecting_dropped, protecting_removed_count, spared_by, spared_dropped, spared_removed_count}
+use Rattle.build_meaning.specs.Guarded.{arc_positions}
+use Rattle.build_meaning.specs.Protected.{greatest_ring, protecting_contents, protecting_dropped, protecting_removed_count, spared_by, spared_dropped, spared_removed_count}
 use Rattle.mapchain_engine.proofs.guarding.sparing_topology.Goals as goal
 
 pub reduce_sparing-requires-clause-ways : goal.reduce_sparing-requires-clause-ways

@@ -1,7 +1,7 @@
 use Rattle.std.proofs.Common.{◌≡◌, sym, subst}
 use Rattle.std.specs.List.{AllByRecursion}
 use Rattle.build_meaning.specs.Expected.{kept_line}
-use Rattle.build_meaning.specs.Laws.{whole_line}
+use Rattle.build_meaning.specs.BuiltLaws.{whole_line}
 use Rattle.build_meaning.specs.Layers.{layers_of, named_lines_and_rings}
 use Rattle.linework.specs.Linework.{linework}
 use Rattle.mapchain_engine.specs.Building.{snapped_for}

@@ -6,8 +6,8 @@ use Rattle.effective_area.specs.Calls.{calls_for}
 use Rattle.effective_area.proofs.CallLists.{one_called}
 use Rattle.elimination_meaning.specs.Elimination.{reduce}
 use Rattle.geometry.specs.Points.{Point}
-use Rattle.simplified_topology.specs.Simplified.{retained}
-use Rattle.simplified_topology.specs.Thresholds.{placed_cells}
+use Rattle.build_meaning.specs.Simplified.{retained}
+use Rattle.build_meaning.specs.Thresholds.{placed_cells}
 use Rattle.topojson_types.specs.Validity.{IsArc}
 use Rattle.topo_model.proofs.Retained.{retained_more}
 use Rattle.mapchain_engine.proofs.reducing.reduced_arcs.Goals as goal

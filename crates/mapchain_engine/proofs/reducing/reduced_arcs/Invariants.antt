@@ -4,8 +4,8 @@ use Rattle.std.specs.Option.{option_copied}
 use Rattle.std.specs.Vec.Iter.{into_iter_items}
 use Rattle.effective_area.specs.Calls.{calls_for}
 use Rattle.elimination_meaning.specs.Elimination.{reduce}
-use Rattle.simplified_topology.specs.Simplified.{retained_arcs}
-use Rattle.simplified_topology.specs.Thresholds.{placed_cells}
+use Rattle.build_meaning.specs.Simplified.{retained_arcs}
+use Rattle.build_meaning.specs.Thresholds.{placed_cells}
 use Rattle.topojson_types.specs.Validity.{IsArc}
 use Rattle.mapchain_engine.proofs.reducing.reduced_arcs.Given as goal
 

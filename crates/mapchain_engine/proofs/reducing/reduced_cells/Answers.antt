@@ -3,7 +3,7 @@ use Rattle.std.specs.Option.{option_copied}
 use Rattle.std.proofs.lemmas.Result.{IfOk-weaker}
 use Rattle.effective_area.specs.Calls.{call_at}
 use Rattle.elimination_meaning.specs.Elimination.{reduce}
-use Rattle.simplified_topology.specs.Simplified.{retained}
+use Rattle.build_meaning.specs.Simplified.{retained}
 use Rattle.mapchain_engine.proofs.Whole.{placed}
 use Rattle.mapchain_engine.proofs.reducing.reduced_cells.Goals as goal
 

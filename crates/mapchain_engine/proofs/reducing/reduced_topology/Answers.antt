@@ -9,8 +9,8 @@ use Rattle.layer_topology.specs.Guarded.{no_guards}
 use Rattle.layer_topology.specs.declared.level.Level.TheVariants.{Fixed}
 use Rattle.mapchain_engine.specs.Simplified.{calls_of}
 use Rattle.geometry.specs.Points.{Point}
-use Rattle.simplified_topology.specs.Simplified.{dropped_by, removed_count_by, retained_arcs, simplified_by}
-use Rattle.simplified_topology.specs.Thresholds.{placed_cells, reduced_indexes, simplified_contents, simplified_dropped, simplified_removed_count}
+use Rattle.build_meaning.specs.Simplified.{dropped_by, removed_count_by, retained_arcs, simplified_by}
+use Rattle.build_meaning.specs.Thresholds.{placed_cells, reduced_indexes, simplified_contents, simplified_dropped, simplified_removed_count}
 use Rattle.topojson_types.specs.declared.transform.Transform.{Transform}
 use Rattle.topojson_types.specs.Topologies.{Contents}
 use Rattle.topojson_types.specs.Validity.{IsArc, IsTopology}

@@ -1,8 +1,8 @@
 use Rattle.std.proofs.Common.{◌≡◌, ◌∙◌, ℕ, map, ap, rules, sym}
 use Rattle.std.proofs.lemmas.Simd.{map-map}
 use Rattle.elimination_meaning.specs.Elimination.{reduce}
-use Rattle.simplified_topology.specs.Guarded.{arc_positions}
-use Rattle.simplified_topology.specs.Thresholds.{placed_cells, reduced_indexes}
+use Rattle.build_meaning.specs.Guarded.{arc_positions}
+use Rattle.build_meaning.specs.Thresholds.{placed_cells, reduced_indexes}
 use Rattle.topo_model.proofs.Picks.{arcs_are}
 use Rattle.topojson_types.specs.Topologies.{Contents}
 use Rattle.mapchain_engine.proofs.sharing.kept_by_share.Goals as goal

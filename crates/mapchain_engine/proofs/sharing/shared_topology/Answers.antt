@@ -1,7 +1,7 @@
 use Rattle.std.proofs.Common.{◌∙◌, map, ap}
 use Rattle.byte_ends.specs.Ends.{saturated}
-use Rattle.simplified_topology.specs.Simplified.{dropped_by, removed_count_by, simplified_by}
-use Rattle.simplified_topology.specs.Thresholds.{simplified_contents, simplified_dropped, simplified_removed_count}
+use Rattle.build_meaning.specs.Simplified.{dropped_by, removed_count_by, simplified_by}
+use Rattle.build_meaning.specs.Thresholds.{simplified_contents, simplified_dropped, simplified_removed_count}
 use Rattle.mapchain_engine.proofs.sharing.shared_topology.Goals as goal
 
 pub returns-in_ok-less-in-Ok-clause-topology : goal.returns-in_ok-less-in-Ok-clause-topology

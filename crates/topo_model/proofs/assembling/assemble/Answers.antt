@@ -3,7 +3,7 @@ use Rattle.std.specs.List.{AllByRecursion}
 use Rattle.std.proofs.lemmas.Result.{IfOk-weaker}
 use Rattle.build_meaning.proofs.Linework.{named_rings}
 use Rattle.linework.specs.Outlines.{IsRingIfClosed}
-use Rattle.simplified_topology.specs.Simplified.{EachFromFirstToLast, retained_arcs}
+use Rattle.build_meaning.specs.Simplified.{EachFromFirstToLast, retained_arcs}
 use Rattle.topo_model.proofs.Assembled.{draft_of, table_arcs}
 use Rattle.topo_model.proofs.Numbered.{as_many}
 use Rattle.topo_model.proofs.assembling.assemble.Goals as goal

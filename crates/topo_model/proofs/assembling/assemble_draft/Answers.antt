@@ -1,6 +1,6 @@
 use Rattle.std.proofs.Common.{sym, ap, ◌∙◌, subst, arith, length, ◌<◌, ◌^◌}
 use Rattle.topojson_types.specs.Validity.{IsTopology}
-use Rattle.simplified_topology.proofs.Assembled.{contents}
+use Rattle.build_meaning.proofs.Assembled.{contents}
 use Rattle.topo_model.proofs.assembling.assemble_draft.Goals as goal
 
 pub of-topology-requires : goal.of-topology-requires

@@ -6,10 +6,10 @@ use Rattle.build_meaning.specs.Built.{positions_of, untrimmed}
 use Rattle.build_meaning.specs.Trimming.{is_used, keep_from, trimmed}
 use Rattle.build_meaning.proofs.ValidUntrimmed.{untrimmed_is_valid}
 use Rattle.byte_ends.specs.Ends.{saturated}
-use Rattle.simplified_topology.specs.Assembled.{arcs_of_layers, own_refs}
-use Rattle.simplified_topology.specs.Protected.{no_protection}
-use Rattle.simplified_topology.specs.Simplified.{large_refs, objects_pruned}
-use Rattle.simplified_topology.proofs.Assembled.{contents}
+use Rattle.build_meaning.specs.Assembled.{arcs_of_layers, own_refs}
+use Rattle.build_meaning.specs.Protected.{no_protection}
+use Rattle.build_meaning.specs.Simplified.{large_refs, objects_pruned}
+use Rattle.build_meaning.proofs.Assembled.{contents}
 use Rattle.topo_model.specs.Drops.{objects_drops}
 use Rattle.topo_model.specs.ArcUses.{AllNameArcs}
 use Rattle.topo_model.proofs.Result as result

@@ -1,6 +1,6 @@
 use Rattle.std.proofs.Common.{◌≡◌, false, length, replicate, ap, ◌∙◌}
 use Rattle.build_meaning.specs.Trimming.{is_used}
-use Rattle.simplified_topology.specs.Simplified.{objects_pruned}
+use Rattle.build_meaning.specs.Simplified.{objects_pruned}
 use Rattle.topo_model.specs.DraftUses.{with_refs}
 use Rattle.topo_model.specs.Marks.{also_set}
 use Rattle.topo_model.proofs.Marked.{cleared, written_back}

@@ -1,6 +1,6 @@
 use Rattle.std.proofs.Common.{ap, sym, ◌∙◌}
 use Rattle.std.specs.List.{list_any}
-use Rattle.simplified_topology.specs.Simplified.{object_pruned}
+use Rattle.build_meaning.specs.Simplified.{object_pruned}
 use Rattle.topojson_types.specs.Topologies.{features_lines_and_rings, object_features}
 use Rattle.topo_model.specs.ArcUses.{any_uses}
 use Rattle.topo_model.specs.DraftUses.{shape_uses, with_refs}

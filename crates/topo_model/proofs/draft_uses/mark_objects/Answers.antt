@@ -1,4 +1,4 @@
-use Rattle.simplified_topology.specs.Simplified.{object_pruned}
+use Rattle.build_meaning.specs.Simplified.{object_pruned}
 use Rattle.topojson_types.specs.Topologies.{features_lines_and_rings, object_features}
 use Rattle.topo_model.specs.ArcUses.{any_uses}
 use Rattle.topo_model.specs.DraftUses.{with_refs}

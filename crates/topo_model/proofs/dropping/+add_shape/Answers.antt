@@ -5,8 +5,8 @@ use Rattle.geometry.specs.Lists.{map_some}
 use Rattle.geometry.specs.Paths.{of_parts}
 use Rattle.geometry.specs.Points.{Point}
 use Rattle.junctions.specs.Gathering.{part_address}
-use Rattle.simplified_topology.specs.OuterRings.{along, marked}
-use Rattle.simplified_topology.specs.Protected.{cause_sparing}
+use Rattle.build_meaning.specs.OuterRings.{along, marked}
+use Rattle.build_meaning.specs.Protected.{cause_sparing}
 use Rattle.topo_model.specs.Places.{dropped_at}
 use Rattle.topo_model.specs.Drops.{draft_cause}
 use Rattle.topo_model.proofs.Reported.{reported_all}

@@ -2,8 +2,8 @@ use Rattle.std.proofs.Common.{◌≡◌, ◌++◌, true, map, drop}
 use Rattle.geometry.specs.DropCauses.{area_drop_causes}
 use Rattle.geometry.specs.Lists.{map_some}
 use Rattle.geometry.specs.Paths.{of_parts}
-use Rattle.simplified_topology.specs.OuterRings.{along, rings_marked}
-use Rattle.simplified_topology.specs.Protected.{cause_sparing}
+use Rattle.build_meaning.specs.OuterRings.{along, rings_marked}
+use Rattle.build_meaning.specs.Protected.{cause_sparing}
 use Rattle.topo_model.specs.Places.{dropped_at}
 use Rattle.topo_model.specs.Drops.{draft_cause}
 use Rattle.topo_model.proofs.dropping.add_areas.Given as goal

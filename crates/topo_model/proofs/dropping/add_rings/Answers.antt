@@ -3,8 +3,8 @@ use Rattle.geometry.specs.DropCauses.{here, inner_cause, area_drop_causes}
 use Rattle.geometry.specs.Lists.{map_some}
 use Rattle.geometry.specs.Paths.{of_parts}
 use Rattle.junctions.specs.Gathering.{part_address}
-use Rattle.simplified_topology.specs.OuterRings.{ends_here, rings_marked}
-use Rattle.simplified_topology.specs.Protected.{cause_sparing}
+use Rattle.build_meaning.specs.OuterRings.{ends_here, rings_marked}
+use Rattle.build_meaning.specs.Protected.{cause_sparing}
 use Rattle.topo_model.specs.Places.{dropped_at}
 use Rattle.topo_model.proofs.Reported.{first_part, parts_more, reported_all}
 use Rattle.topo_model.specs.Drops.{draft_cause}

@@ -6,8 +6,8 @@ use Rattle.build_meaning.specs.Built.{positions_of}
 use Rattle.build_meaning.specs.Trimming.{is_used, keep_from, line_renumbered}
 use Rattle.byte_ends.specs.Ends.{saturated}
 use Rattle.geometry.specs.Lists.{map_some}
-use Rattle.simplified_topology.specs.Protected.{MarkedRefs, sparing}
-use Rattle.simplified_topology.specs.Simplified.{large_refs, objects_pruned}
+use Rattle.build_meaning.specs.Protected.{MarkedRefs, sparing}
+use Rattle.build_meaning.specs.Simplified.{large_refs, objects_pruned}
 use Rattle.topojson_types.specs.Decoding.{placed_arcs}
 use Rattle.topojson_types.specs.Validity.{IsPlace}
 use Rattle.topo_model.specs.Drops.{objects_drops}

@@ -3,7 +3,7 @@ use Rattle.std.specs.List.{AllByRecursion, list_all}
 use Rattle.std.proofs.lemmas.Result.{IfOk-weaker}
 use Rattle.build_meaning.specs.Trimming.{is_used, keep_from, line_renumbered}
 use Rattle.geometry.specs.Joins.{AreInRange}
-use Rattle.simplified_topology.specs.Simplified.{objects_pruned}
+use Rattle.build_meaning.specs.Simplified.{objects_pruned}
 use Rattle.topojson_types.specs.Topologies.{objects_lines_and_rings}
 use Rattle.topo_model.proofs.AllUsed.{all_kept, renumbered_alike}
 use Rattle.topo_model.proofs.Chosen.{chosen_as}

@@ -1,5 +1,5 @@
 use Rattle.std.proofs.Common.{ap, ◌∙◌}
-use Rattle.simplified_topology.specs.Simplified.{retained}
+use Rattle.build_meaning.specs.Simplified.{retained}
 use Rattle.topo_model.proofs.Numbered.{arcs_more, arcs_all}
 use Rattle.topo_model.proofs.given_numbers.positions_of_all.Goals as goal
 

@@ -1,5 +1,5 @@
 use Rattle.std.proofs.Common.{◌≡◌, ◌++◌, map, drop}
-use Rattle.simplified_topology.specs.Simplified.{retained_arcs}
+use Rattle.build_meaning.specs.Simplified.{retained_arcs}
 use Rattle.topo_model.proofs.given_numbers.positions_of_all.Given as goal
 
 abbrev pub invariant-loop-i : goal.invariant-loop-i

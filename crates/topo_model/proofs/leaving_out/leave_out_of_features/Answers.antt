@@ -1,8 +1,8 @@
 use Rattle.std.proofs.Common.{◌++◌, ap, get_or, refl, ◌∙◌}
 use Rattle.geometry.specs.Lists.{tail, map_some}
 use Rattle.linework.specs.Linework.{feature_address}
-use Rattle.simplified_topology.specs.Protected.{MarkedRefs, sparing}
-use Rattle.simplified_topology.specs.Simplified.{large_refs}
+use Rattle.build_meaning.specs.Protected.{MarkedRefs, sparing}
+use Rattle.build_meaning.specs.Simplified.{large_refs}
 use Rattle.topo_model.specs.Along.{first_way, feature_along}
 use Rattle.topo_model.specs.Drops.{object_drops, shape_drops}
 use Rattle.topo_model.specs.Places.{dropped_at}

@@ -1,7 +1,7 @@
 use Rattle.geometry.specs.Lists.{tail}
 use Rattle.linework.specs.Linework.{feature_address}
-use Rattle.simplified_topology.specs.Protected.{sparing}
-use Rattle.simplified_topology.specs.Simplified.{large_refs}
+use Rattle.build_meaning.specs.Protected.{sparing}
+use Rattle.build_meaning.specs.Simplified.{large_refs}
 use Rattle.topo_model.specs.Along.{first_way, feature_along}
 use Rattle.topo_model.specs.Drops.{shape_drops}
 use Rattle.topo_model.specs.Places.{dropped_at}

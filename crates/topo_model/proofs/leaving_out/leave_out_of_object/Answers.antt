@@ -1,8 +1,8 @@
 use Rattle.std.proofs.Common.{ap, sym, ◌∙◌}
 use Rattle.std.proofs.lemmas.Result.{on_ok_weaker}
 use Rattle.geometry.specs.Lists.{map_some}
-use Rattle.simplified_topology.specs.Protected.{MarkedRefs, sparing}
-use Rattle.simplified_topology.specs.Simplified.{large_refs}
+use Rattle.build_meaning.specs.Protected.{MarkedRefs, sparing}
+use Rattle.build_meaning.specs.Simplified.{large_refs}
 use Rattle.topojson_types.specs.declared.object.TopoObject.TheVariants.{One}
 use Rattle.topo_model.specs.Along.{feature_along, object_along}
 use Rattle.topo_model.proofs.leaving_out.leave_out_of_object.Goals as goal

@@ -1,7 +1,7 @@
 use Rattle.std.proofs.Common.{[], get_or, ap, map, refl, ◌∙◌}
 use Rattle.geometry.specs.Lists.{map_some}
-use Rattle.simplified_topology.specs.Protected.{MarkedRefs, sparing}
-use Rattle.simplified_topology.specs.Simplified.{large_refs}
+use Rattle.build_meaning.specs.Protected.{MarkedRefs, sparing}
+use Rattle.build_meaning.specs.Simplified.{large_refs}
 use Rattle.topojson_types.specs.Topologies.{object_features}
 use Rattle.topo_model.specs.Along.{Ways, object_along, ways_after}
 use Rattle.topo_model.specs.Drops.{object_drops, objects_drops}

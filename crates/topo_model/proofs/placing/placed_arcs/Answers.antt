@@ -1,7 +1,7 @@
 use Rattle.std.proofs.Common.{ap, sym, subst, ◌∙◌}
 use Rattle.std.specs.List.{AllByRecursion}
 use Rattle.std.specs.Option.{option_copied}
-use Rattle.simplified_topology.specs.Thresholds.{placed_cells}
+use Rattle.build_meaning.specs.Thresholds.{placed_cells}
 use Rattle.owned_values.proofs.Elements.{all_at}
 use Rattle.owned_values.proofs.Lists.{mapped_more, mapped_all}
 use Rattle.topojson_types.specs.Validity.{IsPlace}

@@ -1,6 +1,6 @@
 use Rattle.std.proofs.Common.{map, refl}
 use Rattle.geometry.specs.Lists.{some_of}
-use Rattle.simplified_topology.specs.Protected.{greatest_ring, protected_of}
+use Rattle.build_meaning.specs.Protected.{greatest_ring, protected_of}
 use Rattle.topo_model.specs.Ways.{way_of}
 use Rattle.topo_model.proofs.Reported.{reported_all}
 use Rattle.topo_model.proofs.BestRing.{ways_more, rings_more}

@@ -1,5 +1,5 @@
 use Rattle.std.proofs.Common.{◌≡◌, ◌++◌, drop}
-use Rattle.simplified_topology.specs.Protected.{greatest_ring, protected_rings}
+use Rattle.build_meaning.specs.Protected.{greatest_ring, protected_rings}
 use Rattle.topo_model.specs.Ways.{ways_of}
 use Rattle.topo_model.proofs.protecting.protected_rings.Given as goal
 

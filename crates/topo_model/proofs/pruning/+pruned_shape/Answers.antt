@@ -1,7 +1,7 @@
 use Rattle.geometry.specs.Lists.{map_some}
 use Rattle.geometry.specs.Pruning.{prune}
-use Rattle.simplified_topology.specs.OuterRings.{marked}
-use Rattle.simplified_topology.specs.Protected.{sparing}
+use Rattle.build_meaning.specs.OuterRings.{marked}
+use Rattle.build_meaning.specs.Protected.{sparing}
 use Rattle.std.proofs.Common.{◌+◌, refl}
 use Rattle.topo_model.proofs.Pruned.{at_point, at_points, none_left, one_left}
 use Rattle.topo_model.proofs.pruning.+pruned_shape.Goals as goal

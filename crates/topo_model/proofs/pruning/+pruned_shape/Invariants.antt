@@ -1,7 +1,7 @@
 use Rattle.geometry.specs.Lists.{map_some}
 use Rattle.geometry.specs.Pruning.{prune}
-use Rattle.simplified_topology.specs.OuterRings.{marked}
-use Rattle.simplified_topology.specs.Protected.{sparing}
+use Rattle.build_meaning.specs.OuterRings.{marked}
+use Rattle.build_meaning.specs.Protected.{sparing}
 use Rattle.topo_model.proofs.Pruned.{Kept}
 use Rattle.topo_model.proofs.pruning.+pruned_shape.Given as goal
 

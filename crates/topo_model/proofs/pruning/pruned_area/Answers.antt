@@ -1,7 +1,7 @@
 use Rattle.std.proofs.Common.{arith, ◌≡◌, ℤ, true, List, ◌∷◌, drop, sym, ◌∙◌}
 use Rattle.std.proofs.lemmas.Grind.{common_steps}
 use Rattle.geometry.specs.Lists.{map_some, some_of}
-use Rattle.simplified_topology.specs.OuterRings.{ends_here}
+use Rattle.build_meaning.specs.OuterRings.{ends_here}
 use Rattle.topo_model.proofs.Pruned.{of_rings, outer_stays}
 use Rattle.topo_model.proofs.pruning.pruned_area.Goals as goal
 

@@ -1,8 +1,8 @@
 use Rattle.std.proofs.Common.{true}
 use Rattle.geometry.specs.Lists.{map_some}
 use Rattle.geometry.specs.Pruning.{area_by}
-use Rattle.simplified_topology.specs.OuterRings.{rings_marked}
-use Rattle.simplified_topology.specs.Protected.{sparing}
+use Rattle.build_meaning.specs.OuterRings.{rings_marked}
+use Rattle.build_meaning.specs.Protected.{sparing}
 use Rattle.topo_model.proofs.Pruned.{Kept}
 use Rattle.topo_model.proofs.pruning.pruned_areas.Given as goal
 

@@ -1,7 +1,7 @@
 use Rattle.std.proofs.Common.{inr, refl, ap, ◌∙◌}
 use Rattle.std.proofs.lemmas.Result.{IfOk-weaker}
 use Rattle.byte_ends.specs.Ends.{saturated}
-use Rattle.simplified_topology.specs.Protected.{no_protection}
+use Rattle.build_meaning.specs.Protected.{no_protection}
 use Rattle.topo_model.specs.Parts.{contents}
 use Rattle.topo_model.proofs.reassembling.reassemble.Goals as goal
 

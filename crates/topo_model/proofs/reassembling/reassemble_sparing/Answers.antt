@@ -2,7 +2,7 @@ use Rattle.std.proofs.Common.{map, refl, ap, sym, subst, ◌∙◌}
 use Rattle.std.specs.Option.{option_copied}
 use Rattle.byte_ends.specs.Ends.{saturated}
 use Rattle.geometry.specs.Lists.{map_some}
-use Rattle.simplified_topology.specs.Protected.{spared_dropped, spared_removed_count}
+use Rattle.build_meaning.specs.Protected.{spared_dropped, spared_removed_count}
 use Rattle.topojson_types.specs.Validity.{IsTopology}
 use Rattle.topo_model.specs.Along.{AreWays, Protect}
 use Rattle.topo_model.specs.Parts.{contents}

@@ -1,8 +1,8 @@
 use Rattle.std.proofs.Common.{ℕ, List, length, map, refl, ap, sym, subst, ◌∙◌}
 use Rattle.std.proofs.lemmas.Result.{IfOk-weaker}
 use Rattle.byte_ends.specs.Ends.{saturated}
-use Rattle.simplified_topology.specs.Simplified.{EachFromFirstToLast, retained_arcs}
-use Rattle.simplified_topology.specs.Protected.{spared_by, spared_dropped, spared_removed_count}
+use Rattle.build_meaning.specs.Simplified.{EachFromFirstToLast, retained_arcs}
+use Rattle.build_meaning.specs.Protected.{spared_by, spared_dropped, spared_removed_count}
 use Rattle.geometry.specs.Lists.{map_some}
 use Rattle.topo_model.specs.Along.{AreWays, Protect}
 use Rattle.topojson_types.specs.Validity.{IsTopology}

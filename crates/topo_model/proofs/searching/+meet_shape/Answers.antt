@@ -1,6 +1,6 @@
 use Rattle.std.proofs.Common.{◌≡◌, ℕ, List, ◌∷◌, ◌++◌, [], Option, map, ap, sym, ◌∙◌}
 use Rattle.geometry.specs.Paths.{of_parts}
-use Rattle.simplified_topology.specs.OuterRings.{outer_rings}
+use Rattle.build_meaning.specs.OuterRings.{outer_rings}
 use Rattle.topo_model.specs.Searching.{Found, all_met, at_way}
 use Rattle.topo_model.proofs.BestRing.{of_group, part_met, parts_met}
 use Rattle.topo_model.proofs.searching.+meet_shape.Goals as goal

@@ -1,6 +1,6 @@
 use Rattle.std.proofs.Common.{◌≡◌, map, drop}
 use Rattle.geometry.specs.Paths.{of_parts}
-use Rattle.simplified_topology.specs.OuterRings.{outer_rings}
+use Rattle.build_meaning.specs.OuterRings.{outer_rings}
 use Rattle.topo_model.specs.Searching.{all_met, at_way}
 use Rattle.topo_model.proofs.searching.+meet_shape.Given as goal
 

@@ -1,5 +1,5 @@
 use Rattle.std.proofs.Common.{◌≡◌, ◌∷◌, ◌++◌, [], ap, ◌∙◌}
-use Rattle.simplified_topology.specs.OuterRings.{outer_ring}
+use Rattle.build_meaning.specs.OuterRings.{outer_ring}
 use Rattle.topo_model.specs.Searching.{all_met, at_way}
 use Rattle.topo_model.proofs.BestRing.{part_met, parts_met}
 use Rattle.topo_model.proofs.searching.meet_areas.Goals as goal

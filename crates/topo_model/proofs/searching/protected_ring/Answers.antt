@@ -1,7 +1,7 @@
 use Rattle.std.proofs.Common.{Option, None, ap, sym, ◌∙◌}
 use Rattle.geometry.specs.Lists.{map_some, then_some}
-use Rattle.simplified_topology.specs.OuterRings.{outer_rings}
-use Rattle.simplified_topology.specs.Protected.{greatest_ring}
+use Rattle.build_meaning.specs.OuterRings.{outer_rings}
+use Rattle.build_meaning.specs.Protected.{greatest_ring}
 use Rattle.topo_model.specs.Searching.{Found, all_met, at_way}
 use Rattle.topo_model.proofs.BestRing.{best_is_greatest}
 use Rattle.topo_model.proofs.searching.protected_ring.Goals as goal

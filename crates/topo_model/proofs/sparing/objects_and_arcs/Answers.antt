@@ -9,10 +9,10 @@ use Rattle.byte_ends.specs.Ends.{saturated}
 use Rattle.geometry.specs.Lists.{map_some}
 use Rattle.linework.specs.Linework.{linework}
 use Rattle.build_meaning.specs.Layers.{layers_of}
-use Rattle.simplified_topology.specs.Assembled.{arcs_of_layers, own_refs}
-use Rattle.simplified_topology.specs.Protected.{greatest_ring, objects_spared, sparing}
-use Rattle.simplified_topology.specs.Simplified.{large_refs}
-use Rattle.simplified_topology.proofs.Assembled.{contents}
+use Rattle.build_meaning.specs.Assembled.{arcs_of_layers, own_refs}
+use Rattle.build_meaning.specs.Protected.{greatest_ring, objects_spared, sparing}
+use Rattle.build_meaning.specs.Simplified.{large_refs}
+use Rattle.build_meaning.proofs.Assembled.{contents}
 use Rattle.topo_model.specs.Along.{Ways, large_along}
 use Rattle.topo_model.specs.Drafts.{objects_drafted}
 use Rattle.topo_model.specs.Drops.{objects_drops}

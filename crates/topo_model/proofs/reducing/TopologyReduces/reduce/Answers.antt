@@ -1,7 +1,7 @@
 use Rattle.std.proofs.Common.{map, inr, refl, ap, ◌∙◌}
 use Rattle.std.proofs.lemmas.Result.{IfOk-weaker}
 use Rattle.byte_ends.specs.Ends.{saturated}
-use Rattle.simplified_topology.specs.Protected.{no_protection}
+use Rattle.build_meaning.specs.Protected.{no_protection}
 use Rattle.topo_model.proofs.reducing.TopologyReduces.reduce.Goals as goal
 
 pub reduced_topology-requires-clause-ways : goal.reduced_topology-requires-clause-ways

@@ -1,0 +1,102 @@
+-- What is assembled of layers, in the words of their lines; and with each arc reduced at a threshold it is what is built of them.
+use Rattle.std.proofs.Common.{rules, arith, ◌≡◌, ℕ, Bool, List, [], ◌∷◌, map, Option, None, refl, ap, ◌∙◌}
+use Rattle.build_meaning.proofs.SimplifiedNames.{AllByRecursion, all_weaker, all_left, all_right, all_parts, all_map, all_of_map, all_two, map_agree, dropped_of_layers, then_some, Point, option_lines_and_rings, Cause, Shape, Featured, Stroke, linework, Contents, TopoObject, reduce, reduced, DirectionLaw, ZeroLaw, EndsStay, NoneIsNew, Line, StandsIn, all_clean, each_stands, own_apart, kept_of_map, arcs_long, untrimmed_is_valid, each_stays, loses_nothing}
+use Rattle.build_meaning.proofs.SimplifiedNames.{all_arcs, kept_refs, untrimmed, built, removed_count, own_cause, unless, kept_line, option_drop_causes, expected_dropped, AreSound, whole_line, Kept, objects_by, trimmed, arcs_of_layers, arc_indexes, own_refs, assembled_cause, option_caused, layers_caused, assembled, assembled_dropped, assembled_removed_count, AssemblesToBuilt, AssemblingDropsExpected, AssemblingRemoves, ArcIndexesReach, AssembledIsValid, large_refs, retained_arcs, retained_whole, objects_pruned, simplified_by, removed_count_by}
+use Rattle.geometry.proofs.Omitted.{drop_causes_agree}
+use Rattle.build_meaning.specs.Layers.{Named, layers_of, features_lines_and_rings, named_lines_and_rings}
+use Rattle.build_meaning.proofs.Simplified.{IsWholeAtZero, no_small, cause_same, objects_again}
+use Rattle.build_meaning.proofs.Made.{objects_made}
+use Rattle.build_meaning.proofs.Retained.{retained_each, each_reduced}
+use Rattle.build_meaning.proofs.Reaching.{each_through}
+use Rattle.build_meaning.proofs.ValidSimplified.{simplified_is_valid}
+
+-- ---- in the words of the layers' lines
+
+-- objects over arcs, without a transform
+abbrev pub contents : List (List ℕ × TopoObject) → List (List Point) → Contents
+contents os arcs = record { objects = os; arcs = arcs; transform = None }
+
+-- each line by the indexes of its own pieces, unless it is dropped
+abbrev pub kept_by : List Stroke → List (List Point) → ℕ → Kept
+kept_by lines arcs limit closed ps = unless (assembled_cause lines arcs limit closed ps) (own_refs lines closed ps)
+
+line_kept : (lines : List Stroke) (arcs : List (List Point)) (limit : ℕ) (b : Line) → IsWholeAtZero lines b → then_some (large_refs limit arcs b.0) (kept_refs lines 0 0 b.0 b.1) ≡ kept_by lines arcs limit b.0 b.1
+line_kept lines arcs limit b whole = grind (arith, no_small)
+
+-- what is left of the layers over all arcs, before those that no line uses are left out
+pub before_trimming : ZeroLaw → (kept : List (List ℕ)) (limit : ℕ) (ls : Named) → AreSound ls →
+    retained_whole kept limit (untrimmed 0 0 ls) ≡ contents (objects_by (kept_by (linework (layers_of ls)) (retained_arcs kept (arcs_of_layers ls)) limit) ls) (retained_arcs kept (arcs_of_layers ls))
+before_trimming zero kept limit ls sound =
+    let lines : List Stroke = linework (layers_of ls) in
+    let fewer : List (List Point) = retained_arcs kept (arcs_of_layers ls) in
+    ap (λ arcs. contents (objects_pruned (large_refs limit (retained_arcs kept arcs)) (objects_by (kept_refs lines 0 0) ls)) (retained_arcs kept arcs)) (each_stays zero (all_arcs lines))
+    ∙ ap (λ os. contents os fewer) (objects_made (kept_refs lines 0 0) (large_refs limit fewer) (kept_by lines fewer limit) ls
+    (all_weaker (λ b. kept_line lines 0 0 b.0 b.1 ≡ whole_line ls b.0 b.1) (λ b. then_some (large_refs limit fewer b.0) (kept_refs lines 0 0 b.0 b.1) ≡ kept_by lines fewer limit b.0 b.1)
+    (line_kept lines fewer limit) (named_lines_and_rings ls) (loses_nothing zero ls sound)))
+
+-- ---- with each arc reduced
+
+retained_reduced : ZeroLaw → (t : ℕ) (arcs : List (List Point)) → retained_arcs (map (reduce t) arcs) (map (reduced 0) arcs) ≡ map (reduced t) arcs
+retained_reduced zero t arcs = ap (retained_arcs (map (reduce t) arcs)) (each_stays zero arcs) ∙ retained_each (reduce t) arcs ∙ each_reduced t arcs
+
+whole_is_untrimmed : DirectionLaw → ZeroLaw → (t limit : ℕ) (ls : Named) → AreSound ls → retained_whole (arc_indexes t ls) limit (untrimmed 0 0 ls) ≡ untrimmed t limit ls
+whole_is_untrimmed law zero t limit ls sound = grind (arith, retained_reduced zero t, objects_again law zero t limit ls sound)
+
+pub assembles_to_built : DirectionLaw → ZeroLaw → AssemblesToBuilt
+unfolding assembled simplified_by built
+assembles_to_built law zero t limit ls sound = ap trimmed (whole_is_untrimmed law zero t limit ls sound)
+
+pub removes : DirectionLaw → ZeroLaw → AssemblingRemoves
+unfolding assembled_removed_count removed_count_by removed_count simplified_by trimmed
+removes law zero t limit ls sound = grind (arith, whole_is_untrimmed law zero t limit ls sound, each_stays zero, kept_of_map (reduced t))
+
+-- ---- what is dropped
+
+module _ (one two : Bool → List Point → Option Cause) where
+  abbrev pub Alike : Bool × List Point → Type 0
+  Alike b = one b.0 b.1 ≡ two b.0 b.1
+
+  features_alike : (fs : List Featured) → AllByRecursion Alike (features_lines_and_rings fs) → map (λ f. option_caused one f.shape) fs ≡ map (λ f. option_caused two f.shape) fs
+  features_alike [] h = refl
+  features_alike (f ∷ fs) h = grind (
+    arith,
+    drop_causes_agree,
+    all_left,
+    all_right,
+    features_alike fs (all_right Alike
+        (option_lines_and_rings f.shape) (features_lines_and_rings fs) h),
+  )
+
+  pub layers_alike : (ls : Named) → AllByRecursion Alike (named_lines_and_rings ls) → map (λ l. map (λ f. option_caused one f.shape) l.1.features) ls ≡ map (λ l. map (λ f. option_caused two f.shape) l.1.features) ls
+  layers_alike [] h = refl
+  layers_alike (l ∷ ls) h = grind (arith, features_alike, all_left, all_right, layers_alike ls (all_right Alike (features_lines_and_rings l.1.features) (named_lines_and_rings ls) h))
+
+module _ (lines : List Stroke) (t limit : ℕ) where
+  option_reported : (s : Option Shape) → option_caused (own_cause lines t limit) s ≡ option_drop_causes lines t limit s
+  option_reported s = grind arith
+
+  features_reported : (fs : List Featured) → map (λ f. option_caused (own_cause lines t limit) f.shape) fs ≡ map (λ f. option_drop_causes lines t limit f.shape) fs
+  features_reported fs = search (all_parts, all_map, all_of_map, all_two, all_weaker, map_agree, option_reported)
+
+  layers_reported : (ls : Named) → map (λ l. map (λ f. option_caused (own_cause lines t limit) f.shape) l.1.features) ls ≡ map (λ l. map (λ f. option_drop_causes lines t limit f.shape) l.1.features) ls
+  layers_reported ls = search (all_parts, all_map, all_of_map, all_two, all_weaker, map_agree, features_reported)
+
+pub drops_expected : DirectionLaw → ZeroLaw → AssemblingDropsExpected
+unfolding assembled_dropped expected_dropped
+drops_expected law zero t limit ls sound =
+    let lines : List Stroke = linework (layers_of ls) in
+    let all : List (List Point) = arcs_of_layers ls in
+    ap (λ arcs. layers_caused (assembled_cause lines arcs limit) ls) (retained_each (reduce t) all ∙ each_reduced t all)
+    ∙ ap (dropped_of_layers 0) (layers_alike (assembled_cause lines (map (reduced t) all) limit) (own_cause lines t limit) ls
+    (all_weaker (StandsIn lines) (λ b. assembled_cause lines (map (reduced t) all) limit b.0 b.1 ≡ own_cause lines t limit b.0 b.1) (λ b stands. grind
+    (arith, cause_same, own_apart)) (named_lines_and_rings ls) (each_stands ls))
+    ∙ layers_reported lines t limit ls)
+
+-- ---- validity
+
+pub indexes_reach : ArcIndexesReach
+indexes_reach t ls sound = each_through t None (arcs_of_layers ls) (arcs_long (linework (layers_of ls)) (all_clean ls sound))
+
+pub assembled_is_valid : EndsStay → NoneIsNew → ZeroLaw → AssembledIsValid
+unfolding assembled
+assembled_is_valid stay none zero kept limit ls sound distinct through = search (rules, simplified_is_valid, untrimmed_is_valid, each_stays)

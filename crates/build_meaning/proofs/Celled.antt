@@ -1,0 +1,136 @@
+-- A topology on a grid is reduced to the cells of the reduced topology.
+use Rattle.std.proofs.Common.{rules, arith, ◌≡◌, ◌==◌, ℕ, zero, suc, ℤ, Bool, List, [], ◌∷◌, ◌++◌, map, Option, None, Some, refl, sym, ap, ◌∙◌}
+use Rattle.build_meaning.proofs.SimplifiedNames.{AllByRecursion, list_any, agreed, composed, at, number_of, map_some, then_some, with_some, Point, prune, option_lines_and_rings, lines_and_rings, TopoShape, Contents, object_features, features_lines_and_rings, objects_lines_and_rings, place_on, TopoFeature, TopoObject, One, Many, Transform, reduce, DirectionLaw, NoneIsNew, ZeroLaw, kept_of_map, built, is_used, keep_from, line_renumbered, trimmed, feature_celled, object_celled, objects_celled, celled, LiesBack, SimplifiesToBuiltOnGrid, Refs, retained, retained_arcs, large_refs, feature_pruned, object_pruned, objects_pruned, retained_whole, simplified_by, simplified_contents}
+use Rattle.build_meaning.proofs.Again.{all_hold}
+use Rattle.build_meaning.proofs.BuiltCells.{built_cells}
+use Rattle.build_meaning.proofs.Simplified.{simplifies_to_built}
+use Rattle.build_meaning.proofs.Replaced.{lines_and_rings_replaced}
+use Rattle.build_meaning.proofs.ValidRetained.{all_retained}
+
+-- ---- arcs
+
+pub at_map : {A B : Type 0} (f : A → B) (xs : List A) (i : ℕ) → at (map f xs) i ≡ map_some f (at xs i)
+at_map f [] i = refl
+at_map f (x ∷ xs) zero = refl
+at_map f (x ∷ xs) (suc i) = at_map f xs i
+
+retained_map : {A B : Type 0} (f : A → B) (is : List ℕ) (xs : List A) → retained is (map f xs) ≡ map f (retained is xs)
+retained_map f [] xs = refl
+retained_map f (i ∷ is) xs = ap (λ o. with_some o (retained is (map f xs))) (at_map f xs i) ∙ ap (with_some (map_some f (at xs i)))
+    (retained_map f is xs) ∙ (grind arith)
+
+pub arcs_map : (f : Point → Point) (kept : List (List ℕ)) (arcs : List (List Point)) → retained_arcs kept (map (map f) arcs) ≡ map (map f) (retained_arcs kept arcs)
+arcs_map f [] arcs = refl
+arcs_map f (is ∷ kept) [] = refl
+arcs_map f (is ∷ kept) (a ∷ arcs) = ap (λ x. x ∷ retained_arcs kept (map (map f) arcs)) (retained_map f is a) ∙ ap (λ xs. map f (retained is a) ∷ xs) (arcs_map f kept arcs)
+
+module _ (transform : Transform) (cell : Point → Point) where
+  abbrev Lies : List Point → Type 0
+  Lies ps = AllByRecursion (LiesBack transform cell) ps
+
+  lies_back : (ps : List Point) → Lies ps → map (place_on transform) (map cell ps) ≡ ps
+  lies_back [] h = refl
+  lies_back (p ∷ ps) h = ap (λ q. q ∷ map (place_on transform) (map cell ps)) h.0 ∙ ap (λ l. p ∷ l) (lies_back ps h.1)
+
+  pub all_lie_back : (arcs : List (List Point)) → AllByRecursion Lies arcs → map (map (place_on transform)) (map (map cell) arcs) ≡ arcs
+  all_lie_back [] h = refl
+  all_lie_back (a ∷ arcs) h = ap (λ x. x ∷ map (map (place_on transform)) (map (map cell) arcs)) (lies_back a h.0) ∙ ap (λ xs. a ∷ xs) (all_lie_back arcs h.1)
+
+  indexes_same : (t : ℕ) (arcs : List (List Point)) → AllByRecursion Lies arcs → map (λ cells. reduce t (map (place_on transform) cells)) (map (map cell) arcs) ≡ map (reduce t) arcs
+  indexes_same t [] h = refl
+  indexes_same t (a ∷ arcs) h = grind (arith, lies_back, indexes_same t arcs h.1)
+
+  pub retained_lie : (kept : List (List ℕ)) (arcs : List (List Point)) → AllByRecursion Lies arcs → AllByRecursion Lies (retained_arcs kept arcs)
+  retained_lie [] arcs h = tt
+  retained_lie (is ∷ kept) [] h = tt
+  retained_lie (is ∷ kept) (a ∷ arcs) h = (all_retained (LiesBack transform cell) is a h.0, retained_lie kept arcs h.1)
+
+  -- ---- objects
+
+  as_it_is : {A : Type 0} (o : Option A) → then_some (λ a. Some a) o ≡ o
+  as_it_is o = grind arith
+
+  abbrev same_refs : Refs
+  same_refs closed refs = Some refs
+
+  module _ (kept : Refs) where
+    shape_turn : (s : Option TopoShape) → then_some (prune (λ (p : Point). p) kept) (then_some (prune cell same_refs) s) ≡ then_some (prune cell same_refs) (then_some (prune (λ (p : Point). p) kept) s)
+    shape_turn None = refl
+    shape_turn (Some s) = search (rules, composed, agreed, all_hold, as_it_is)
+
+    features_turn : (fs : List TopoFeature) → map (feature_pruned kept) (map (feature_celled cell) fs) ≡ map (feature_celled cell) (map (feature_pruned kept) fs)
+    features_turn [] = refl
+    features_turn (f ∷ fs) = grind (arith, shape_turn, features_turn fs)
+
+    objects_turn : (os : List (List ℕ × TopoObject)) → objects_pruned kept (objects_celled cell os) ≡ objects_celled cell (objects_pruned kept os)
+    objects_turn [] = refl
+    objects_turn (o ∷ os) = ap (λ x. (o.0, x) ∷ objects_pruned kept (objects_celled cell os)) (grind (arith, shape_turn, features_turn))
+        ∙ ap (λ xs. (o.0, object_celled cell (object_pruned kept o.1)) ∷ xs) (objects_turn os)
+
+  -- ---- the same lines, so the same arcs are used
+
+  map_same : {A : Type 0} (xs : List (Bool × A)) → map (λ b. (b.0, b.1)) xs ≡ xs
+  map_same [] = refl
+  map_same (x ∷ xs) = ap (λ l. x ∷ l) (map_same xs)
+
+  option_lines : (s : Option TopoShape) → option_lines_and_rings (then_some (prune cell same_refs) s) ≡ option_lines_and_rings s
+  option_lines None = refl
+  option_lines (Some s) = lines_and_rings_replaced cell (λ (refs : List ℤ). refs) s ∙ map_same (lines_and_rings s)
+
+  features_lines : (fs : List TopoFeature) → features_lines_and_rings (map (feature_celled cell) fs) ≡ features_lines_and_rings fs
+  features_lines [] = refl
+  features_lines (f ∷ fs) = ap (λ l. l ++ features_lines_and_rings (map (feature_celled cell) fs)) (option_lines f.shape) ∙ ap (λ l. option_lines_and_rings f.shape ++ l) (features_lines fs)
+
+  object_lines : (o : TopoObject) → features_lines_and_rings (object_features (object_celled cell o)) ≡ features_lines_and_rings (object_features o)
+  object_lines (One f) = features_lines (f ∷ [])
+  object_lines (Many fs) = features_lines fs
+
+  pub objects_lines : (os : List (List ℕ × TopoObject)) → objects_lines_and_rings (objects_celled cell os) ≡ objects_lines_and_rings os
+  objects_lines [] = refl
+  objects_lines (o ∷ os) = ap (λ l. l ++ objects_lines_and_rings (objects_celled cell os)) (object_lines o.1) ∙ ap (λ l. features_lines_and_rings (object_features o.1) ++ l) (objects_lines os)
+
+  -- ---- topologies
+
+  abbrev used_in : List (Bool × List ℤ) → ℕ → Bool
+  used_in bs i = list_any (λ b. list_any (λ r. number_of r == i) b.1) bs
+
+  abbrev by_used : Contents → (ℕ → Bool) → Contents
+  by_used y u = record { objects = objects_pruned (line_renumbered u) (objects_celled cell y.objects); arcs = keep_from u 0 (map (map cell) y.arcs); transform = Some transform }
+
+  pub trimmed_celled : (y : Contents) → trimmed (celled transform cell y) ≡ celled transform cell (trimmed y)
+  unfolding trimmed celled
+  trimmed_celled y =
+      ap (λ bs. by_used y (used_in bs)) (objects_lines y.objects)
+      ∙ ap (λ os. record { objects = os; arcs = keep_from (is_used y.objects) 0 (map (map cell) y.arcs); transform = Some transform }) (objects_turn (line_renumbered (is_used y.objects)) y.objects)
+      ∙ ap (λ arcs. record { objects = objects_celled cell (objects_pruned (line_renumbered (is_used y.objects)) y.objects); arcs = arcs; transform = Some transform })
+      (sym (kept_of_map (map cell) (is_used y.objects) 0 y.arcs))
+
+  module _ (limit : ℕ) (os : List (List ℕ × TopoObject)) (arcs : List (List Point)) (lie : AllByRecursion Lies arcs) where
+    abbrev plain : Contents
+    plain = record { objects = os; arcs = arcs; transform = None }
+
+    abbrev on_grid : List (List Point) → List (List Point) → Contents
+    on_grid places cells = record { objects = objects_pruned (large_refs limit places) (objects_celled cell os); arcs = cells; transform = Some transform }
+
+    -- by the same numbers
+    pub retained_celled : (kept : List (List ℕ)) → simplified_by kept limit (celled transform cell (record { objects = os; arcs = arcs; transform = None })) ≡ celled transform cell (simplified_by kept limit (record { objects = os; arcs = arcs; transform = None }))
+    unfolding simplified_by celled
+    retained_celled kept =
+        let fewer : List (List Point) = retained_arcs kept arcs in
+        ap (λ x. trimmed (on_grid (map (map (place_on transform)) x) x)) (arcs_map cell kept arcs)
+        ∙ ap (λ x. trimmed (on_grid x (map (map cell) fewer))) (all_lie_back fewer (retained_lie kept arcs lie))
+        ∙ ap (λ x. trimmed (record { objects = x; arcs = map (map cell) fewer; transform = Some transform })) (objects_turn (large_refs limit fewer) os)
+        ∙ trimmed_celled (retained_whole kept limit plain)
+
+    pub simplified_celled : (t : ℕ) → simplified_contents t limit (celled transform cell (record { objects = os; arcs = arcs; transform = None })) ≡ celled transform cell (simplified_contents t limit (record { objects = os; arcs = arcs; transform = None }))
+    unfolding simplified_contents celled
+    simplified_celled t =
+        ap (λ k. simplified_by k limit (celled transform cell plain)) (indexes_same t arcs lie) ∙ retained_celled (map (reduce t) arcs)
+
+-- ---- what is built of layers
+
+pub simplifies_on_grid : DirectionLaw → ZeroLaw → NoneIsNew → SimplifiesToBuiltOnGrid
+unfolding built trimmed
+simplifies_on_grid law stays none transform cell t limit ls sound lie =
+    (simplified_celled transform cell limit (built 0 0 ls).objects (built 0 0 ls).arcs (built_cells none (LiesBack transform cell) 0 0 ls lie).0 t) ∙ ap
+    (celled transform cell) (simplifies_to_built law stays t limit ls sound)

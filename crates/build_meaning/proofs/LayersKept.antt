@@ -1,0 +1,125 @@
+-- In each feature of layers the protected ring stays.
+use Rattle.std.proofs.Common.{◌≡◌, ℕ, ℤ, Bool, List, [], ◌∷◌, map, Option, None, Some, sym, ap, ◌∙◌, subst}
+use Rattle.build_meaning.proofs.SimplifiedNames.{map-map, AllByRecursion, all_of_map, all_two, all_weaker, joined, map_some, Point, option_lines_and_rings, Featured, Axes, cell, linework, Contents, TopoFeature, NoneIsNew, ZeroLaw, ArcsRise, RingsStay, EachTo, AllUsed, all_used, each_stays, loses_nothing, kept_refs, untrimmed, built, AreSound, feature_by, is_used, keep_from, line_renumbered, renumbered, trimmed, arcs_of_layers, feature_celled, object_celled, celled, LiesBack, all_features, transform_of, arc_positions, greatest_ring, protected_of, protecting_contents, protecting_reduced, HasRing, ring_refs, protecting_arc_indexes, assembled_sparing, greatest_rings, BuiltFeaturesHaveRings, LayersShapesStay, AreOn, IsOn, quantized, feature_pruned, object_pruned}
+use Rattle.build_meaning.specs.Layers.{Named, layers_of}
+use Rattle.build_meaning.proofs.OnGrid.{all_lie, built_on}
+use Rattle.build_meaning.proofs.Protected.{each_to_made, features_over, each_of_objects, shapes_stay}
+use Rattle.build_meaning.proofs.ProtectedLayers.{IsWholeFeature, ring_of_layer, features_of_layers, each_layer, is_assembled}
+use Rattle.build_meaning.proofs.RingsAlike.{pruned_features, ring_alike, ring_celled, celled_features}
+use Rattle.build_meaning.proofs.SparedAlike.{positions_alike, placed_same}
+
+each_further : {A B C : Type 0} (R : B → A → Type 0) (S : C → A → Type 0) (make : B → C) → ((b : B) (a : A) → R b a → S (make b) a) → (ys : List B) (xs : List A) → EachTo R ys xs → EachTo S (map make ys) xs
+each_further R S make f [] [] h = tt
+each_further R S make f [] (x ∷ xs) h = absurd h
+each_further R S make f (y ∷ ys) [] h = absurd h
+each_further R S make f (y ∷ ys) (x ∷ xs) h = (f y x h.0, each_further R S make f ys xs h.1)
+
+each_joined : {A B C : Type 0} (R : C → B → Type 0) (S : B → A → Type 0) (Q : C → A → Type 0) → ((c : C) (b : B) (a : A) → R c b → S b a → Q c a) → (zs : List C) (ys : List B) (xs : List A)
+    → EachTo R zs ys → EachTo S ys xs → EachTo Q zs xs
+each_joined R S Q f [] [] [] h k = tt
+each_joined R S Q f [] [] (x ∷ xs) h k = absurd k
+each_joined R S Q f [] (y ∷ ys) xs h k = absurd h
+each_joined R S Q f (z ∷ zs) [] xs h k = absurd h
+each_joined R S Q f (z ∷ zs) (y ∷ ys) [] h k = absurd k
+each_joined R S Q f (z ∷ zs) (y ∷ ys) (x ∷ xs) h k = (f z y x h.0 k.0, each_joined R S Q f zs ys xs h.1 k.1)
+
+-- ---- features of what is built
+
+module _ (zero : ZeroLaw) (ls : Named) (sound : AreSound ls) where
+  abbrev features : List Featured
+  features = joined (map (λ l. l.1.features) ls)
+
+  abbrev whole : Contents
+  whole = untrimmed 0 0 ls
+
+  abbrev used : ℕ → Bool
+  used = is_used whole.objects
+
+  abbrev by_refs : Featured → TopoFeature
+  by_refs = feature_by (kept_refs (linework (layers_of ls)) 0 0)
+
+  abbrev by_new_refs : Featured → TopoFeature
+  by_new_refs f = feature_pruned (line_renumbered used) (by_refs f)
+
+  -- the protected ring by its new indexes
+  abbrev RingOf : List (List Point) → TopoFeature → Featured → Type 0
+  RingOf arcs after f = protected_of (greatest_ring arcs) after ≡ map_some (map (renumbered used)) (ring_refs ls f)
+
+  features_are : all_features (built 0 0 ls) ≡ map by_new_refs features
+  unfolding built trimmed
+  features_are =
+      features_over (feature_pruned (line_renumbered used)) (object_pruned (line_renumbered used)) (pruned_features (line_renumbered used)) whole.objects
+      ∙ ap (map (feature_pruned (line_renumbered used))) (features_of_layers ls ls) ∙ map-map (feature_pruned (line_renumbered used)) by_refs features
+
+  abbrev IsUsed : Featured → Type 0
+  IsUsed f = AllByRecursion (AllUsed used) (option_lines_and_rings (by_refs f).shape)
+
+  each_used : AllByRecursion IsUsed features
+  each_used =
+      all_of_map (λ (f : TopoFeature). AllByRecursion (AllUsed used) (option_lines_and_rings f.shape)) by_refs features
+      (subst (AllByRecursion (λ (f : TopoFeature). AllByRecursion (AllUsed used) (option_lines_and_rings f.shape))) (features_of_layers ls ls) (each_of_objects (AllUsed used) whole.objects (all_used whole.objects)))
+
+  has_ring : (f : Featured) → IsUsed f → IsWholeFeature ls f → RingOf (keep_from used 0 (arcs_of_layers ls)) (by_new_refs f) f
+  has_ring f uses whole_lines = ring_alike (arcs_of_layers ls) used (by_refs f).shape uses ∙ ap (map_some (map (renumbered used))) (ring_of_layer ls f.shape whole_lines)
+
+  positions_are : arc_positions (built 0 0 ls) ≡ keep_from used 0 (arcs_of_layers ls)
+  unfolding built
+  positions_are = positions_alike whole ∙ ap (keep_from used 0) (each_stays zero (arcs_of_layers ls))
+
+  built_have : EachTo (RingOf (arc_positions (built 0 0 ls))) (all_features (built 0 0 ls)) features
+  built_have =
+      subst (λ fs. EachTo (RingOf (arc_positions (built 0 0 ls))) fs features) (sym features_are)
+      (subst (λ arcs. EachTo (RingOf arcs) (map by_new_refs features) features) (sym positions_are)
+      (each_to_made (RingOf (keep_from used 0 (arcs_of_layers ls))) by_new_refs features
+      (all_two IsUsed (IsWholeFeature ls) (λ f. RingOf (keep_from used 0 (arcs_of_layers ls)) (by_new_refs f) f) has_ring features each_used (each_layer ls ls (loses_nothing zero ls sound)))))
+
+  -- ---- on a grid
+
+  abbrev Have : Contents → Type 0
+  Have y = EachTo (RingOf (arc_positions y)) (all_features y) features
+
+  module _ (g : Axes) where
+    abbrev arcs : List (List Point)
+    arcs = (built 0 0 ls).arcs
+
+    celled_have : AllByRecursion (λ a. AllByRecursion (LiesBack (transform_of g) (cell g)) a) arcs → Have (celled (transform_of g) (cell g) (built 0 0 ls))
+    unfolding celled built trimmed
+    celled_have lie =
+        subst (λ ps. EachTo (RingOf ps) (all_features (celled (transform_of g) (cell g) (built 0 0 ls))) features) (sym (placed_same (transform_of g) (cell g) 0 (built 0 0 ls).objects arcs lie))
+        (subst (λ fs. EachTo (RingOf arcs) fs features) (sym (features_over (feature_celled (cell g)) (object_celled (cell g)) (celled_features (cell g) arcs) (built 0 0 ls).objects))
+        (each_further (RingOf arcs) (RingOf arcs) (feature_celled (cell g)) (λ before f e. ring_celled (cell g) arcs before.shape ∙ e) (all_features (built 0 0 ls)) features built_have))
+
+  quantized_have : NoneIsNew → (g : Option Axes) → AreOn g ls → Have (quantized g (built 0 0 ls))
+  quantized_have none None on = built_have
+  quantized_have none (Some g) on =
+      celled_have g (all_weaker (λ a. AllByRecursion (IsOn (Some g)) a) (λ a. AllByRecursion (LiesBack (transform_of g) (cell g)) a) (all_lie g on.0) (built 0 0 ls).arcs (built_on none (Some g) 0 0 ls on).0)
+
+  -- ---- they stay
+
+  module _ (no_crossings : Bool) (g : Option Axes) (t limit : ℕ) where
+    abbrev at_zero : Contents
+    at_zero = quantized g (built 0 0 ls)
+
+    abbrev reduced : List (List Point)
+    reduced = protecting_reduced no_crossings (greatest_rings at_zero) t at_zero
+
+    abbrev KeepsIn : List (List Point) → TopoFeature → Featured → Type 0
+    KeepsIn left after f = (refs : List ℤ) → ring_refs ls f ≡ Some refs → HasRing reduced left (map (renumbered used) refs) after
+
+    abbrev AllKeep : Contents → Type 0
+    AllKeep z = EachTo (KeepsIn (arc_positions z)) (all_features z) features
+
+    rings_stay : RingsStay → Have at_zero → AllKeep (protecting_contents no_crossings (greatest_rings at_zero) t limit at_zero)
+    rings_stay stay have =
+        let left : Contents = protecting_contents no_crossings (greatest_rings at_zero) t limit at_zero in
+        each_joined (λ after before. (refs : List ℤ) → protected_of (greatest_rings at_zero) before ≡ Some refs → HasRing reduced (arc_positions left) refs after) (RingOf (arc_positions at_zero)) (KeepsIn (arc_positions left))
+        (λ after before f h e refs k. h (map (renumbered used) refs) (e ∙ ap (map_some (map (renumbered used))) k)) (all_features left) (all_features at_zero) features (shapes_stay stay no_crossings t limit at_zero) have
+
+    pub kept_in_assembled : NoneIsNew → ArcsRise → RingsStay → AreOn g ls → AllKeep (quantized g (assembled_sparing (protecting_arc_indexes no_crossings t ls) limit ls))
+    kept_in_assembled none rise stay on = subst AllKeep (is_assembled none zero rise no_crossings g t limit ls on sound).contents (rings_stay stay (quantized_have none g on))
+
+pub features_have : NoneIsNew → ZeroLaw → BuiltFeaturesHaveRings
+features_have none zero g ls on sound = quantized_have zero ls sound none g on
+
+pub layers_stay : NoneIsNew → ZeroLaw → ArcsRise → RingsStay → LayersShapesStay
+layers_stay none zero rise stay no_crossings g t limit ls on sound = kept_in_assembled zero ls sound no_crossings g t limit none rise stay on

@@ -1,0 +1,326 @@
+-- Topologies in which rings are protected: where none is, which arcs are left, and that each protected ring is left.
+use Rattle.std.proofs.Common.{arith, ◌≡◌, ℕ, ◌-◌, ◌≤◌, ℤ, Bool, true, not, List, [], ◌∷◌, map, length, Option, None, Some, inl, refl, sym, ap, ◌∙◌, subst}
+use Rattle.build_meaning.proofs.SimplifiedNames.{map-append, map-map, AllByRecursion, all_append, all_left, all_right, all_of_map, all_two, all_weaker, each_of, in_right, composed, dropped_of_layers, arc_at, stitched, joined, map_some, then_some, with_some, some_of, In, Placed, Point, prune, lines_and_rings, option_lines_and_rings, clean, is_short, placed_arcs, TopoShape, Contents, object_features, features_lines_and_rings, objects_lines_and_rings, TopoFeature, TopoObject, One, Many, Sublist, reduce_arcs, reduced_arcs, is_long, guarded_by, ArcsRise, CrossingsNeverRise, FewerArcsLaw, NoneStaysNone, RingsStay, EachTo, AllUsed, all_renumbered, all_used, positions_of, is_used, keep_from, renumbered, line_renumbered, feature_renumbered}
+use Rattle.build_meaning.proofs.SimplifiedNames.{object_renumbered, trimmed, all_features, arc_positions, crossings_of, guarded_indexes, guarded_contents, guarded_dropped, guarded_removed_count, GuardedArcsAreReduced, GuardedIndexesReach, GuardedIsValid, GuardedKeeps, GuardedCrossingsNeverRise, GuardedNoneStaysNone, labels, outer_rings, marked, Protection, no_protection, greatest_ring, protected_of, protected_rings, cause_sparing, sparing, MarkedRefs, shape_marked, feature_spared, object_spared, spared_whole, spared_by, option_unprotected, spared_dropped, spared_removed_count, protecting_indexes, protecting_contents, protecting_dropped, protecting_removed_count, UnprotectedIsSimplified, UnprotectedIsGuarded, ProtectingIndexesReach, ProtectingIsValid, ProtectingKeeps, protecting_reduced, ProtectingArcsAreReduced, ProtectingCrossingsNeverRise, ProtectingNoneStaysNone, HasRing, ShapesStay, small_cause, large_refs, option_small, retained_arcs, simplified_by, dropped_by, removed_count_by, EachFromFirstToLast, retained_whole}
+use Rattle.topojson_types.specs.Validity.{IsArc, IsTopology}
+use Rattle.build_meaning.proofs.Again.{all_hold}
+use Rattle.build_meaning.proofs.Greatest.{greatest_is}
+use Rattle.build_meaning.proofs.Guarded.{retained_are_reduced, placed_retained, placed_left, placed_through, sub_left}
+use Rattle.build_meaning.proofs.KeptLabels.{spared_keeps}
+use Rattle.build_meaning.proofs.Marks.{causes_plain}
+use Rattle.build_meaning.proofs.RingKept.{ring_kept}
+use Rattle.build_meaning.proofs.Spared.{whole_plain}
+use Rattle.build_meaning.proofs.ValidSimplified.{spared_is_valid}
+
+-- ---- where no ring is protected
+
+option_plain : (limit : ℕ) (arcs : List (List Point)) (s : Option TopoShape) → option_unprotected no_protection limit arcs s ≡ option_small limit arcs s
+option_plain limit arcs None = refl
+option_plain limit arcs (Some s) = causes_plain (cause_sparing (small_cause limit arcs)) s
+
+features_plain : (limit : ℕ) (arcs : List (List Point)) (fs : List TopoFeature) → map (λ f. option_unprotected no_protection limit arcs f.shape) fs ≡ map (λ f. option_small limit arcs f.shape) fs
+features_plain limit arcs [] = refl
+features_plain limit arcs (f ∷ fs) = rw (option_plain limit arcs f.shape, features_plain limit arcs fs) refl
+
+dropped_plain : (limit : ℕ) (arcs : List (List Point)) (os : List (List ℕ × TopoObject))
+    → map (λ o. map (λ f. option_unprotected no_protection limit arcs f.shape) (object_features o.1)) os ≡ map (λ o. map (λ f. option_small limit arcs f.shape) (object_features o.1)) os
+dropped_plain limit arcs [] = refl
+dropped_plain limit arcs (o ∷ os) = rw (features_plain limit arcs (object_features o.1), dropped_plain limit arcs os) refl
+
+pub unprotected_is_simplified : UnprotectedIsSimplified
+unfolding spared_by spared_dropped spared_removed_count simplified_by dropped_by removed_count_by
+unprotected_is_simplified kept limit y = record {
+  contents = ap trimmed (whole_plain kept limit y);
+  dropped = ap (dropped_of_layers 0) (dropped_plain limit _ y.objects);
+  removed_count = ap (λ z. positions_of (keep_from (is_used z.objects) 0 y.arcs) - positions_of (trimmed z).arcs) (whole_plain kept limit y);
+}
+
+no_rings : (fs : List TopoFeature) → some_of (protected_of no_protection) fs ≡ []
+no_rings [] = refl
+no_rings (f ∷ fs) = one f.shape ∙ no_rings fs
+  where
+    one : (s : Option TopoShape) → with_some (map_some (λ x. x.part) (then_some no_protection s)) (some_of (protected_of no_protection) fs) ≡ some_of (protected_of no_protection) fs
+    one None = refl
+    one (Some s) = refl
+
+unprotected_indexes : (no_crossings : Bool) (t : ℕ) (y : Contents) → protecting_indexes no_crossings no_protection t y ≡ guarded_indexes no_crossings t y
+unprotected_indexes no_crossings t y = ap (λ rings. reduce_arcs (guarded_by no_crossings rings) t (arc_positions y)) (no_rings (all_features y))
+
+pub unprotected_is_guarded : UnprotectedIsGuarded
+unfolding protecting_contents protecting_dropped protecting_removed_count guarded_contents guarded_dropped guarded_removed_count
+unprotected_is_guarded no_crossings t limit y =
+    let same = unprotected_indexes no_crossings t y in
+    let alike = unprotected_is_simplified (guarded_indexes no_crossings t y) limit y in
+    record {
+      contents = ap (λ kept. spared_by no_protection kept limit y) same ∙ alike.contents;
+      dropped = ap (λ kept. spared_dropped no_protection kept limit y) same ∙ alike.dropped;
+      removed_count = ap (λ kept. spared_removed_count no_protection kept limit y) same ∙ alike.removed_count;
+    }
+
+-- ---- what stays
+
+pub indexes_reach : ArcsRise → ProtectingIndexesReach
+indexes_reach rise no_crossings protects t y h =
+    placed_through y.transform (protecting_indexes no_crossings protects t y) y.arcs (rise (guarded_by no_crossings (protected_rings protects y.objects)) t (arc_positions y))
+    (all_weaker (IsArc y.transform) (λ a. 2 ≤ length a) (λ a k. k.0) y.arcs h.arcs)
+
+pub is_valid : ArcsRise → ProtectingIsValid
+unfolding protecting_contents
+is_valid rise no_crossings protects t limit y h = spared_is_valid protects (protecting_indexes no_crossings protects t y) limit y h (indexes_reach rise no_crossings protects t y h)
+
+pub keeps_labels : ProtectingKeeps
+unfolding protecting_contents
+keeps_labels no_crossings protects t limit y = spared_keeps protects (protecting_indexes no_crossings protects t y) limit y
+
+-- ---- which arcs are left
+
+pub arcs_are_reduced : ProtectingArcsAreReduced
+unfolding protecting_contents spared_by trimmed
+arcs_are_reduced no_crossings protects t limit y =
+    let kept : List (List ℕ) = protecting_indexes no_crossings protects t y in
+    let passes : ℕ → Bool = is_used (spared_whole protects kept limit y).objects in
+    placed_left y.transform passes (retained_arcs kept y.arcs)
+    ∙ ap (keep_from passes 0) (placed_retained y.transform kept y.arcs ∙ retained_are_reduced (guarded_by no_crossings (protected_rings protects y.objects)) t (arc_positions y))
+
+-- ---- no crossings
+
+module _ (protects : Protection) (t limit : ℕ) (y : Contents) where
+  abbrev rings : List (List ℤ)
+  rings = protected_rings protects y.objects
+
+  abbrev reduced : List (List Point)
+  reduced = protecting_reduced true protects t y
+
+  some_of_reduced : Sublist (arc_positions (protecting_contents true protects t limit y)) reduced
+  some_of_reduced =
+      subst (λ arcs. Sublist arcs reduced) (sym (arcs_are_reduced true protects t limit y))
+      (sub_left (is_used (spared_whole protects (protecting_indexes true protects t y) limit y).objects) 0 reduced)
+
+  pub never_rise : CrossingsNeverRise → FewerArcsLaw → crossings_of (protecting_contents true protects t limit y) ≤ crossings_of y
+  never_rise never fewer = omega (arith, fewer (arc_positions (protecting_contents true protects t limit y)) reduced some_of_reduced, never rings t (arc_positions y))
+
+  pub stays_none : NoneStaysNone → FewerArcsLaw → crossings_of y ≡ 0 → crossings_of (protecting_contents true protects t limit y) ≡ 0
+  stays_none stays fewer h = omega (arith, fewer (arc_positions (protecting_contents true protects t limit y)) reduced some_of_reduced, stays rings t (arc_positions y) h)
+
+pub crossings_never_rise : CrossingsNeverRise → FewerArcsLaw → ProtectingCrossingsNeverRise
+crossings_never_rise never fewer protects t limit y = never_rise protects t limit y never fewer
+
+pub none_stays_none : NoneStaysNone → FewerArcsLaw → ProtectingNoneStaysNone
+none_stays_none stays fewer protects t limit y h = stays_none protects t limit y stays fewer h
+
+-- ---- where no ring is protected, and arcs are reduced at once
+
+module _ (no_crossings : Bool) (t limit : ℕ) (y : Contents) where
+  abbrev same_contents : protecting_contents no_crossings no_protection t limit y ≡ guarded_contents no_crossings t limit y
+  same_contents = (unprotected_is_guarded no_crossings t limit y).contents
+
+  same_whole : spared_whole no_protection (protecting_indexes no_crossings no_protection t y) limit y ≡ retained_whole (guarded_indexes no_crossings t y) limit y
+  same_whole = ap (λ kept. spared_whole no_protection kept limit y) (unprotected_indexes no_crossings t y) ∙ whole_plain (guarded_indexes no_crossings t y) limit y
+
+pub guarded_arcs_are_reduced : GuardedArcsAreReduced
+guarded_arcs_are_reduced no_crossings t limit y =
+    sym (ap arc_positions (same_contents no_crossings t limit y)) ∙ arcs_are_reduced no_crossings no_protection t limit y
+    ∙ ap (λ z. keep_from (is_used z.objects) 0 (protecting_reduced no_crossings no_protection t y)) (same_whole no_crossings t limit y)
+    ∙ ap (λ rings. keep_from (is_used (retained_whole (guarded_indexes no_crossings t y) limit y).objects) 0 (reduced_arcs (guarded_by no_crossings rings) t (arc_positions y))) (no_rings (all_features y))
+
+pub guarded_indexes_reach : ArcsRise → GuardedIndexesReach
+guarded_indexes_reach rise no_crossings t y h = subst (λ kept. EachFromFirstToLast kept y.arcs) (unprotected_indexes no_crossings t y) (indexes_reach rise no_crossings no_protection t y h)
+
+pub guarded_is_valid : ArcsRise → GuardedIsValid
+guarded_is_valid rise no_crossings t limit y h = subst IsTopology (same_contents no_crossings t limit y) (is_valid rise no_crossings no_protection t limit y h)
+
+pub guarded_keeps : GuardedKeeps
+guarded_keeps no_crossings t limit y = subst (λ z. (labels z ≡ labels y) × (z.transform ≡ y.transform)) (same_contents no_crossings t limit y) (keeps_labels no_crossings no_protection t limit y)
+
+pub guarded_never_rise : CrossingsNeverRise → FewerArcsLaw → GuardedCrossingsNeverRise
+guarded_never_rise never fewer t limit y = subst (λ z. crossings_of z ≤ crossings_of y) (same_contents true t limit y) (crossings_never_rise never fewer no_protection t limit y)
+
+pub guarded_stays_none : NoneStaysNone → FewerArcsLaw → GuardedNoneStaysNone
+guarded_stays_none stays fewer t limit y h = subst (λ z. crossings_of z ≡ 0) (same_contents true t limit y) (none_stays_none stays fewer no_protection t limit y h)
+
+-- ---- shapes stay
+
+-- what holds of what is given for some elements
+pub all_given : {A B : Type 0} (Y : B → Type 0) (g : A → Option B) (xs : List A) → AllByRecursion (λ x. (b : B) → g x ≡ Some b → Y b) xs → AllByRecursion Y (some_of g xs)
+all_given Y g [] h = tt
+all_given {B = B} Y g (x ∷ xs) h = on (g x) refl (all_given Y g xs h.1)
+  where
+    on : (o : Option B) → g x ≡ o → AllByRecursion Y (some_of g xs) → AllByRecursion Y (with_some o (some_of g xs))
+    on None e k = k
+    on (Some b) e k = (h.0 b e, k)
+
+all_giving : {A B : Type 0} (Y : B → Type 0) (g : A → Option B) (xs : List A) → AllByRecursion Y (some_of g xs) → AllByRecursion (λ x. (b : B) → g x ≡ Some b → Y b) xs
+all_giving Y g [] h = tt
+all_giving {B = B} Y g (x ∷ xs) h = on (g x) refl h (all_giving Y g xs)
+  where
+    same : (b c : B) → Some b ≡ Some c → b ≡ c
+    same b c e = cc
+
+    on : (o : Option B) → g x ≡ o → AllByRecursion Y (with_some o (some_of g xs)) → (AllByRecursion Y (some_of g xs) → AllByRecursion (λ x. (b : B) → g x ≡ Some b → Y b) xs)
+        → AllByRecursion (λ x. (b : B) → g x ≡ Some b → Y b) (x ∷ xs)
+    on None e k f = ((λ b d. let z : None ≡ Some b = sym e ∙ d in cc), f k)
+    on (Some c) e k f = ((λ b d. subst Y (same c b (sym e ∙ d)) k.0), f k.1)
+
+pub each_to_made : {A B : Type 0} (R : B → A → Type 0) (g : A → B) (xs : List A) → AllByRecursion (λ x. R (g x) x) xs → EachTo R (map g xs) xs
+each_to_made R g [] h = tt
+each_to_made R g (x ∷ xs) h = (h.0, each_to_made R g xs h.1)
+
+-- ---- features of objects
+
+abbrev features_of : List (List ℕ × TopoObject) → List TopoFeature
+features_of os = joined (map (λ o. object_features o.1) os)
+
+module _ (h : TopoFeature → TopoFeature) (of : TopoObject → TopoObject) (each : (o : TopoObject) → object_features (of o) ≡ map h (object_features o)) where
+  abbrev over : List (List ℕ × TopoObject) → List (List ℕ × TopoObject)
+  over os = map (λ o. (o.0, of o.1)) os
+
+  pub features_over : (os : List (List ℕ × TopoObject)) → features_of (over os) ≡ map h (features_of os)
+  features_over [] = refl
+  features_over (o ∷ os) = rw (each o.1, features_over os) (sym (map-append h (object_features o.1) (features_of os)))
+
+spared_features : (protects : Protection) (kept : MarkedRefs) (o : TopoObject) → object_features (object_spared protects kept o) ≡ map (feature_spared protects kept) (object_features o)
+spared_features protects kept (One f) = refl
+spared_features protects kept (Many fs) = refl
+
+renumbered_features : (used : ℕ → Bool) (o : TopoObject) → object_features (object_renumbered used o) ≡ map (feature_renumbered used) (object_features o)
+renumbered_features used (One f) = refl
+renumbered_features used (Many fs) = refl
+
+module _ (X : Bool × List ℤ → Type 0) where
+  abbrev pub OfFeature : TopoFeature → Type 0
+  OfFeature f = AllByRecursion X (option_lines_and_rings f.shape)
+
+  each_feature : (fs : List TopoFeature) → AllByRecursion X (features_lines_and_rings fs) → AllByRecursion OfFeature fs
+  each_feature [] h = tt
+  each_feature (f ∷ fs) h = (all_left X (option_lines_and_rings f.shape) (features_lines_and_rings fs) h, each_feature fs (all_right X (option_lines_and_rings f.shape) (features_lines_and_rings fs) h))
+
+  pub each_of_objects : (os : List (List ℕ × TopoObject)) → AllByRecursion X (objects_lines_and_rings os) → AllByRecursion OfFeature (joined (map (λ o. object_features o.1) os))
+  each_of_objects [] h = tt
+  each_of_objects (o ∷ os) h =
+      all_append OfFeature (object_features o.1) (joined (map (λ o. object_features o.1) os))
+      (each_feature (object_features o.1) (all_left X (features_lines_and_rings (object_features o.1)) (objects_lines_and_rings os) h))
+      (each_of_objects os (all_right X (features_lines_and_rings (object_features o.1)) (objects_lines_and_rings os) h))
+
+-- ---- shapes stay
+
+-- the shape of a feature that has a protected ring, and the way to its polygon
+pub record Protects (protects : Protection) (o : Option TopoShape) (refs : List ℤ) : Type 0 where
+  pub shape : TopoShape
+  pub has_shape : o ≡ Some shape
+  pub ring : Placed (List ℤ)
+  pub is_ring : protects shape ≡ Some ring
+  pub refs_are : ring.part ≡ refs
+
+pub protected_parts : (protects : Protection) (o : Option TopoShape) (refs : List ℤ) → map_some (λ x. x.part) (then_some protects o) ≡ Some refs → Protects protects o refs
+protected_parts protects None refs h = cc
+protected_parts protects (Some s) refs h = on (protects s) refl h
+  where
+    same : (a b : List ℤ) → Some a ≡ Some b → a ≡ b
+    same a b e = cc
+
+    on : (r : Option (Placed (List ℤ))) → protects s ≡ r → map_some (λ x. x.part) r ≡ Some refs → Protects protects (Some s) refs
+    on None e k = cc
+    on (Some x) e k = record { shape = s; has_shape = refl; ring = x; is_ring = e; refs_are = same x.part refs k }
+
+module _ (stay : RingsStay) (no_crossings : Bool) (t limit : ℕ) (y : Contents) where
+  abbrev protects : Protection
+  protects = greatest_ring (arc_positions y)
+
+  abbrev kept : List (List ℕ)
+  kept = protecting_indexes no_crossings protects t y
+
+  abbrev spared : MarkedRefs
+  spared = sparing (large_refs limit (placed_arcs y.transform (retained_arcs kept y.arcs)))
+
+  abbrev whole : Contents
+  whole = spared_whole protects kept limit y
+
+  abbrev used : ℕ → Bool
+  used = is_used whole.objects
+
+  abbrev all : List (List Point)
+  all = protecting_reduced no_crossings protects t y
+
+  abbrev left : List (List Point)
+  left = arc_positions (protecting_contents no_crossings protects t limit y)
+
+  abbrev features : List TopoFeature
+  features = all_features y
+
+  -- the protected ring of a feature has the property
+  abbrev OfRing : (List ℤ → Type 0) → TopoFeature → Type 0
+  OfRing Y f = (refs : List ℤ) → protected_of protects f ≡ Some refs → Y refs
+
+  abbrev LongIn : List (List Point) → List ℤ → Type 0
+  LongIn arcs refs = is_long arcs refs ≡ true
+
+  long_at_first : (f : TopoFeature) → OfRing (LongIn (arc_positions y)) f
+  long_at_first f refs h =
+      let p : Protects protects f.shape refs = protected_parts protects f.shape refs h in
+      subst (LongIn (arc_positions y)) p.refs_are (greatest_is (arc_positions y) p.shape p.ring p.is_ring).long
+
+  long_still : AllByRecursion (OfRing (LongIn all)) features
+  long_still =
+      all_giving (LongIn all) (protected_of protects) features
+      (stay no_crossings (protected_rings protects y.objects) t (arc_positions y) (all_given (LongIn (arc_positions y)) (protected_of protects) features (all_hold (OfRing (LongIn (arc_positions y))) long_at_first features)))
+
+  -- the arcs of what is left of a feature are used
+  abbrev IsUsedBy : TopoFeature → Type 0
+  IsUsedBy f = AllByRecursion (AllUsed used) (option_lines_and_rings (feature_spared protects spared f).shape)
+
+  each_used : AllByRecursion IsUsedBy features
+  each_used =
+      all_of_map (OfFeature (AllUsed used)) (feature_spared protects spared) features
+      (subst (AllByRecursion (OfFeature (AllUsed used))) (features_over (feature_spared protects spared) (object_spared protects spared) (spared_features protects spared) y.objects)
+      (each_of_objects (AllUsed used) whole.objects (all_used whole.objects)))
+
+  abbrev both : MarkedRefs
+  both closed l = then_some (line_renumbered used closed) (spared closed l)
+
+  abbrev what_is_left : TopoFeature → TopoFeature
+  what_is_left f = feature_renumbered used (feature_spared protects spared f)
+
+  ring_of_feature : (f : TopoFeature) → OfRing (LongIn all) f → IsUsedBy f → OfRing (λ refs. HasRing all left refs (what_is_left f)) f
+  ring_of_feature f long uses refs h =
+      let p : Protects protects f.shape refs = protected_parts protects f.shape refs h in
+      let x : Placed (List ℤ) = p.ring in
+      let g = greatest_is (arc_positions y) p.shape x p.is_ring in
+      let among : In x (outer_rings p.shape) = subst (In x) (sym g.outer) (in_right x g.before (x ∷ g.after) (inl refl)) in
+      let first = ring_kept (λ (c : Point). c) spared (λ l. l) (λ l. refl) p.shape x among in
+      let second = ring_kept (λ (c : Point). c) both (map (renumbered used)) (λ l. refl) p.shape x among in
+      let way : shape_marked protects p.shape ≡ marked p.shape (Some x.path) = ap (λ r. marked p.shape (map_some (λ z. z.path) r)) p.is_ring in
+      let is_first : (feature_spared protects spared f).shape ≡ Some first.shape =
+      ap (then_some (λ s. prune (λ c. c) spared (shape_marked protects s))) p.has_shape ∙ ap (prune (λ c. c) spared) way ∙ first.is_left in
+      let is_second : (what_is_left f).shape ≡ Some second.shape =
+      ap (λ o. then_some (prune (λ c. c) (line_renumbered used)) (then_some (λ s. prune (λ c. c) spared (shape_marked protects s)) o)) p.has_shape
+      ∙ ap (λ m. then_some (prune (λ c. c) (line_renumbered used)) (prune (λ c. c) spared m)) way
+      ∙ composed (λ (c : Point). c) (λ c. c) spared (line_renumbered used) (marked p.shape (Some x.path)) ∙ second.is_left in
+      let all_are : AllUsed used (true, x.part) = each_of (AllUsed used) (lines_and_rings first.shape) (true, x.part) (subst (λ o. AllByRecursion (AllUsed used) (option_lines_and_rings o)) is_first uses) first.has.within in
+      let same : map (arc_at left) (map (renumbered used) x.part) ≡ map (arc_at all) x.part =
+      ap (λ arcs. map (arc_at arcs) (map (renumbered used) x.part)) (arcs_are_reduced no_crossings protects t limit y) ∙ all_renumbered used all x.part all_are in
+      record {
+        shape = second.shape;
+        has_shape = is_second;
+        ring = map (renumbered used) x.part;
+        is_outer = second.has.outer;
+        is_same = same ∙ ap (map (arc_at all)) p.refs_are;
+        is_long_ring = ap (λ pss. not (is_short true (clean (stitched pss)))) (same ∙ ap (map (arc_at all)) p.refs_are) ∙ long refs h;
+      }
+
+  features_left : all_features (protecting_contents no_crossings protects t limit y) ≡ map what_is_left features
+  unfolding protecting_contents spared_by trimmed
+  features_left =
+      features_over (feature_renumbered used) (object_renumbered used) (renumbered_features used) whole.objects
+      ∙ ap (map (feature_renumbered used)) (features_over (feature_spared protects spared) (object_spared protects spared) (spared_features protects spared) y.objects)
+      ∙ map-map (feature_renumbered used) (feature_spared protects spared) features
+
+  abbrev KeepsRing : TopoFeature → TopoFeature → Type 0
+  KeepsRing after before = OfRing (λ refs. HasRing all left refs after) before
+
+  pub each_keeps : EachTo KeepsRing (all_features (protecting_contents no_crossings protects t limit y)) (all_features y)
+  each_keeps =
+      subst (λ fs. EachTo KeepsRing fs features) (sym features_left)
+      (each_to_made KeepsRing what_is_left features (all_two (OfRing (LongIn all)) IsUsedBy (λ f. KeepsRing (what_is_left f) f) ring_of_feature features long_still each_used))
+
+pub shapes_stay : RingsStay → ShapesStay
+shapes_stay stay no_crossings t limit y = each_keeps stay no_crossings t limit y

@@ -1,0 +1,261 @@
+-- What is built of layers at zero and then reduced at once, where of each feature the ring that encloses most is protected, is what is
+-- assembled of them.
+use Rattle.std.proofs.Common.{arith, ◌≡◌, ℕ, ◌≤◌, ℤ, Bool, true, false, cond, List, [], ◌∷◌, ◌++◌, map, length, Option, None, Some, refl, sym, ap, ◌∙◌, subst, map-id}
+use Rattle.build_meaning.proofs.SimplifiedNames.{map-append, AllByRecursion, all_append, all_left, all_right, all_two, all_weaker, agreed, joined, map_some, then_some, some_of, Point, prune, lines_and_rings, option_lines_and_rings, Collapsed, Shape, Featured, clean, is_short, Stroke, linework, TopoShape, Contents, object_features, TopoFeature, TopoObject, Many, sub_all, EndsStay, NoneIsNew, ZeroLaw, reduce_arcs, is_long, guarded_by, ArcsRise, Line, untrimmed_is_valid, each_stays, loses_nothing, kept_refs, untrimmed, built, unless, AreSound, feature_by, features_by, objects_by}
+use Rattle.build_meaning.proofs.SimplifiedNames.{is_used, keep_from, renumbered, trimmed, arcs_of_layers, own_refs, EachCell, arc_positions, spread, marked, enclosed, greatest_ring, protected_of, protected_rings, MarkedRefs, sparing, shape_marked, feature_spared, objects_spared, spared_by, spared_removed_count, protecting_indexes, protecting_contents, protecting_removed_count, drafted_refs, greatest_of_layers, ring_refs, layers_rings, layer_shape_marked, protecting_arc_indexes, unprotected_refs, feature_sparing, assembled_sparing, assembled_sparing_removed_count, greatest_rings, SparingIsOfLayers, BuiltRingsAreOfLayers, ProtectingArcIndexesAreOfLayers, ProtectingIsAssembled, ProtectingArcIndexesReach, AssembledSparingIsValid, AssembledSparingIsOn, IsOn, named_points, quantized, small_cause, large_refs, retained_arcs, EachFromFirstToLast}
+use Rattle.build_meaning.specs.Layers.{Named, layers_of, features_lines_and_rings, named_lines_and_rings}
+use Rattle.build_meaning.proofs.GreatestLeft.{way_of, ring_in, RingAgrees, ring_left, spared_left}
+use Rattle.build_meaning.proofs.Guarded.{each_through, sub_left}
+use Rattle.build_meaning.proofs.GuardedLayers.{spread_through, layers_long, built_arcs, built_positions}
+use Rattle.build_meaning.proofs.MarkedRing.{MarkPasses, marks_pass}
+use Rattle.build_meaning.proofs.Marks.{without_mark}
+use Rattle.build_meaning.proofs.OnGrid.{built_on}
+use Rattle.build_meaning.proofs.RingsAlike.{as_it_is, all_marked, rings_made}
+use Rattle.build_meaning.proofs.ShapesLeft.{keeping_mark}
+use Rattle.build_meaning.proofs.Simplified.{IsWholeAtZero, no_small}
+use Rattle.build_meaning.proofs.SparedAlike.{trimmed_rings, trimmed_first, protecting_on_grid}
+use Rattle.build_meaning.proofs.SparedLeft.{spared_cells}
+use Rattle.build_meaning.proofs.ValidSimplified.{spared_is_valid}
+
+-- ---- lines and rings of layers
+
+module _ (ls : Named) where
+  abbrev lines : List Stroke
+  lines = linework (layers_of ls)
+
+  abbrev arcs : List (List Point)
+  arcs = arcs_of_layers ls
+
+  abbrev size : List Point → ℕ
+  size ps = enclosed arcs (drafted_refs lines true ps)
+
+  abbrev long : List Point → Bool
+  long ps = is_long arcs (drafted_refs lines true ps)
+
+  abbrev size_after : List ℤ → ℕ
+  size_after refs = enclosed arcs refs
+
+  abbrev long_after : List ℤ → Bool
+  long_after refs = is_long arcs refs
+
+  abbrev place : Point → Point
+  place p = p
+
+  abbrev refs_at_zero : Bool → List Point → Option (List ℤ)
+  refs_at_zero = kept_refs lines 0 0
+
+  -- at zero a line or ring has its indexes unless it has too few positions from the first
+  zero_refs : (b : Line) → IsWholeAtZero lines b → refs_at_zero b.0 b.1 ≡ cond (is_short b.0 (clean b.1)) None (Some (own_refs lines b.0 b.1))
+  zero_refs b whole = grind (arith, no_small)
+
+  by_short : (closed : Bool) (ps : List Point) (m : List ℤ) → refs_at_zero closed ps ≡ Some m → m ≡ drafted_refs lines closed ps
+  by_short closed ps m e = grind (arith, e)
+
+  -- a ring agrees with its indexes
+  drafted_agrees : (b : Line) → IsWholeAtZero lines b → RingAgrees place refs_at_zero size long size_after long_after b
+  drafted_agrees b whole c = record {
+    same_size = λ m k. ap size_after (by_short true b.1 m k);
+    same_test = λ m k. ap long_after (by_short true b.1 m k);
+    left_out_fails = λ k. none_long (is_short true (clean b.1)) refl k;
+  }
+    where
+      refs_are : refs_at_zero true b.1 ≡ cond (is_short true (clean b.1)) None (Some (own_refs lines true b.1))
+      refs_are = subst (λ closed. refs_at_zero closed b.1 ≡ cond (is_short closed (clean b.1)) None (Some (own_refs lines closed b.1))) c (zero_refs b whole)
+
+      none_long : (s : Bool) → is_short true (clean b.1) ≡ s → refs_at_zero true b.1 ≡ None → long b.1 ≡ false
+      none_long true e k = ap (λ s. is_long arcs (cond s [] (own_refs lines true b.1))) e
+      none_long false e k = let z : None ≡ Some (own_refs lines true b.1) = sym k ∙ refs_are ∙ ap (λ s. cond s None (Some (own_refs lines true b.1))) e in cc
+
+  abbrev AllWhole : List Line → Type 0
+  AllWhole bs = AllByRecursion (IsWholeAtZero lines) bs
+
+  all_agree : (s : Shape) → AllWhole (lines_and_rings s) → AllByRecursion (RingAgrees place refs_at_zero size long size_after long_after) (lines_and_rings s)
+  all_agree s h = all_weaker (IsWholeAtZero lines) (RingAgrees place refs_at_zero size long size_after long_after) drafted_agrees (lines_and_rings s) h
+
+  -- ---- protected rings
+
+  pub ring_of_layer : (s : Option Shape) → AllWhole (option_lines_and_rings s)
+      → map_some (λ x. x.part) (then_some (greatest_ring arcs) (then_some (prune place refs_at_zero) s)) ≡ map_some (λ x. drafted_refs lines true x.part) (then_some (greatest_of_layers ls) s)
+  unfolding greatest_ring greatest_of_layers
+  ring_of_layer None h = refl
+  ring_of_layer (Some s) h = ring_left place refs_at_zero size long size_after long_after s (all_agree s h) (drafted_refs lines true) (by_short true)
+
+  pub features_of_layers : (ms : Named) → joined (map (λ o. object_features o.1) (objects_by refs_at_zero ms)) ≡ map (feature_by refs_at_zero) (joined (map (λ l. l.1.features) ms))
+  features_of_layers [] = refl
+  features_of_layers (m ∷ ms) =
+      ap (λ fs. features_by refs_at_zero m.1.features ++ fs) (features_of_layers ms) ∙ sym (map-append (feature_by refs_at_zero) m.1.features (joined (map (λ l. l.1.features) ms)))
+
+  abbrev pub IsWholeFeature : Featured → Type 0
+  IsWholeFeature f = AllWhole (option_lines_and_rings f.shape)
+
+  each_feature : (fs : List Featured) → AllWhole (features_lines_and_rings fs) → AllByRecursion IsWholeFeature fs
+  each_feature [] h = tt
+  each_feature (f ∷ fs) h =
+      (all_left (IsWholeAtZero lines) (option_lines_and_rings f.shape) (features_lines_and_rings fs) h, each_feature fs (all_right (IsWholeAtZero lines) (option_lines_and_rings f.shape) (features_lines_and_rings fs) h))
+
+  pub each_layer : (ms : Named) → AllWhole (named_lines_and_rings ms) → AllByRecursion IsWholeFeature (joined (map (λ l. l.1.features) ms))
+  each_layer [] h = tt
+  each_layer (m ∷ ms) h =
+      all_append IsWholeFeature m.1.features (joined (map (λ l. l.1.features) ms))
+      (each_feature m.1.features (all_left (IsWholeAtZero lines) (features_lines_and_rings m.1.features) (named_lines_and_rings ms) h))
+      (each_layer ms (all_right (IsWholeAtZero lines) (features_lines_and_rings m.1.features) (named_lines_and_rings ms) h))
+
+  -- the protected rings of the layers over all their arcs
+  pub rings_of_layers : AllByRecursion (IsWholeAtZero (linework (layers_of ls))) (named_lines_and_rings ls)
+      → protected_rings (greatest_ring (arcs_of_layers ls)) (objects_by (kept_refs (linework (layers_of ls)) 0 0) ls) ≡ layers_rings ls
+  rings_of_layers whole =
+      let fs : List Featured = joined (map (λ l. l.1.features) ls) in
+      ap (some_of (protected_of (greatest_ring arcs))) (features_of_layers ls)
+      ∙ rings_made (ring_refs ls) (protected_of (greatest_ring arcs)) (λ refs. refs) (feature_by refs_at_zero) fs
+      (all_weaker IsWholeFeature (λ f. protected_of (greatest_ring arcs) (feature_by refs_at_zero f) ≡ map_some (λ refs. refs) (ring_refs ls f))
+      (λ f h. ring_of_layer f.shape h ∙ sym (as_it_is (ring_refs ls f))) fs (each_layer ls whole))
+      ∙ map-id (layers_rings ls)
+
+  -- ---- what is left
+
+  module _ (kept : List (List ℕ)) (limit : ℕ) where
+    abbrev fewer : List (List Point)
+    fewer = retained_arcs kept arcs
+
+    abbrev left : MarkedRefs
+    left = sparing (large_refs limit fewer)
+
+    abbrev Marked : Type 0
+    Marked = Bool × (Bool × List Point)
+
+    -- a line that has a mark has enough positions
+    abbrev HasEnough : Marked → Type 0
+    HasEnough b = b.1.0 ≡ true → is_short b.0 (clean b.1.1) ≡ false
+
+    has_enough : (b : Marked) → MarkPasses long b → HasEnough b
+    has_enough b h m = subst (λ closed. is_short closed (clean b.1.1) ≡ false) (sym (h m).0) (on (is_short true (clean b.1.1)) refl)
+      where
+        on : (s : Bool) → is_short true (clean b.1.1) ≡ s → s ≡ false
+        on true e = let z : false ≡ true = sym (ap (λ s. is_long arcs (cond s [] (own_refs lines true b.1.1))) e) ∙ (h m).1 in cc
+        on false e = refl
+
+    -- what is left of a line or ring, marked or not
+    line_left : (b : Marked) → IsWholeAtZero lines (without_mark b) → HasEnough b → then_some (left b.0) (keeping_mark refs_at_zero b.0 b.1) ≡ unprotected_refs kept limit ls b.0 b.1
+    line_left b whole h =
+        ap (λ o. then_some (left b.0) (map_some (λ m. (b.1.0, m)) o)) (zero_refs (without_mark b) whole) ∙ on (own_refs lines b.0 b.1.1) b.1.0 (is_short b.0 (clean b.1.1)) h
+      where
+        on : (own : List ℤ) (mark s : Bool) → (mark ≡ true → s ≡ false) → then_some (left b.0) (map_some (λ m. (mark, m)) (cond s None (Some own)))
+            ≡ unless (cond mark None (cond s (Some Collapsed) (small_cause limit fewer b.0 own))) (cond s [] own)
+        on own true true k = let z : true ≡ false = k refl in cc
+        on own true false k = refl
+        on own false true k = refl
+        on own false false k = refl
+
+    shape_left : (s : Option Shape) → AllWhole (option_lines_and_rings s)
+        → then_some (λ t. prune place left (shape_marked (greatest_ring arcs) t)) (then_some (prune place refs_at_zero) s) ≡ then_some (λ s. prune place (unprotected_refs kept limit ls) (layer_shape_marked ls s)) s
+    unfolding greatest_ring greatest_of_layers
+    shape_left None h = refl
+    shape_left (Some s) h =
+        let way : Option (List ℕ) = way_of (ring_in place refs_at_zero size long size_after long_after s) in
+        spared_left place refs_at_zero size long size_after long_after s (all_agree s h) place left
+        ∙ agreed place (λ closed l. then_some (left closed) (keeping_mark refs_at_zero closed l)) (unprotected_refs kept limit ls) (marked s way)
+        (all_two (λ b. IsWholeAtZero lines (without_mark b)) HasEnough (λ b. then_some (left b.0) (keeping_mark refs_at_zero b.0 b.1) ≡ unprotected_refs kept limit ls b.0 b.1) line_left
+        (lines_and_rings (marked s way)) (all_marked (IsWholeAtZero lines) s way h)
+        (all_weaker (MarkPasses long) HasEnough has_enough (lines_and_rings (marked s way)) (marks_pass size long s)))
+
+    abbrev with_shape : Featured → Option TopoShape → TopoFeature
+    with_shape f s = record { id = f.id; properties = f.properties; shape = s }
+
+    features_left : (fs : List Featured) → AllByRecursion IsWholeFeature fs
+        → map (feature_spared (greatest_ring arcs) left) (features_by refs_at_zero fs) ≡ map (feature_sparing ls (unprotected_refs kept limit ls)) fs
+    features_left [] h = refl
+    features_left (f ∷ fs) h =
+        ap (λ s. with_shape f s ∷ map (feature_spared (greatest_ring arcs) left) (features_by refs_at_zero fs)) (shape_left f.shape h.0)
+        ∙ ap (λ xs. feature_sparing ls (unprotected_refs kept limit ls) f ∷ xs) (features_left fs h.1)
+
+    abbrev layers_left : Named → List (List ℕ × TopoObject)
+    layers_left ms = map (λ m. (m.0, Many (map (feature_sparing ls (unprotected_refs kept limit ls)) m.1.features))) ms
+
+    objects_left : (ms : Named) → AllWhole (named_lines_and_rings ms) → objects_spared (greatest_ring arcs) left (objects_by refs_at_zero ms) ≡ layers_left ms
+    objects_left [] h = refl
+    objects_left (m ∷ ms) h =
+        ap (λ fs. (m.0, Many fs) ∷ objects_spared (greatest_ring arcs) left (objects_by refs_at_zero ms))
+        (features_left m.1.features (each_feature m.1.features (all_left (IsWholeAtZero lines) (features_lines_and_rings m.1.features) (named_lines_and_rings ms) h)))
+        ∙ ap (λ os. (m.0, Many (map (feature_sparing ls (unprotected_refs kept limit ls)) m.1.features)) ∷ os)
+        (objects_left ms (all_right (IsWholeAtZero lines) (features_lines_and_rings m.1.features) (named_lines_and_rings ms) h))
+
+pub sparing_of_layers : ZeroLaw → SparingIsOfLayers
+sparing_of_layers zero kept limit ls sound =
+    ap (λ xs. record { objects = objects_spared (greatest_ring (arcs_of_layers ls)) (sparing (large_refs limit (retained_arcs kept xs))) (objects_by (kept_refs (linework (layers_of ls)) 0 0) ls); arcs = retained_arcs kept xs; transform = None })
+    (each_stays zero (arcs_of_layers ls))
+    ∙ ap (λ os. record { objects = os; arcs = retained_arcs kept (arcs_of_layers ls); transform = None }) (objects_left ls kept limit ls (loses_nothing zero ls sound))
+
+-- ---- what is built of layers
+
+pub built_rings : ZeroLaw → BuiltRingsAreOfLayers
+unfolding built
+built_rings zero ls sound =
+    let whole : Contents = untrimmed 0 0 ls in
+    trimmed_rings whole
+    ∙ ap (λ xs. map (map (renumbered (is_used whole.objects))) (protected_rings (greatest_ring xs) whole.objects)) (each_stays zero (arcs_of_layers ls))
+    ∙ ap (map (map (renumbered (is_used whole.objects)))) (rings_of_layers ls (loses_nothing zero ls sound))
+
+module _ (zero : ZeroLaw) (rise : ArcsRise) (no_crossings : Bool) (t : ℕ) (ls : Named) (sound : AreSound ls) where
+  abbrev used : ℕ → Bool
+  used = is_used (untrimmed 0 0 ls).objects
+
+  abbrev IsLong : List Point → Type 0
+  IsLong ps = 2 ≤ length ps
+
+  abbrev indexes : List (List ℕ)
+  indexes = protecting_indexes no_crossings (greatest_rings (built 0 0 ls)) t (built 0 0 ls)
+
+  through : EachFromFirstToLast indexes (keep_from used 0 (arcs_of_layers ls))
+  through =
+      subst (EachFromFirstToLast indexes) (built_positions ls ∙ built_arcs ls zero)
+      (each_through indexes (arc_positions (built 0 0 ls))
+      (rise (guarded_by no_crossings (protected_rings (greatest_rings (built 0 0 ls)) (built 0 0 ls).objects)) t (arc_positions (built 0 0 ls)))
+      (subst (AllByRecursion IsLong) (sym (built_positions ls ∙ built_arcs ls zero)) (sub_all IsLong (sub_left used 0 (arcs_of_layers ls)) (layers_long ls sound))))
+
+  pub arc_indexes_reach : EachFromFirstToLast (protecting_arc_indexes no_crossings t ls) (arcs_of_layers ls)
+  arc_indexes_reach = spread_through used 0 indexes (arcs_of_layers ls) (layers_long ls sound) through
+
+pub arc_indexes_are : ZeroLaw → ProtectingArcIndexesAreOfLayers
+arc_indexes_are zero no_crossings t ls sound =
+    let used : ℕ → Bool = is_used (untrimmed 0 0 ls).objects in
+    ap (λ rings. spread used 0 (reduce_arcs (guarded_by no_crossings rings) t (arc_positions (built 0 0 ls))) (arcs_of_layers ls)) (built_rings zero ls sound)
+    ∙ ap (λ arcs. spread used 0 (reduce_arcs (guarded_by no_crossings (map (map (renumbered used)) (layers_rings ls))) t arcs) (arcs_of_layers ls)) (built_positions ls ∙ built_arcs ls zero)
+
+pub arc_indexes_through : ZeroLaw → ArcsRise → ProtectingArcIndexesReach
+arc_indexes_through zero rise no_crossings t ls sound = arc_indexes_reach zero rise no_crossings t ls sound
+
+pub is_assembled : NoneIsNew → ZeroLaw → ArcsRise → ProtectingIsAssembled
+unfolding protecting_contents protecting_removed_count assembled_sparing assembled_sparing_removed_count built trimmed
+is_assembled none zero rise no_crossings g t limit ls on sound =
+    let whole : Contents = untrimmed 0 0 ls in
+    let used : ℕ → Bool = is_used whole.objects in
+    let kept : List (List ℕ) = protecting_indexes no_crossings (greatest_rings (trimmed whole)) t (trimmed whole) in
+    let stays : whole.arcs ≡ arcs_of_layers ls = each_stays zero (arcs_of_layers ls) in
+    let on_grid = protecting_on_grid no_crossings g t limit (built 0 0 ls) on.0 refl (built_on none g 0 0 ls on) in
+    let alike = trimmed_first kept limit whole (subst (EachFromFirstToLast kept) (sym (built_arcs ls zero)) (through zero rise no_crossings t ls sound)) in
+    record {
+      contents =
+          on_grid.contents
+          ∙ ap (quantized g) (alike.contents ∙ ap (λ arcs. spared_by (greatest_ring arcs) (spread used 0 kept arcs) limit whole) stays);
+      removed_count = on_grid.removed_count ∙ alike.removed_count ∙ ap (λ arcs. spared_removed_count (greatest_ring arcs) (spread used 0 kept arcs) limit whole) stays;
+    }
+
+-- ---- validity
+
+pub assembled_is_valid : EndsStay → NoneIsNew → ZeroLaw → AssembledSparingIsValid
+unfolding assembled_sparing
+assembled_is_valid stay none zero kept limit ls sound distinct through =
+    spared_is_valid (greatest_ring (arcs_of_layers ls)) kept limit (untrimmed 0 0 ls) (untrimmed_is_valid stay none 0 0 ls sound distinct) (subst (EachFromFirstToLast kept) (sym (each_stays zero (arcs_of_layers ls))) through)
+
+-- ---- positions
+
+all_free : (ps : List Point) → AllByRecursion (IsOn None) ps
+all_free [] = tt
+all_free (p ∷ ps) = (tt, all_free ps)
+
+-- its positions are positions of what is built at zero
+pub assembled_is_on : NoneIsNew → ZeroLaw → ArcsRise → AssembledSparingIsOn
+unfolding protecting_contents
+assembled_is_on none zero rise no_crossings g t limit ls on sound =
+    subst (EachCell (IsOn g)) (is_assembled none zero rise no_crossings None t limit ls (tt, all_free (named_points ls)) sound).contents
+    (spared_cells (IsOn g) (greatest_rings (built 0 0 ls)) (protecting_indexes no_crossings (greatest_rings (built 0 0 ls)) t (built 0 0 ls)) limit (built 0 0 ls) (built_on none g 0 0 ls on))

@@ -1,5 +1,0 @@
-use Rattle.build_meaning.proofs.Valid.{is_valid}
-use Rattle.build_meaning.proofs.laws.built_is_valid.Goals as goal
-
-pub returns : goal.returns
-returns c t limit ls sound distinct = is_valid c.ends_stay.ensures c.nothing_is_new.ensures t limit ls sound distinct

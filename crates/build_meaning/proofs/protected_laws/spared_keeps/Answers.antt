@@ -1,0 +1,5 @@
+use Rattle.build_meaning.proofs.KeptLabels.{spared_keeps}
+use Rattle.build_meaning.proofs.protected_laws.spared_keeps.Goals as goal
+
+pub returns : goal.returns
+returns c = spared_keeps

@@ -1,0 +1,5 @@
+use Rattle.build_meaning.proofs.KeptLabels.{simplified_keeps}
+use Rattle.build_meaning.proofs.simplified_laws.simplified_keeps.Goals as goal
+
+pub returns : goal.returns
+returns c = simplified_keeps

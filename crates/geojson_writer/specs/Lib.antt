@@ -1,4 +1,0 @@
-pub mod Decoded
-pub mod FeatureTexts
-pub mod FeatureValues
-pub mod Numbered

@@ -1,5 +1,0 @@
-use Rattle.simplified_topology.proofs.OnGrid.{built_decodes}
-use Rattle.simplified_topology.proofs.grid_laws.built_decodes_quantized.Goals as goal
-
-pub returns : goal.returns
-returns c g t limit ls on sound distinct = built_decodes c.built_decodes_back.ensures c.built_decodes_back_on_grid.ensures g t limit ls on sound distinct

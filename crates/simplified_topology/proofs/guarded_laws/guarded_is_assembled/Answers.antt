@@ -1,5 +1,0 @@
-use Rattle.simplified_topology.proofs.GuardedLayers.{is_assembled}
-use Rattle.simplified_topology.proofs.guarded_laws.guarded_is_assembled.Goals as goal
-
-pub returns : goal.returns
-returns c = is_assembled c.nothing_is_new.ensures c.zero_law.ensures c.arcs_rise.ensures

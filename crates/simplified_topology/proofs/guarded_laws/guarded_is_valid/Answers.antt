@@ -1,5 +1,0 @@
-use Rattle.simplified_topology.proofs.Protected.{guarded_is_valid}
-use Rattle.simplified_topology.proofs.guarded_laws.guarded_is_valid.Goals as goal
-
-pub returns : goal.returns
-returns c = guarded_is_valid c.arcs_rise.ensures

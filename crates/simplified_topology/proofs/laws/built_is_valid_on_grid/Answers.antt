@@ -1,5 +1,0 @@
-use Rattle.simplified_topology.proofs.BuiltOnGrid.{built_is_valid}
-use Rattle.simplified_topology.proofs.laws.built_is_valid_on_grid.Goals as goal
-
-pub returns : goal.returns
-returns c transform cell t limit ls numbers sound distinct on = built_is_valid c.built_is_valid.ensures c.nothing_is_new.ensures transform cell t limit ls numbers sound distinct on

@@ -1,5 +1,0 @@
-use Rattle.simplified_topology.proofs.Reaching.{reduced_is_valid}
-use Rattle.simplified_topology.proofs.laws.reduced_is_valid.Goals as goal
-
-pub returns : goal.returns
-returns c t limit y h = reduced_is_valid t limit y h

@@ -1,7 +1,0 @@
-// The law of the rings that are protected. The function changes nothing: its contract is the law.
-ghost use Rattle.simplified_topology.specs.ProtectedRings.{ProtectedRingsCanStay};
-
-/// The protected rings of a valid topology are of its arcs, which meet, and have four positions or more.
-pub fn protected_rings_can_stay()
-    ensures { ProtectedRingsCanStay }
-{}

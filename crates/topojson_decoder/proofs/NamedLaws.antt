@@ -109,6 +109,15 @@ module _ (t : Option Transform) (arcs : List (List Point)) where
     o ← object t arcs m.1
     give (m.0, o)
 
+  -- what was read of the first of some members, and of the others
+  record FirstRead (m : List ℕ × Json) (ms : Members) (c : Counts) (os : Named) (d : Counts) : Type 0 where
+    first : TopoObject
+    mid : Counts
+    others : Named
+    reads : object t arcs m.1 c ≡ Ok (first, mid)
+    more : each named ms mid ≡ Ok (others, d)
+    are : os ≡ (m.0, first) ∷ others
+
   module _ (m : List ℕ × Json) (ms : Members) (c : Counts) (os : Named) (d : Counts) where
     with_others : (o : TopoObject) (mid : Counts) → object t arcs m.1 c ≡ Ok (o, mid) → (r : Result (Named × Counts) TopoFault) → each named ms mid ≡ r → and_then (λ ys. give ((m.0, o) ∷ ys)) r ≡ Ok (os, d) → FirstRead m ms c os d
     with_others o mid reads (Err e) more h = absurd cc

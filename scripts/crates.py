@@ -6,7 +6,7 @@
 
 A crate has a line, in the order of crates.txt, with the first sentence of its root file's first comment (`//!`). Where that is longer than a
 line, it ends before its first colon. The table stands between `<!-- made: crates -->` and `<!-- end -->`. The status is 0 where it is as it
-should be.
+should be, and there are no more crates than a reader can keep apart.
 """
 import re
 import sys
@@ -15,6 +15,7 @@ from pathlib import Path
 ROOT = Path(__file__).resolve().parent.parent
 MAP = ROOT / "docs" / "ARCHITECTURE.md"
 LONGEST = 200
+MOST = 43
 PLACE = re.compile(r"(<!-- made: crates -->\n\n).*?(\n\n<!-- end -->)", re.DOTALL)
 
 
@@ -55,8 +56,11 @@ def main():
     for line in wanted.split("\n"):
         if line not in stands.split("\n"):
             print(f"crates: docs/ARCHITECTURE.md should have: {line}")
-    print(f"{len(wanted.splitlines()) - 2} crates, {'each with its line' if stands == wanted else 'but not as docs/ARCHITECTURE.md has them'}")
-    sys.exit(0 if stands == wanted else 1)
+    crates = len(list(names()))
+    print(f"{crates} crates, {'each with its line' if stands == wanted else 'but not as docs/ARCHITECTURE.md has them'}")
+    if crates > MOST:
+        print(f"crates: {MOST} at most: a new one takes the place of another")
+    sys.exit(0 if stands == wanted and crates <= MOST else 1)
 
 
 if __name__ == "__main__":

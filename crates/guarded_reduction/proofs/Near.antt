@@ -19,6 +19,10 @@ use Rattle.guarded_reduction.specs.Moves.{owners_of}
 use Rattle.guarded_reduction.specs.Shown.{Shown, all_left}
 use Rattle.guarded_reduction.specs.Tests.{IsLonger, Reaches, Test, is_listed, unlisted}
 
+-- the index is over all positions
+pub index_over : (index : Shown) (arcs whole : List (List Point)) → index ≡ all_left (joined arcs) → arcs ≡ whole → index ≡ all_left (joined whole)
+index_over index arcs whole e f = e ∙ ap (λ ps. all_left (joined ps)) f
+
 -- ---- longer lists
 
 pub longer_same : (ys : List ℕ) → IsLonger ys ys

@@ -4,9 +4,6 @@ ghost use Rattle.std.specs.Prelude.{◌≡◌, IfOk, true};
 use owned_values::Memory;
 use std::alloc::Global;
 
-/// So many places of other arcs are noted at most for one corner.
-const MOST_NOTED: usize = 64;
-
 /// So many cells and places are gone through at most for each position, beside those that are few.
 const MOST_LOOKS: usize = 128;
 
@@ -15,8 +12,7 @@ const MOST_LOOKS: usize = 128;
 pub struct Meetings {
     pub is_clear: bool,
     looks: usize,
-    pub places: Vec<usize>,
-    pub arcs: Vec<usize>,
+    arcs: Vec<usize>,
     are_noted: Vec<bool>,
 }
 
@@ -25,12 +21,10 @@ impl Meetings {
     pub fn none(alloc: Global, n: usize, positions: usize) -> Result<Meetings, Memory>
         ensures { IfOk result (λ m. m.is_clear ≡ true) }
     {
-        let places = Vec::with_capacity(alloc, MOST_NOTED)?;
         let are_noted = vec![in alloc; false; n]?;
         Ok(Meetings {
             is_clear: true,
             looks: positions.saturating_mul(MOST_LOOKS),
-            places,
             arcs: Vec::new(alloc),
             are_noted,
         })
@@ -71,10 +65,14 @@ impl Meetings {
         self.looks == 0
     }
 
+    /// The arcs that are met.
+    pub fn arcs(&self) -> &[usize] {
+        self.arcs.as_slice()
+    }
+
     /// An arc is met.
     pub fn note(&mut self, arc: usize) -> Result<(), Memory>
-        ensures clear { self.new.is_clear ≡ self.old.is_clear }
-        ensures places { self.new.places.items ≡ self.old.places.items }
+        ensures { self.new.is_clear ≡ self.old.is_clear }
     {
         if arc < self.are_noted.len() && !self.are_noted[arc] {
             self.are_noted[arc] = true;

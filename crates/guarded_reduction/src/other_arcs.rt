@@ -19,6 +19,9 @@ use std::mem;
 /// So many places that lie near a short arc are listed at most.
 const MOST_NEAR: usize = 32;
 
+/// So many places of other arcs are noted at most for one corner.
+const MOST_NOTED: usize = 64;
+
 /// So many cells and places are gone through at most for a corner whose neighbours follow each other, before they are counted.
 const MOST: usize = 1000;
 
@@ -31,13 +34,14 @@ const MOST_TIMES: usize = 4;
 const MOST_TURNS: usize = 6;
 
 /// All arcs, of which those that aren't marked lie beside the others: the marks, the listed places in a box of those that aren't marked, and which of
-/// them the corners meet that go. It keeps the memory of the notes of short arcs, for the next of them.
+/// them the corners meet that go. It keeps the memory of the places that a corner meets, and of the notes of short arcs, for the next of them.
 #[derive(Drop)]
 pub struct OtherArcs<'a> {
     whole: &'a WholeArcs<'a>,
     marks: Vec<bool>,
     within: Extent,
     near: Vec<usize>,
+    met: Vec<usize>,
     meetings: Meetings,
     notes: Vec<Noted>,
 }
@@ -111,12 +115,14 @@ impl<'a> OtherArcs<'a> {
     {
         let marks = vec![in alloc; false; arcs]?;
         let near = Vec::with_capacity(alloc, MOST_NEAR)?;
+        let met = Vec::with_capacity(alloc, MOST_NOTED)?;
         let meetings = Meetings::none(alloc, arcs, positions)?;
         Ok(OtherArcs {
             whole,
             marks,
             within: empty_extent(),
             near,
+            met,
             meetings,
             notes: Vec::new(alloc),
         })
@@ -194,7 +200,8 @@ impl<'a> Surroundings for OtherArcs<'a> {
             Some(true) => Ok(()),
             Some(false) => {
                 self.meetings.is_clear = false;
-                self.whole.note_met(marks, corner, &mut self.meetings)
+                self.whole
+                    .note_met(marks, corner, &mut self.met, &mut self.meetings)
             }
             None => {
                 self.meetings.is_clear = false;

@@ -138,7 +138,7 @@ fn reduce_pending(
         } else if others.meetings().is_over() {
             return Ok(false);
         } else {
-            join_met(joins, parts, part, others.meetings().arcs.as_slice());
+            join_met(joins, parts, part, others.meetings().arcs());
         }
         others.mark(numbers, false);
     }

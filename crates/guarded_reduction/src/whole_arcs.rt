@@ -5,7 +5,7 @@ ghost use Rattle.geometry.specs.Points.{Point};
 ghost use Rattle.guarded_meaning.specs.Arcs.{ArcCorner};
 ghost use Rattle.guarded_meaning.specs.Parts.{IsClearOf, unmarked};
 ghost use Rattle.guarded_meaning.specs.Triangles.{in_triangle};
-ghost use Rattle.guarded_reduction.specs.Beside.{AreNear, partner_index};
+ghost use Rattle.guarded_reduction.specs.Beside.{AreNear, is_beside, partner_index};
 ghost use Rattle.planar_predicates.specs.Extents.{HoldsPoint};
 ghost use Rattle.guarded_reduction.specs.First.{links_of};
 ghost use Rattle.guarded_reduction.specs.Moves as moves;
@@ -71,11 +71,7 @@ impl<'a> WholeArcs<'a> {
 
     /// The corner beside the arcs that aren't marked.
     fn beside<'b>(&'b self, inside: &'b [bool], corner: &Corner) -> Beside<'b>
-        ensures corner { result.corner ≡ corner.now }
-        ensures marks { result.marks.now ≡ inside.now }
-        ensures owners { result.owners.now ≡ moves.owners_of 0 self.now }
-        ensures partners { result.partners.now ≡ links_of partner_index 0 self.now }
-        ensures positions { result.positions.now ≡ joined self.now }
+        ensures { is_beside result.marks.now result.owners.now result.partners.now result.positions.now result.corner ≡ is_beside inside.now (moves.owners_of 0 self.now) (links_of partner_index 0 self.now) (joined self.now) corner.now }
     {
         Beside {
             corner: *corner,
@@ -135,21 +131,20 @@ impl<'a> WholeArcs<'a> {
         Some(self.index.find(&query).is_none())
     }
 
-    /// Notes arcs that the corner meets.
+    /// Notes arcs that the corner meets, by their places, of which the list holds some then.
     pub fn note_met(
         &self,
         inside: &[bool],
         corner: &Corner,
+        places: &mut Vec<usize>,
         meetings: &mut Meetings,
     ) -> Result<(), Memory>
         ensures { meetings.new.is_clear ≡ meetings.old.is_clear }
     {
-        meetings.places.clear();
-        self.index
-            .note(&self.beside(inside, corner), &mut meetings.places);
-        'places: for i in 0..meetings.places.len() {
-            let place = meetings.places[i];
-            meetings.note(number_or(self.owners.as_slice(), place, 0))?;
+        places.clear();
+        self.index.note(&self.beside(inside, corner), places);
+        'places: for place in &*places {
+            meetings.note(number_or(self.owners.as_slice(), *place, 0))?;
         }
         Ok(())
     }

@@ -1,8 +1,11 @@
 -- Lists that are split by flags and put together again.
-use Rattle.std.proofs.Common.{◌≡◌, ℕ, zero, suc, ◌+◌, ◌<◌, ◌≤◌, Bool, true, false, List, [], ◌∷◌, ◌++◌, map, take, drop, length, get_or, refl, sym, ap, ◌∙◌, arith}
-use Rattle.std.specs.Prelude.{not}
+use Rattle.std.proofs.Common.{◌≡◌, ℕ, zero, suc, ◌+◌, ◌<◌, ◌≤◌, Bool, true, false, Option, Some, None, List, [], ◌∷◌, ◌++◌, map, take, drop, length, get_or, refl, sym, ap, ◌∙◌, arith}
+use Rattle.std.specs.Prelude.{not, option_to_list}
+use Rattle.std.specs.Vec.Iter.{into_iter_items, into_iter_steps}
+use Rattle.std.specs.declared.vec.IntoIter.{IntoIter}
 use Rattle.std.proofs.lemmas.List.{take_all}
 use Rattle.owned_values.proofs.Lists.{drop_here, take_here}
+use Rattle.layer_topology.specs.Splitting.{GivesNext}
 use Rattle.topo_model.proofs.Chosen.{Chooses, begins, passed, left_out, taken}
 use Rattle.topo_model.specs.Uses.{chosen}
 
@@ -34,32 +37,39 @@ splits_other flags later rest flag xs marked others new x split clear is so = (
 
 -- ---- putting together
 
--- the next of the one list or the other is the next of all
-abbrev pub GivesNext : {X : Type 0} → Bool → List X → List X → X → List X → List X → Type 0
-GivesNext {X} flag marked others x marked_new others_new = (flags : List Bool) (y : X) (ys : List X) → marked ≡ chosen (flag ∷ flags) (y ∷ ys) → others ≡ chosen (map not (flag ∷ flags)) (y ∷ ys)
-    → (x ≡ y) × (marked_new ≡ chosen flags ys) × (others_new ≡ chosen (map not flags) ys)
+-- what the next of an iterator is, where it has one
+abbrev Takes : {X A : Type 0} → IntoIter X A → Option X → IntoIter X A → Type 0
+Takes {X} s next t = (x : X) (xs : List X) → into_iter_items s ≡ x ∷ xs → (next ≡ Some x) × (into_iter_items t ≡ xs)
 
--- what the next of a list is
-abbrev pub Takes : {X : Type 0} → List X → X → List X → Type 0
-Takes {X} xs x new = (first : X) (rest : List X) → xs ≡ first ∷ rest → (x ≡ first) × (new ≡ rest)
+takes_first : {X A : Type 0} (s t : IntoIter X A) (next : Option X) → into_iter_steps s next t → Takes s next t
+takes_first s t None h x xs e = absurd (omega (arith, s.rest.ok.0, ap length e, h.0))
+takes_first s t (Some y) h x xs e =
+    let same : y ∷ into_iter_items t ≡ x ∷ xs = sym h.0 ∙ e in
+    let first : y ≡ x = cc in
+    let rest : into_iter_items t ≡ xs = cc in
+    (ap Some first, rest)
 
-pub next_marked : {X : Type 0} (flag : Bool) (marked others : List X) (x : X) (marked_new others_new : List X) → flag ≡ true → Takes marked x marked_new → others_new ≡ others
-    → GivesNext flag marked others x marked_new others_new
-next_marked {X} flag marked others x marked_new others_new set takes same flags y ys m o =
-    let t = takes y (chosen flags ys) (m ∙ ap (λ b. chosen (b ∷ flags) (y ∷ ys)) set) in
-    (t.0, t.1, same ∙ o ∙ ap (λ b. chosen (not b ∷ map not flags) (y ∷ ys)) set)
+pub next_marked : {X A : Type 0} (flag : Bool) (marked others marked_new : IntoIter X A) (next : Option X) → flag ≡ true → into_iter_steps marked next marked_new
+    → GivesNext flag (into_iter_items marked) (into_iter_items others) next (into_iter_items marked_new) (into_iter_items others)
+next_marked flag marked others marked_new next set steps flags x xs m o =
+    let t = takes_first marked marked_new next steps x (chosen flags xs) (m ∙ ap (λ b. chosen (b ∷ flags) (x ∷ xs)) set) in
+    (t.0, t.1, o ∙ ap (λ b. chosen (not b ∷ map not flags) (x ∷ xs)) set)
 
-pub next_other : {X : Type 0} (flag : Bool) (marked others : List X) (x : X) (marked_new others_new : List X) → flag ≡ false → Takes others x others_new → marked_new ≡ marked
-    → GivesNext flag marked others x marked_new others_new
-next_other {X} flag marked others x marked_new others_new clear takes same flags y ys m o =
-    let t = takes y (chosen (map not flags) ys) (o ∙ ap (λ b. chosen (not b ∷ map not flags) (y ∷ ys)) clear) in
-    (t.0, same ∙ m ∙ ap (λ b. chosen (b ∷ flags) (y ∷ ys)) clear, t.1)
+pub next_other : {X A : Type 0} (flag : Bool) (marked others others_new : IntoIter X A) (next : Option X) → flag ≡ false → into_iter_steps others next others_new
+    → GivesNext flag (into_iter_items marked) (into_iter_items others) next (into_iter_items marked) (into_iter_items others_new)
+next_other flag marked others others_new next clear steps flags x xs m o =
+    let t = takes_first others others_new next steps x (chosen (map not flags) xs) (o ∙ ap (λ b. chosen (not b ∷ map not flags) (x ∷ xs)) clear) in
+    (t.0, m ∙ ap (λ b. chosen (b ∷ flags) (x ∷ xs)) clear, t.1)
 
 -- an element that is there doesn't depend on what stands for one that isn't
 get_same : {X : Type 0} (xs : List X) (i : ℕ) (d e : X) → i < length xs → get_or xs i d ≡ get_or xs i e
 get_same [] i d e h = absurd (omega (arith, h))
 get_same (x ∷ xs) zero d e h = refl
 get_same (x ∷ xs) (suc i) d e h = get_same xs i d e (omega (arith, h))
+
+some_at : {X : Type 0} (xs : List X) (i : ℕ) → i < length xs → (x : X) × (x ≡ get_or xs i x)
+some_at [] i h = absurd (omega (arith, h))
+some_at (x ∷ xs) i h = (get_or (x ∷ xs) i x, get_same (x ∷ xs) i x (get_or (x ∷ xs) i x) h)
 
 -- of a list that was split so, the first are put together, and the others are left of both
 abbrev pub Joins : {X : Type 0} → List Bool → List X → List X → ℕ → List X → List X → List X → Type 0
@@ -71,18 +81,17 @@ pub joins_first : {X : Type 0} (flags : List Bool) (marked others all marked_lat
 joins_first flags marked others all marked_later others_later none m o xs many mi oi = (none, m ∙ mi, o ∙ oi)
 
 module _ {X : Type 0} (flags : List Bool) (marked others : List X) (i : ℕ) where
-  pub joins_more : (d : Bool) (all marked_later others_later new marked_new others_new : List X) (x : X) → i < length flags
-      → Joins flags marked others i all marked_later others_later → GivesNext (get_or flags i d) marked_later others_later x marked_new others_new → new ≡ all ++ x ∷ []
+  pub joins_more : (d : Bool) (all marked_later others_later new marked_new others_new : List X) (next : Option X) → i < length flags
+      → Joins flags marked others i all marked_later others_later → GivesNext (get_or flags i d) marked_later others_later next marked_new others_new → new ≡ all ++ option_to_list next
       → Joins flags marked others (i + 1) new marked_new others_new
-  joins_more d all marked_later others_later new marked_new others_new x lt so next pushed xs many m o =
+  joins_more d all marked_later others_later new marked_new others_new next lt so gives put xs many m o =
       let h = so xs many m o in
       let within : i < length xs = omega (arith, many, lt) in
-      let y = get_or xs i x in
-      let same : y ≡ get_or xs i y = get_same xs i x y within in
+      let y = some_at xs i within in
       let here = drop_here flags i (get_or flags i d) lt (get_same flags i d (get_or flags i d) lt) in
-      let there = drop_here xs i y within same in
-      let n = next (drop (i + 1) flags) y (drop (i + 1) xs) (h.1 ∙ (λ j. chosen (here j) (there j))) (h.2 ∙ (λ j. chosen (map not (here j)) (there j))) in
-      (pushed ∙ ap (λ z. all ++ z ∷ []) n.0 ∙ ap (λ zs. zs ++ y ∷ []) h.0 ∙ sym (take_here xs i y within same), n.1, n.2)
+      let there = drop_here xs i y.0 within y.1 in
+      let n = gives (drop (i + 1) flags) y.0 (drop (i + 1) xs) (h.1 ∙ (λ j. chosen (here j) (there j))) (h.2 ∙ (λ j. chosen (map not (here j)) (there j))) in
+      (put ∙ ap (λ z. all ++ option_to_list z) n.0 ∙ ap (λ zs. zs ++ y.0 ∷ []) h.0 ∙ sym (take_here xs i y.0 within y.1), n.1, n.2)
 
   pub joins_all : (all marked_later others_later : List X) → length flags ≤ i → Joins flags marked others i all marked_later others_later
       → (xs : List X) → length xs ≡ length flags → marked ≡ chosen flags xs → others ≡ chosen (map not flags) xs → all ≡ xs

@@ -7,3 +7,4 @@ pub mod Levels
 pub mod Replacing
 pub mod Staying
 pub mod Written
+pub mod Splitting

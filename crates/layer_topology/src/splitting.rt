@@ -1,14 +1,15 @@
 // Arcs that are split by flags, and put together again.
-ghost use Rattle.std.specs.Prelude.{◌≡◌, ◌∷◌, Bool, IfOk, List, length, map, not};
+ghost use Rattle.std.specs.Prelude.{◌≡◌, IfOk, List, length, map, not};
+ghost use Rattle.std.specs.Vec.Iter.{into_iter_items};
 ghost use Rattle.geometry.specs.Points.{Point};
+ghost use Rattle.layer_topology.specs.Splitting.{GivesNext};
 ghost use Rattle.topo_model.specs.Uses.{chosen};
 
 use geojson_types::Position;
 use json_value::Items;
 use owned_values::Memory;
 use std::alloc::Global;
-use std::marker::Model;
-use std::mem;
+use std::vec::IntoIter;
 use topo_model::Cell;
 
 /// The arcs whose flag is set, and those whose flag isn't, each in order. They are moved.
@@ -37,55 +38,15 @@ pub(crate) fn split_arcs(
     Ok((marked, others))
 }
 
-/// Arcs that are taken one after another: those after the ones that were taken.
-#[derive(Drop)]
-struct Later {
-    arcs: Vec<Items<Cell>>,
-    next: usize,
-}
-
-impl Model for Later {
-    ghost use Rattle.std.specs.Prelude.{List, drop};
-    ghost use Rattle.geometry.specs.Points.{Point};
-
-    ghost Value = { List (List Point) };
-
-    ghost view = { λ l. drop l.next l.arcs.items };
-}
-
-impl Later {
-    /// All of these arcs.
-    fn all(arcs: Vec<Items<Cell>>) -> Later
-        ensures { result ≡ arcs.items }
-    {
-        Later { arcs, next: 0 }
-    }
-
-    /// Takes the next. It is moved out.
-    fn take(&mut self, alloc: Global) -> Items<Cell>
-        ensures { (first : List Point) (rest : List (List Point)) → self.old ≡ first ∷ rest → (result ≡ first) × (self.new ≡ rest) }
-    {
-        let none = Items::of(Vec::new(alloc));
-        if self.next >= self.arcs.len() {
-            return none;
-        }
-        let arc = mem::replace(&mut self.arcs[self.next], none);
-        self.next += 1;
-        arc
-    }
-}
-
 /// The next arc: of those that are marked where the flag is set, and otherwise of the others.
-fn next_arc(alloc: Global, flag: bool, marked: &mut Later, others: &mut Later) -> Items<Cell>
-    ensures { (flags : List Bool) (arc : List Point) (arcs : List (List Point))
-        → marked.old ≡ chosen (flag ∷ flags) (arc ∷ arcs) → others.old ≡ chosen (map not (flag ∷ flags)) (arc ∷ arcs)
-        → (result ≡ arc) × (marked.new ≡ chosen flags arcs) × (others.new ≡ chosen (map not flags) arcs) }
+fn next_arc(
+    flag: bool,
+    marked: &mut IntoIter<Items<Cell>, Global>,
+    others: &mut IntoIter<Items<Cell>, Global>,
+) -> Option<Items<Cell>>
+    ensures { GivesNext flag (into_iter_items marked.old) (into_iter_items others.old) result (into_iter_items marked.new) (into_iter_items others.new) }
 {
-    if flag {
-        marked.take(alloc)
-    } else {
-        others.take(alloc)
-    }
+    if flag { marked.next() } else { others.next() }
 }
 
 /// The arcs that were split by these flags into those that are marked and the others, in their order. They are moved.
@@ -99,10 +60,12 @@ pub(crate) fn joined_arcs(
         → marked.items ≡ chosen flags.now arcs → others.items ≡ chosen (map not flags.now) arcs → all.items ≡ arcs) }
 {
     let mut all = Vec::with_capacity(alloc, flags.len())?;
-    let mut marked_later = Later::all(marked);
-    let mut others_later = Later::all(others);
+    let mut marked = marked.into_iter();
+    let mut others = others.into_iter();
     'flags: for flag in flags {
-        let arc = next_arc(alloc, *flag, &mut marked_later, &mut others_later);
+        let Some(arc) = next_arc(*flag, &mut marked, &mut others) else {
+            continue;
+        };
         all.push(arc)?;
     }
     Ok(all)

@@ -9,7 +9,7 @@ use Rattle.segment_crossings.specs.declared.block.Block.{Block}
 use Rattle.segment_crossings.specs.declared.levels.Level.{Level}
 use Rattle.segment_crossings.specs.declared.line.Line.{Line}
 use Rattle.segment_crossings.specs.Blocks.{Covers}
-use Rattle.segment_crossings.specs.Levels.{IsOver, NoneBadWithin, block_at, no_block}
+use Rattle.segment_crossings.specs.Levels.{IsOver, block_at, no_block}
 use Rattle.segment_crossings.specs.Lines.{as_segment, line_at}
 use Rattle.segment_crossings.specs.Strips.{HoldsRun}
 
@@ -43,9 +43,6 @@ over_next ls ss level next o g e small k = record {
   where
     same : (u : ℕ) → u / 2 ^ level.bits / 4 ≡ u / 2 ^ next.bits
     same u = shr-shr u level.bits 2 ∙ subst (λ b. u / 2 ^ (level.bits + 2) ≡ u / 2 ^ b) (sym e) refl
-
-pub none_at : (ls : List Line) (l : Line) (rank : ℕ) → NoneBadWithin ls l rank rank
-none_at ls l rank = record { none = λ r a b w. absurd (omega (arith, a, b)) }
 
 -- ---- a block is put in a list
 

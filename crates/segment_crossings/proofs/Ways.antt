@@ -1,53 +1,27 @@
 -- Segments that go on one way don't meet badly.
-use Rattle.std.proofs.Common.{◌≡◌, ℕ, zero, suc, ◌+◌, ◌-◌, ◌<◌, ◌≤◌, ℤ, pos, ◌-ℤ◌, ◌<ℤ◌, ◌≤ℤ◌, ◌⊎◌, inl, inr, Bool, true, false, List, refl, ap, sym, subst, ◌∙◌, arith}
+use Rattle.std.proofs.Common.{◌≡◌, ℕ, zero, suc, ◌+◌, ◌-◌, ◌<◌, ◌≤◌, ℤ, ◌<ℤ◌, ◌≤ℤ◌, ◌⊎◌, inl, inr, Bool, true, false, List, refl, ap, sym, subst, ◌∙◌, arith}
 use Rattle.std.proofs.lemmas.Bool.{both_ways, cases_eq, false_from_ne_true, or_left, or_right}
 use Rattle.std.proofs.lemmas.Int.{ints}
 use Rattle.geometry.specs.Points.{Point}
 use Rattle.geometry.specs.Rings.{same}
 use Rattle.geometry.proofs.Points.{same_self}
-use Rattle.guarded_meaning.specs.Segments.{Segment, segment, is_end, touches, meets_badly}
+use Rattle.guarded_meaning.specs.Segments.{segment, is_end, touches, meets_badly}
 use Rattle.guarded_meaning.proofs.Crosses.{cross_is}
-use Rattle.guarded_meaning.proofs.Step.{Parted, bad_back, touches_says}
+use Rattle.guarded_meaning.proofs.Step.{Parted, touches_says}
 use Rattle.segment_crossings.specs.declared.line.Line.{Line}
 use Rattle.segment_crossings.specs.Levels.{NoneBadWithin}
-use Rattle.segment_crossings.specs.Lines.{as_segment, bad_inside, line_at}
+use Rattle.segment_crossings.specs.Lines.{as_segment, bad_inside, line_at, no_point}
 use Rattle.segment_crossings.specs.Ways.{GoOn, along}
-use Rattle.segment_crossings.proofs.Apart.{below_never, in_box, left_never, never}
+use Rattle.segment_crossings.proofs.Apart.{never}
+use Rattle.segment_crossings.proofs.Beside.{far, high, line_of, low, seen, way_never}
 use Rattle.segment_crossings.proofs.Lines.{skipped}
-
--- ---- a way, along which what lies on a segment is between its ends, and segments of which one is beyond the other don't meet badly
-
-record Way (far : Point → ℤ) : Type 0 where
-  low : (a b q : Point) → touches a b q ≡ true → (k : ℤ) → (k ≤ℤ far a) → (k ≤ℤ far b) → (k ≤ℤ far q)
-  high : (a b q : Point) → touches a b q ≡ true → (k : ℤ) → (far a ≤ℤ k) → (far b ≤ℤ k) → (far q ≤ℤ k)
-  apart : (s t : Segment) → (far s.from <ℤ far t.from) × (far s.from <ℤ far t.to) × (far s.to <ℤ far t.from) × (far s.to <ℤ far t.to) → meets_badly s t ≡ true → ⊥
-
-right : Way (λ p. p.x)
-right = record { low = λ a b q h k m n. (in_box a b q h).left k m m n; high = λ a b q h k m n. (in_box a b q h).right k m m n; apart = left_never }
-
-up : Way (λ p. p.y)
-up = record { low = λ a b q h k m n. (in_box a b q h).below k m m n; high = λ a b q h k m n. (in_box a b q h).above k m m n; apart = below_never }
-
-back : (far : Point → ℤ) → Way far → Way (λ p. pos 0 -ℤ far p)
-back far w = record {
-  low = λ a b q h k m n. (let o = w.high a b q h (pos 0 -ℤ k) (omega (arith, ints, m)) (omega (arith, ints, n)) in omega (arith, ints, o));
-  high = λ a b q h k m n. (let o = w.low a b q h (pos 0 -ℤ k) (omega (arith, ints, m)) (omega (arith, ints, n)) in omega (arith, ints, o));
-  apart = λ s t h e. w.apart t s (omega (arith, ints, h.0), omega (arith, ints, h.2), omega (arith, ints, h.1), omega (arith, ints, h.3)) (bad_back t s e);
-}
-
-way : (is_across is_back : Bool) → Way (along is_across is_back)
-unfolding along
-way true false = right
-way true true = back (λ p. p.x) right
-way false false = up
-way false true = back (λ p. p.y) up
 
 -- ---- two segments, of which one begins where the other ends, and goes on
 
-module _ (far : Point → ℤ) (w : Way far) (a p d : Point) (first : far a <ℤ far p) (second : far p <ℤ far d) where
+module _ (e f : Point) (a p d : Point) (first : far e f a <ℤ far e f p) (second : far e f p <ℤ far e f d) where
   no_same : ((a ≡ p) × (p ≡ d)) ⊎ ((a ≡ d) × (p ≡ p)) → ⊥
-  no_same (inl e) = let f = ap far e.0 in omega (arith, ints, f, first)
-  no_same (inr e) = let f = ap far e.0 in omega (arith, ints, f, first, second)
+  no_same (inl i) = let j = ap (far e f) i.0 in omega (arith, ints, j, first)
+  no_same (inr i) = let j = ap (far e f) i.0 in omega (arith, ints, j, first, second)
 
   no_cross : Parted a p p d → Parted p d a p → ⊥
   no_cross (inl h) q = omega (arith, ints, h.0, cross_is a p p)
@@ -55,10 +29,10 @@ module _ (far : Point → ℤ) (w : Way far) (a p d : Point) (first : far a <ℤ
 
   no_touch : (touches a p p ≡ true) ⊎ (touches a p d ≡ true) → ⊥
   no_touch (inl k) = both_ways (is_end a p p) (touches_says a p p k).1 (or_right (same a p) (same p p) (same_self p))
-  no_touch (inr k) = let m = w.high a p d k (far p) (omega (arith, ints, first)) (omega (arith, ints)) in omega (arith, ints, m, second)
+  no_touch (inr k) = omega (arith, ints, high e f a p d k (far e f d) (omega (arith, ints, first, second)) second)
 
   no_touch_by : (touches p d a ≡ true) ⊎ (touches p d p ≡ true) → ⊥
-  no_touch_by (inl k) = let m = w.low p d a k (far p) (omega (arith, ints)) (omega (arith, ints, second)) in omega (arith, ints, m, first)
+  no_touch_by (inl k) = omega (arith, ints, first, low e f p d a k (far e f p) (omega (arith, ints)) (omega (arith, ints, second)))
   no_touch_by (inr k) = both_ways (is_end p d p) (touches_says p d p k).1 (or_left (same p p) (same d p) (same_self p))
 
   next_never : meets_badly (segment a p) (segment p d) ≡ true → ⊥
@@ -98,7 +72,8 @@ module _ (x b : Bool) (ls : List Line) (first end : ℕ) (g : GoOn x b ls first 
       on (inl e) =
           let same : (line_at ls j).from ≡ (line_at ls i).to = ap (λ n. (line_at ls n).from) e ∙ g.chained i h (omega (arith, e, w)) in
           let f = ap (along x b) same in
-          next_never (along x b) (way x b) (line_at ls i).from (line_at ls i).to (line_at ls j).to own (omega (arith, ints, other, f))
+          next_never no_point (line_of x b) (line_at ls i).from (line_at ls i).to (line_at ls j).to
+          (omega (arith, ints, own, seen x b (line_at ls i).from, seen x b (line_at ls i).to)) (omega (arith, ints, other, f, seen x b (line_at ls i).to, seen x b (line_at ls j).to))
           (subst (λ p. meets_badly (as_segment (line_at ls i)) (segment p (line_at ls j).to) ≡ true) same bad)
       on (inr m) =
           let n : i + 1 + (j - 1 - (i + 1)) ≡ j - 1 = omega (arith, l, m) in
@@ -108,8 +83,8 @@ module _ (x b : Bool) (ls : List Line) (first end : ℕ) (g : GoOn x b ls first 
           let e = ap (along x b) (g.chained (j - 1) (omega (arith, h, l)) (omega (arith, w, s))) in
           let k = ap from_at n in
           let q = ap from_at s in
-          (way x b).apart (as_segment (line_at ls i)) (as_segment (line_at ls j))
-          (omega (arith, ints, f, o, e, k, q, own, other), omega (arith, ints, f, o, e, k, q, own, other), omega (arith, ints, f, o, e, k, q, own, other), omega (arith, ints, f, o, e, k, q, own, other)) bad
+          way_never x b (from_at j) (as_segment (line_at ls i)) (as_segment (line_at ls j))
+          (omega (arith, ints, f, o, e, k, q, own)) (omega (arith, ints, f, o, e, k, q)) (omega (arith, ints)) (omega (arith, ints, other)) bad
 
 -- ---- none of them meet badly
 

@@ -214,7 +214,7 @@ fn meet_many(lines: &[Line], starts: &[usize], levels: &[Level], units: Run) -> 
     met == MOST_UNITS
 }
 
-/// Segments are crowded: of some units that are looked at, a quarter or more meet many others.
+/// Segments are crowded: of some units that are looked at, a quarter or more meet many others. Either answer is right, and is for speed alone.
 pub fn are_crowded(lines: &[Line], starts: &[usize], levels: &[Level]) -> bool
     requires starts { AreStarts (length lines.now) starts.now }
     requires levels { All (IsOver lines.now starts.now) levels.now }

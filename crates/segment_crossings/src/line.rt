@@ -2,6 +2,7 @@
 ghost use Rattle.std.specs.Prelude.{◌≡◌, ◌<◌, true, false, length};
 ghost use Rattle.geometry.specs.Points.{IsPosition};
 ghost use Rattle.planar_predicates.specs.Extents.{HoldsPoint};
+ghost use Rattle.segment_crossings.specs.Blocks.{Off};
 ghost use Rattle.segment_crossings.specs.Lines.{as_segment, line_at};
 ghost use Rattle.guarded_meaning.specs.Segments as spec;
 
@@ -41,27 +42,32 @@ pub fn extent_of(line: &Line) -> Extent
     joined(around(line.from), around(line.to))
 }
 
-/// The second segment ends to the left of the first one's line, and begins there, too, or where the first one ends: then they don't meet badly.
-fn lies_left(line: &Line, other: &Line) -> bool
-    ensures { result ≡ true → spec.meets_badly (as_segment line.now) (as_segment other.now) ≡ false }
+/// The position is to the left of the segment's line, or to the right.
+#[inline(always)]
+fn is_to_side(is_left_side: bool, line: &Line, p: Position) -> bool
+    ensures { result ≡ true → Off is_left_side line.now.from line.now.to p }
 {
-    is_left(line.from, line.to, other.to)
-        && (is_same(other.from, line.to) || is_left(line.from, line.to, other.from))
+    if is_left_side {
+        is_left(line.from, line.to, p)
+    } else {
+        is_right(line.from, line.to, p)
+    }
 }
 
-/// The same to the right.
-fn lies_right(line: &Line, other: &Line) -> bool
+/// The second segment ends on this side of the first one's line, and begins there, too, or where the first one ends: then they don't meet badly.
+#[inline(always)]
+fn lies_to_side(is_left_side: bool, line: &Line, other: &Line) -> bool
     ensures { result ≡ true → spec.meets_badly (as_segment line.now) (as_segment other.now) ≡ false }
 {
-    is_right(line.from, line.to, other.to)
-        && (is_same(other.from, line.to) || is_right(line.from, line.to, other.from))
+    is_to_side(is_left_side, line, other.to)
+        && (is_same(other.from, line.to) || is_to_side(is_left_side, line, other.from))
 }
 
 /// The same on one of the two sides.
 fn lies_aside(line: &Line, other: &Line) -> bool
     ensures { result ≡ true → spec.meets_badly (as_segment line.now) (as_segment other.now) ≡ false }
 {
-    lies_left(line, other) || lies_right(line, other)
+    lies_to_side(true, line, other) || lies_to_side(false, line, other)
 }
 
 /// Two segments meet badly. Most pairs that are asked of have boxes that lie apart, and most of the others follow one another.

@@ -20,6 +20,7 @@ fn begins_block(bits: u32, unit: usize) -> bool
 }
 
 /// The segments from one unit on, before another, lie in a strip, and so none meets a probe's badly, if the answer is yes.
+#[inline(never)]
 fn are_beside<P: Probe>(
     lines: &[Line],
     starts: &[usize],
@@ -33,36 +34,8 @@ fn are_beside<P: Probe>(
     requires next { next < length starts.now }
     ensures { result ≡ true → (l : Line) → P.among probe.now (as_segment l) → NoneBadWithin lines.now l (start_at starts.now unit) (start_at starts.now next) }
 {
-    if strip.run.first > read_start(starts, unit) || read_start(starts, next) > strip.run.end {
-        return false;
-    }
-    probe.is_beside_all(strip)
-}
-
-/// The unit after the block of a level that this one begins, if no segment of it meets a probe's badly, as far as its strip shows; else this unit.
-#[inline(never)]
-fn skip_strip<P: Probe>(
-    lines: &[Line],
-    starts: &[usize],
-    level: &Level,
-    probe: &P,
-    unit: usize,
-) -> usize
-    requires level { IsOver lines.now starts.now level.now }
-    requires unit { unit + 1 < length starts.now }
-    ensures from { unit ≤ result }
-    ensures within { result + 1 ≤ length starts.now }
-    ensures none { (l : Line) → P.among probe.now (as_segment l) → NoneBadWithin lines.now l (start_at starts.now unit) (start_at starts.now result) }
-{
-    let number = unit >> level.bits;
-    if number >= level.strips.len() {
-        return unit;
-    }
-    let next = after_block(level.bits, unit).min(starts.len() - 1);
-    if are_beside(lines, starts, &level.strips[number], probe, unit, next) {
-        return next;
-    }
-    unit
+    strip.run.first <= read_start(starts, unit)
+        && (read_start(starts, next) <= strip.run.end && probe.is_beside_all(strip))
 }
 
 /// The unit after the block of a level that begins with this one, if no segment of it meets a probe's badly, as far as it shows; else this unit.
@@ -83,13 +56,17 @@ fn skip_block<P: Probe>(
     if !begins_block(level.bits, unit) {
         return unit;
     }
-    if !probe.is_clear_of(read_block(&level.blocks, unit >> level.bits)) {
-        if level.strips.is_empty() {
-            return unit;
-        }
-        return skip_strip(lines, starts, level, probe, unit);
+    let number = unit >> level.bits;
+    if probe.is_clear_of(read_block(&level.blocks, number)) {
+        return after_block(level.bits, unit).min(starts.len() - 1);
     }
-    after_block(level.bits, unit).min(starts.len() - 1)
+    if number < level.strips.len() {
+        let next = after_block(level.bits, unit).min(starts.len() - 1);
+        if are_beside(lines, starts, &level.strips[number], probe, unit, next) {
+            return next;
+        }
+    }
+    unit
 }
 
 /// The next unit, if no segment of this one meets a probe's badly, as far as its own block shows; else this unit.

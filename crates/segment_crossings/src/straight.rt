@@ -1,6 +1,6 @@
 // Segments that go on one way.
 ghost use Rattle.std.specs.Prelude.{◌≡◌, ◌-◌, ◌<◌, ◌≤◌, true, length};
-ghost use Rattle.segment_crossings.specs.Lines.{bad_inside, line_at};
+ghost use Rattle.segment_crossings.specs.Lines.{bad_inside};
 ghost use Rattle.segment_crossings.specs.Ways.{GoOn, along};
 
 use crate::line::{Line, read_line};

@@ -1,5 +1,5 @@
 // Strips along segments.
-ghost use Rattle.std.specs.Prelude.{◌≡◌, ◌<◌, ◌≤◌, ◌≤ℤ◌, true, false, length};
+ghost use Rattle.std.specs.Prelude.{◌≡◌, ◌<◌, ◌≤◌, true, false, length};
 ghost use Rattle.guarded_meaning.specs.Segments.{Segment, meets_badly};
 ghost use Rattle.segment_crossings.specs.Lines.{as_segment};
 ghost use Rattle.segment_crossings.specs.Strips.{HoldsRun, IsBetween};
@@ -20,22 +20,6 @@ pub struct Strip {
     pub high: i128,
 }
 
-/// The lesser of two numbers.
-fn lesser(x: i128, y: i128) -> i128
-    ensures first { result ≤ℤ x }
-    ensures second { result ≤ℤ y }
-{
-    if x <= y { x } else { y }
-}
-
-/// The greater of two numbers.
-fn greater(x: i128, y: i128) -> i128
-    ensures first { x ≤ℤ result }
-    ensures second { y ≤ℤ result }
-{
-    if x <= y { y } else { x }
-}
-
 /// The strip made so wide that it holds one more segment.
 fn widened(strip: &Strip, line: &Line) -> Strip
     ensures run { result.run ≡ strip.now.run }
@@ -44,18 +28,16 @@ fn widened(strip: &Strip, line: &Line) -> Strip
 {
     let from = cross(strip.from, strip.to, line.from);
     let to = cross(strip.from, strip.to, line.to);
-    let low = lesser(from, to);
-    let high = greater(from, to);
     Strip {
         run: strip.run,
         from: strip.from,
         to: strip.to,
-        low: lesser(strip.low, low),
-        high: greater(strip.high, high),
+        low: strip.low.min(from.min(to)),
+        high: strip.high.max(from.max(to)),
     }
 }
 
-/// The strip along the segment in the middle of a run that holds them all.
+/// The strip along the segment in the middle of a run that holds them all. Any strip that does would be right: how narrow it is matters for speed alone.
 pub fn strip_round(lines: &[Line], run: Run) -> Strip
     requires some { run.first < run.end }
     requires within { run.end ≤ length lines.now }
@@ -76,12 +58,11 @@ pub fn strip_round(lines: &[Line], run: Run) -> Strip
 }
 
 /// Both ends of a segment lie beyond a strip, on the same side, if the answer is yes: then it meets none badly that is in it.
+/// A no is never wrong, and costs time alone.
 pub fn is_beside(strip: &Strip, line: &Line) -> bool
     ensures { result ≡ true → (t : Segment) → IsBetween strip.now t → meets_badly (as_segment line.now) t ≡ false }
 {
     let from = cross(strip.from, strip.to, line.from);
     let to = cross(strip.from, strip.to, line.to);
-    let low = lesser(from, to);
-    let high = greater(from, to);
-    high < strip.low || strip.high < low
+    from.max(to) < strip.low || strip.high < from.min(to)
 }

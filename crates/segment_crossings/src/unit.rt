@@ -60,10 +60,7 @@ pub fn run_of(lines: &[Line], starts: &[usize], unit: usize) -> Run
     ensures some { result.first < result.end }
     ensures within { result.end ≤ length lines.now }
 {
-    Run {
-        first: read_start(starts, unit),
-        end: read_start(starts, unit + 1),
-    }
+    run_between(lines, starts, unit, unit + 1)
 }
 
 /// The segments from one unit on, before another.

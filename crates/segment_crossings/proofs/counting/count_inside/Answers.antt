@@ -1,4 +1,4 @@
-use Rattle.std.proofs.Common.{◌≡◌, ◌+◌, ◌-◌, ◌/◌, ◌<◌, arith}
+use Rattle.std.proofs.Common.{◌+◌, ◌-◌, ◌/◌, ◌<◌, arith}
 use Rattle.segment_crossings.proofs.Across.{across_fewer, inside_cut}
 use Rattle.segment_crossings.proofs.counting.count_inside.Goals as goal
 

@@ -3,13 +3,13 @@ use Rattle.std.proofs.lemmas.Bool.{false_from_ne_true}
 use Rattle.std.proofs.lemmas.Int.{ints}
 use Rattle.guarded_meaning.proofs.Step.{bad_back}
 use Rattle.segment_crossings.specs.Lines.{as_segment}
-use Rattle.segment_crossings.proofs.Beside.{left_never, right_never}
+use Rattle.segment_crossings.proofs.Beside.{beside_never}
 use Rattle.segment_crossings.proofs.strip.is_beside.Goals as goal
 
-pub returns-then-high-strip : goal.returns-then-high-strip
-returns-then-high-strip c = λ e t b. false_from_ne_true _ (right_never c.args.strip.now (as_segment c.args.line.now) t
-    (omega (arith, ints, c.if-high-strip.true, c.greater-high.ensures.first, c.cross-from.ensures.value)) (omega (arith, ints, c.if-high-strip.true, c.greater-high.ensures.second, c.cross-to.ensures.value)) b)
+pub returns-then-max-strip : goal.returns-then-max-strip
+returns-then-max-strip c = λ e t b. false_from_ne_true _ (beside_never c.args.strip.now.from c.args.strip.now.to c.args.strip.now.low (as_segment c.args.line.now) t
+    (omega (arith, ints, c.if-max-strip.true, c.max.ensures.self_bound, c.cross-from.ensures.value)) (omega (arith, ints, c.if-max-strip.true, c.max.ensures.other_bound, c.cross-to.ensures.value)) b.from_low b.to_low)
 
-pub returns-else-high-strip : goal.returns-else-high-strip
-returns-else-high-strip c = λ e t b. false_from_ne_true _ (λ bad. left_never c.args.strip.now (as_segment c.args.line.now) t
-    (omega (arith, ints, e, c.lesser-low.ensures.first, c.cross-from.ensures.value)) (omega (arith, ints, e, c.lesser-low.ensures.second, c.cross-to.ensures.value)) b (bad_back _ _ bad))
+pub returns-else-max-strip : goal.returns-else-max-strip
+returns-else-max-strip c = λ e t b. false_from_ne_true _ (λ bad. beside_never c.args.strip.now.from c.args.strip.now.to c.min.result t (as_segment c.args.line.now)
+    (omega (arith, ints, e, b.from_high)) (omega (arith, ints, e, b.to_high)) (omega (arith, ints, c.min.ensures.self_bound, c.cross-from.ensures.value)) (omega (arith, ints, c.min.ensures.other_bound, c.cross-to.ensures.value)) (bad_back _ _ bad))

@@ -1,6 +1,8 @@
 -- How counts rise, one call after another.
-use Rattle.std.proofs.Common.{ℕ, zero, suc, ◌+◌, ◌-◌, ◌*◌, ◌<◌, ◌≤◌, min, arith}
-use Rattle.effective_area.specs.Counts.{AreasRose, RoseAtMost, RoseBy, rescanned_areas}
+use Rattle.std.proofs.Common.{◌≡◌, ℕ, ◌+◌, ◌-◌, ◌*◌, ◌/◌, ◌<◌, ◌≤◌, ◌⊎◌, inl, inr, ap, min, arith}
+use Rattle.std.proofs.Math.Nat.{mul-add, mul_comm, mul-le-mul, mul-le-mul_left}
+use Rattle.std.proofs.lemmas.Bool.{cases_lt}
+use Rattle.effective_area.specs.Counts.{AreasRose, RoseAtMost, RoseBy}
 use Rattle.effective_area.specs.declared.steps.Steps.{Steps}
 
 -- how counts of areas and of pushes rise, each by its own bound
@@ -20,42 +22,25 @@ by_most m n k r s h a b = grind arith
 pub turn_counted : (left : ℕ) (a b c d e : Steps) → RoseBy 1 0 a b → RoseBy 1 0 b c → RoseBy 0 1 c d → RoseBy 0 1 d e → 0 < left → RoseAtMost (2 * min left 1) a e
 turn_counted left a b c d e h j k l p = grind (arith, by_most, by_then)
 
--- a look with so many corners, and all later ones with fewer
-fewer_areas : (m n : ℕ) → m ≤ n - 1 → n + rescanned_areas m ≤ rescanned_areas n
-fewer_areas zero zero h = omega arith
-fewer_areas (suc m) zero h = absurd (omega (arith, h))
-fewer_areas zero (suc n) h = omega arith
-fewer_areas (suc m) (suc n) h = let k = fewer_areas m n (omega (arith, h)) in omega (arith, h, k)
+-- a look at a line of which m positions are left, and all later ones where fewer are
+fewer_areas : (m l : ℕ) → l ≤ m - 1 → m - 2 + (l - 2) * (l - 1) / 2 ≤ (m - 2) * (m - 1) / 2
+fewer_areas m l h = on (cases_lt 2 m)
+  where
+    later : (l - 2) * (l - 1) ≤ (m - 3) * (m - 2)
+    later = mul-le-mul (omega (arith, h)) (omega (arith, h))
 
-areas_grow : (m n : ℕ) → m ≤ n → rescanned_areas m ≤ rescanned_areas n
-areas_grow zero n h = omega arith
-areas_grow (suc m) zero h = absurd (omega (arith, h))
-areas_grow (suc m) (suc n) h = let k = areas_grow m n (omega (arith, h)) in omega (arith, h, k)
+    on : (2 < m) ⊎ (m ≤ 2) → m - 2 + (l - 2) * (l - 1) / 2 ≤ (m - 2) * (m - 1) / 2
+    on (inl k) =
+        let e : (m - 2) * (m - 1) ≡ (m - 2) * (m - 3 + 2) = ap (λ n. (m - 2) * n) (omega (arith, k)) in
+        omega (arith, later, e, mul-add (m - 2) (m - 3) 2, mul_comm (m - 2) (m - 3))
+    on (inr k) = let none : (m - 3) * (m - 2) ≤ 0 = mul-le-mul {n₂ = 0} {m₂ = 0} (omega (arith, k)) (omega (arith, k)) in omega (arith, later, none, k)
+
+pub look_counted : (m l : ℕ) (r s t : Steps) → RoseBy (m - 2) 0 r s → RoseBy ((l - 2) * (l - 1) / 2) 0 s t → l ≤ m - 1 → RoseBy ((m - 2) * (m - 1) / 2) 0 r t
+look_counted m l r s t h j k = by_then (m - 2) 0 ((l - 2) * (l - 1) / 2) 0 _ 0 r s t h j (fewer_areas m l k) (omega arith)
 
 -- up to five corners
-pub few_areas : (n : ℕ) → n ≤ 5 → rescanned_areas n ≤ 3 * n
-few_areas zero h = omega arith
-few_areas (suc zero) h = omega arith
-few_areas (suc (suc zero)) h = omega arith
-few_areas (suc (suc (suc zero))) h = omega arith
-few_areas (suc (suc (suc (suc zero)))) h = omega arith
-few_areas (suc (suc (suc (suc (suc zero))))) h = omega arith
-few_areas (suc (suc (suc (suc (suc (suc n)))))) h = absurd (omega (arith, h))
-
--- a look at a line of n positions of which m are present: where fewer are left, and where it was the last
-pub look_counted : (n m l : ℕ) (r s t : Steps) → RoseBy (rescanned_areas (n - 2) - rescanned_areas (m - 2)) 0 r s → RoseBy (m - 2) 0 s t → l < m → m ≤ n →
-    RoseBy (rescanned_areas (n - 2) - rescanned_areas (l - 2)) 0 r t
-look_counted n m l r s t h j k a =
-    let x = fewer_areas (l - 2) (m - 2) (omega (arith, k)) in
-    let y = areas_grow (m - 2) (n - 2) (omega (arith, a)) in
-    by_then (rescanned_areas (n - 2) - rescanned_areas (m - 2)) 0 (m - 2) 0 _ 0 r s t h j (omega (arith, x, y)) (omega arith)
-
-pub last_counted : (n m : ℕ) (r s t : Steps) → RoseBy (rescanned_areas (n - 2) - rescanned_areas (m - 2)) 0 r s → RoseBy (m - 2) 0 s t → m ≤ n →
-    RoseBy (rescanned_areas (n - 2)) 0 r t
-last_counted n m r s t h j a =
-    let x = fewer_areas 0 (m - 2) (omega arith) in
-    let y = areas_grow (m - 2) (n - 2) (omega (arith, a)) in
-    by_then (rescanned_areas (n - 2) - rescanned_areas (m - 2)) 0 (m - 2) 0 _ 0 r s t h j (omega (arith, x, y)) (omega arith)
+pub few_areas : (n : ℕ) → n ≤ 7 → (n - 2) * (n - 1) / 2 ≤ 3 * (n - 2)
+few_areas n h = let e : (n - 2) * (n - 1) ≤ (n - 2) * 6 = mul-le-mul_left (n - 2) (omega (arith, h)) in omega (arith, e)
 
 -- the first look computes all areas
 pub look_computed : (n m : ℕ) (r s t : Steps) → AreasRose (min (n - m) (n - 2)) r s → AreasRose (m - 2) s t → m ≤ n → AreasRose (n - 2) r t

@@ -1,5 +1,5 @@
 -- Steps of a reducer, and how they are counted.
-use Rattle.std.specs.Prelude.{ℕ, zero, suc, ◌+◌, ◌-◌, ◌^◌, ◌≤◌, List, [], min}
+use Rattle.std.specs.Prelude.{ℕ, ◌+◌, ◌-◌, ◌^◌, ◌≤◌, List, [], min}
 use Rattle.effective_area.specs.Calls.{Call}
 use Rattle.effective_area.specs.declared.steps.Steps.{Steps}
 
@@ -29,11 +29,6 @@ pub record RoseBy (m n : ℕ) (old new : Steps) : Type 0 where
   pub areas_most : new.areas ≤ old.areas + m
   pub pushes_stay : old.pushes ≤ new.pushes
   pub pushes_most : new.pushes ≤ old.pushes + n
-
--- the areas of a line with so many corners where all are looked through for each that goes: n, n - 1 and so on
-abbrev pub rescanned_areas : ℕ → ℕ
-rescanned_areas zero = zero
-rescanned_areas (suc n) = suc n + rescanned_areas n
 
 -- the areas rose by this at least, unless they reached the largest `u64`
 abbrev pub AreasRose : ℕ → Steps → Steps → Type 0

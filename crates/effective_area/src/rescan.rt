@@ -1,7 +1,7 @@
-ghost use Rattle.std.specs.Prelude.{◌≡◌, ℕ, ◌-◌, ◌<◌, ◌≤◌, [], All, IfOk, length, not, ◌==◌, Some};
+ghost use Rattle.std.specs.Prelude.{◌≡◌, ℕ, ◌-◌, ◌*◌, ◌/◌, ◌<◌, ◌≤◌, [], All, IfOk, length, not, ◌==◌, Some};
 ghost use Rattle.std.specs.List.{filter};
 ghost use Rattle.elimination_meaning.specs.Elimination.{corners, least, lesser, reduce};
-ghost use Rattle.effective_area.specs.Counts.{AreasRose, RoseBy, rescanned_areas};
+ghost use Rattle.effective_area.specs.Counts.{AreasRose, RoseBy};
 ghost use Rattle.effective_area.specs.Vertices.{candidate_corner, vertices};
 ghost use Rattle.geometry.specs.Lists.{map_some};
 
@@ -62,7 +62,8 @@ pub fn rescanned(
 ) -> Result<Vec<usize>, Memory>
     requires { 2 ≤ length arc.now }
     ensures kept { IfOk result (λ kept. kept.items ≡ reduce t arc.now) }
-    ensures counted { RoseBy (rescanned_areas (length arc.now - 2)) 0 steps.old steps.new }
+    // A look computes an area at each position between the ends that is left: n, n - 1 and so on.
+    ensures counted { RoseBy ((length arc.now - 2) * (length arc.now - 1) / 2) 0 steps.old steps.new }
     // The first look computes the area at each position between the ends.
     ensures computed { IfOk result (λ _. AreasRose (length arc.now - 2) steps.old steps.new) }
 {

@@ -55,32 +55,16 @@ pub fn is_point(e: &Extent, p: Position) -> bool
     e.low_x == p.x() && (e.high_x == p.x() && (e.low_y == p.y() && e.high_y == p.y()))
 }
 
-/// The lesser of two numbers.
-fn lesser(x: i64, y: i64) -> i64
-    ensures first { result ≤ℤ x }
-    ensures second { result ≤ℤ y }
-{
-    if x <= y { x } else { y }
-}
-
-/// The greater of two numbers.
-fn greater(x: i64, y: i64) -> i64
-    ensures first { x ≤ℤ result }
-    ensures second { y ≤ℤ result }
-{
-    if x <= y { y } else { x }
-}
-
 /// The box round both.
 pub fn joined(e: Extent, f: Extent) -> Extent
     ensures first { LiesIn e result }
     ensures second { LiesIn f result }
 {
     Extent {
-        low_x: lesser(e.low_x, f.low_x),
-        low_y: lesser(e.low_y, f.low_y),
-        high_x: greater(e.high_x, f.high_x),
-        high_y: greater(e.high_y, f.high_y),
+        low_x: e.low_x.min(f.low_x),
+        low_y: e.low_y.min(f.low_y),
+        high_x: e.high_x.max(f.high_x),
+        high_y: e.high_y.max(f.high_y),
     }
 }
 

@@ -1,4 +1,4 @@
-use Rattle.std.proofs.Common.{◌-◌, arith}
+use Rattle.std.proofs.Common.{arith}
 use Rattle.std.proofs.lemmas.Bool.{both_ways, false_from_ne_true}
 use Rattle.segment_crossings.specs.Levels.{NoneBadWithin}
 use Rattle.segment_crossings.specs.Lines.{as_segment, line_at}

@@ -1,17 +1,9 @@
 -- Lines with the same outlines have the same junctions, cut positions and pieces.
 use Rattle.std.proofs.Common.{◌≡◌, Bool, ◌&&◌, ◌||◌, not, ◌==◌, if◌then◌else◌, List, [], ◌∷◌, ◌++◌, map, length, take, drop, filter, refl, sym, ap, ◌∙◌}
+use Rattle.build_meaning.proofs.Names.{flat_map, list_any, list_all, ArcsAndIndexes, arcs_of, index_in, split_of, all_pieces, piece_lists, Point, same, is_cut, Stroke, Outline, outline, AddressesDoNotMatter}
 use Rattle.std.proofs.Math.Path.{fun_ext}
-use Rattle.std.specs.List.{flat_map, list_any, list_all}
-use Rattle.arc_table.specs.Arcs.{ArcsAndIndexes, arcs_of, index_in}
-use Rattle.cutter.specs.Slices.{split_of, all_pieces, piece_lists}
 use Rattle.geometry.specs.Order.{is_least}
-use Rattle.geometry.specs.Points.{Point}
-use Rattle.geometry.specs.Rings.{same}
-use Rattle.junctions.specs.Cuts.{is_cut}
 use Rattle.junctions.specs.Visits.{Visit, inner_visits, all_visits, ends_open, is_end, is_junction, distinct}
-use Rattle.junctions.specs.declared.stroke.Stroke.{Stroke}
-use Rattle.linework.specs.Outlines.{Outline, outline}
-use Rattle.build_meaning.specs.BuiltLaws.{AddressesDoNotMatter}
 use Rattle.build_meaning.proofs.Linework.{each_plain, each_split, pieces_by}
 use Rattle.build_meaning.proofs.Once.{same_pieces}
 

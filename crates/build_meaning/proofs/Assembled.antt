@@ -1,14 +1,20 @@
 -- What is assembled of layers, in the words of their lines; and with each arc reduced at a threshold it is what is built of them.
-use Rattle.std.proofs.Common.{rules, arith, ◌≡◌, ℕ, Bool, List, [], ◌∷◌, map, Option, None, refl, ap, ◌∙◌}
-use Rattle.build_meaning.proofs.SimplifiedNames.{AllByRecursion, all_weaker, all_left, all_right, all_parts, all_map, all_of_map, all_two, map_agree, dropped_of_layers, then_some, Point, option_lines_and_rings, Cause, Shape, Featured, Stroke, linework, Contents, TopoObject, reduce, reduced, DirectionLaw, ZeroLaw, EndsStay, NoneIsNew, Line, StandsIn, all_clean, each_stands, own_apart, kept_of_map, arcs_long, untrimmed_is_valid, each_stays, loses_nothing}
-use Rattle.build_meaning.proofs.SimplifiedNames.{all_arcs, kept_refs, untrimmed, built, removed_count, own_cause, unless, kept_line, option_drop_causes, expected_dropped, AreSound, whole_line, Kept, objects_by, trimmed, arcs_of_layers, arc_indexes, own_refs, assembled_cause, option_caused, layers_caused, assembled, assembled_dropped, assembled_removed_count, AssemblesToBuilt, AssemblingDropsExpected, AssemblingRemoves, ArcIndexesReach, AssembledIsValid, large_refs, retained_arcs, retained_whole, objects_pruned, simplified_by, removed_count_by}
+use Rattle.std.proofs.Common.{rules, arith, ◌≡◌, ℕ, Bool, List, [], map, Option, None, ap, ◌∙◌, false, subst}
+use Rattle.build_meaning.proofs.Names.{AllByRecursion, all_weaker, dropped_of_layers, then_some, Point, option_lines_and_rings, Cause, Shape, Featured, Stroke, linework, Contents, TopoObject, reduce, reduced, DirectionLaw, ZeroLaw, EndsStay, NoneIsNew, all_arcs, kept_refs, untrimmed, built, removed_count, own_cause, unless, kept_line, expected_dropped, AreSound, whole_line, Kept, objects_by, trimmed, arcs_of_layers, arc_indexes, own_refs, assembled_cause, option_caused, layers_caused, assembled, assembled_dropped, assembled_removed_count, AssemblesToBuilt, AssemblingDropsExpected, AssemblingRemoves, ArcIndexesReach, AssembledIsValid, large_refs, retained_arcs, retained_whole, objects_pruned, simplified_by, removed_count_by, Named, layers_of, named_lines_and_rings, ArcsRise, EachFromFirstToLast, UnguardedIndexLaw, guarded_by, reduce_arcs}
 use Rattle.geometry.proofs.Omitted.{drop_causes_agree}
-use Rattle.build_meaning.specs.Layers.{Named, layers_of, features_lines_and_rings, named_lines_and_rings}
-use Rattle.build_meaning.proofs.Simplified.{IsWholeAtZero, no_small, cause_same, objects_again}
+use Rattle.geojson_types.specs.declared.layer.Layer.{Layer}
+use Rattle.build_meaning.proofs.Reshaped.{alike}
+use Rattle.build_meaning.proofs.Linework.{Line, StandsIn, all_clean, each_stands, own_apart}
 use Rattle.build_meaning.proofs.Made.{objects_made}
-use Rattle.build_meaning.proofs.Retained.{retained_each, each_reduced}
-use Rattle.build_meaning.proofs.Reaching.{each_through}
+use Rattle.build_meaning.proofs.Guarded.{each_through}
+use Rattle.build_meaning.proofs.ValidRetained.{retained_each, each_reduced}
+use Rattle.build_meaning.proofs.Simplified.{IsWholeAtZero, no_small, cause_same, objects_again}
+use Rattle.build_meaning.proofs.Trimmed.{kept_of_map}
+use Rattle.build_meaning.proofs.ValidIndexes.{arcs_long}
 use Rattle.build_meaning.proofs.ValidSimplified.{simplified_is_valid}
+use Rattle.build_meaning.proofs.ValidUntrimmed.{untrimmed_is_valid}
+use Rattle.build_meaning.proofs.Whole.{each_stays, loses_nothing}
+use Rattle.build_meaning.specs.Layers.{features_lines_and_rings}
 
 -- ---- in the words of the layers' lines
 
@@ -56,30 +62,13 @@ module _ (one two : Bool → List Point → Option Cause) where
   abbrev pub Alike : Bool × List Point → Type 0
   Alike b = one b.0 b.1 ≡ two b.0 b.1
 
-  features_alike : (fs : List Featured) → AllByRecursion Alike (features_lines_and_rings fs) → map (λ f. option_caused one f.shape) fs ≡ map (λ f. option_caused two f.shape) fs
-  features_alike [] h = refl
-  features_alike (f ∷ fs) h = grind (
-    arith,
-    drop_causes_agree,
-    all_left,
-    all_right,
-    features_alike fs (all_right Alike
-        (option_lines_and_rings f.shape) (features_lines_and_rings fs) h),
-  )
+  shape_alike : (s : Option Shape) → AllByRecursion Alike (option_lines_and_rings s) → option_caused one s ≡ option_caused two s
+  shape_alike s h = grind (arith, drop_causes_agree)
 
   pub layers_alike : (ls : Named) → AllByRecursion Alike (named_lines_and_rings ls) → map (λ l. map (λ f. option_caused one f.shape) l.1.features) ls ≡ map (λ l. map (λ f. option_caused two f.shape) l.1.features) ls
-  layers_alike [] h = refl
-  layers_alike (l ∷ ls) h = grind (arith, features_alike, all_left, all_right, layers_alike ls (all_right Alike (features_lines_and_rings l.1.features) (named_lines_and_rings ls) h))
-
-module _ (lines : List Stroke) (t limit : ℕ) where
-  option_reported : (s : Option Shape) → option_caused (own_cause lines t limit) s ≡ option_drop_causes lines t limit s
-  option_reported s = grind arith
-
-  features_reported : (fs : List Featured) → map (λ f. option_caused (own_cause lines t limit) f.shape) fs ≡ map (λ f. option_drop_causes lines t limit f.shape) fs
-  features_reported fs = search (all_parts, all_map, all_of_map, all_two, all_weaker, map_agree, option_reported)
-
-  layers_reported : (ls : Named) → map (λ l. map (λ f. option_caused (own_cause lines t limit) f.shape) l.1.features) ls ≡ map (λ l. map (λ f. option_drop_causes lines t limit f.shape) l.1.features) ls
-  layers_reported ls = search (all_parts, all_map, all_of_map, all_two, all_weaker, map_agree, features_reported)
+  layers_alike ls h =
+      alike Alike (λ (l : List ℕ × Layer). features_lines_and_rings l.1.features) (λ l. map (λ f. option_caused one f.shape) l.1.features) (λ l. map (λ f. option_caused two f.shape) l.1.features)
+      (λ l k. alike Alike (λ (f : Featured). option_lines_and_rings f.shape) (λ f. option_caused one f.shape) (λ f. option_caused two f.shape) (λ f. shape_alike f.shape) l.1.features k) ls h
 
 pub drops_expected : DirectionLaw → ZeroLaw → AssemblingDropsExpected
 unfolding assembled_dropped expected_dropped
@@ -89,13 +78,15 @@ drops_expected law zero t limit ls sound =
     ap (λ arcs. layers_caused (assembled_cause lines arcs limit) ls) (retained_each (reduce t) all ∙ each_reduced t all)
     ∙ ap (dropped_of_layers 0) (layers_alike (assembled_cause lines (map (reduced t) all) limit) (own_cause lines t limit) ls
     (all_weaker (StandsIn lines) (λ b. assembled_cause lines (map (reduced t) all) limit b.0 b.1 ≡ own_cause lines t limit b.0 b.1) (λ b stands. grind
-    (arith, cause_same, own_apart)) (named_lines_and_rings ls) (each_stands ls))
-    ∙ layers_reported lines t limit ls)
+    (arith, cause_same, own_apart)) (named_lines_and_rings ls) (each_stands ls)))
 
 -- ---- validity
 
-pub indexes_reach : ArcIndexesReach
-indexes_reach t ls sound = each_through t None (arcs_of_layers ls) (arcs_long (linework (layers_of ls)) (all_clean ls sound))
+pub indexes_reach : UnguardedIndexLaw → ArcsRise → ArcIndexesReach
+indexes_reach law rise t ls sound =
+    let arcs : List (List Point) = arcs_of_layers ls in
+    subst (λ kept. EachFromFirstToLast kept arcs) (law t arcs)
+    (each_through (reduce_arcs (guarded_by false []) t arcs) arcs (rise (guarded_by false []) t arcs) (arcs_long (linework (layers_of ls)) (all_clean ls sound)))
 
 pub assembled_is_valid : EndsStay → NoneIsNew → ZeroLaw → AssembledIsValid
 unfolding assembled

@@ -1,24 +1,12 @@
 -- Worked rows of what is assembled of layers over reduced arcs, computed from the definitions. The fold of a shape is opened by its
 -- kind.
-use Rattle.std.proofs.Common.{◌≡◌, ◌==◌, ℕ, ℤ, pos, Bool, true, false, List, [], ◌∷◌, ◌++◌, map, Option, None, Some, refl, ap, ◌∙◌}
-use Rattle.build_meaning.proofs.SimplifiedNames.{list_any, prune-line, prune-area, lines_and_rings-line, drop_causes-area, drop_causes-line, cross, twice_area, shoelace, number_of, Point, prune, same, Small, Outer, Featured, Shape, Stroke, placed_lines_and_rings_at, linework, TopoShape, objects_lines_and_rings, TopoFeature, TopoObject, Many, is_before, reduced, all_arcs, kept_refs, objects_by, trimmed, assembled, assembled_dropped, retained_arcs, large_refs, objects_pruned, simplified_by}
-use Rattle.geometry.specs.declared.shape.Geometry.TheVariants as g
-use Rattle.build_meaning.specs.Layers.{Named, layers_of}
+use Rattle.std.proofs.Common.{◌≡◌, ℕ, ℤ, pos, Bool, true, false, List, [], ◌∷◌, ◌++◌, map, Option, None, Some, refl, ap, ◌∙◌}
+use Rattle.build_meaning.proofs.Names.{prune-line, prune-area, lines_and_rings-line, drop_causes-area, drop_causes-line, cross, twice_area, shoelace, number_of, Point, prune, same, Small, Outer, Featured, Shape, Stroke, placed_lines_and_rings_at, linework, objects_lines_and_rings, is_before, reduced, all_arcs, kept_refs, objects_by, trimmed, assembled, assembled_dropped, retained_arcs, large_refs, objects_pruned, simplified_by, Named, layers_of}
 use Rattle.build_meaning.proofs.Assembled.{contents}
-
-abbrev at : ℕ → ℕ → Point
-at x y = record { x = pos x; y = pos y }
+use Rattle.geometry.specs.declared.shape.Geometry.TheVariants as g
+use Rattle.build_meaning.proofs.SimplifiedRows.{at, square, triangle, bent, two}
 
 -- ---- a polygon whose outer ring is a triangle, with a square as its hole, and a bent line
-
-abbrev triangle : List Point
-triangle = at 2 2 ∷ (at 3 2 ∷ (at 2 3 ∷ (at 2 2 ∷ [])))
-
-abbrev square : List Point
-square = at 0 0 ∷ (at 10 0 ∷ (at 10 10 ∷ (at 0 10 ∷ (at 0 0 ∷ []))))
-
-abbrev bent : List Point
-bent = at 20 0 ∷ (at 21 1 ∷ (at 23 0 ∷ []))
 
 abbrev rings : List (List Point)
 rings = triangle ∷ (square ∷ [])
@@ -61,12 +49,6 @@ row_dropped = simp (lines_are, drop_causes-area, drop_causes-line)
 
 -- ---- so two arcs are left out, and the third one is the first
 
-abbrev topo_feature : Option TopoShape → TopoFeature
-topo_feature s = record { id = None; properties = None; shape = s }
-
-abbrev two : Option TopoShape → Option TopoShape → List (List ℕ × TopoObject)
-two s t = ((97 ∷ []), Many (topo_feature s ∷ (topo_feature t ∷ []))) ∷ []
-
 abbrev ring_refs : List (List ℤ)
 ring_refs = (pos 0 ∷ []) ∷ ((pos 1 ∷ []) ∷ [])
 
@@ -83,9 +65,6 @@ arcs_retained = refl
 objects_left : objects_pruned (large_refs 0 fewer) (two (Some (g.Area ring_refs)) (Some (g.Line (pos 2 ∷ [])))) ≡ two None (Some (g.Line (pos 2 ∷ [])))
 unfolding same shoelace
 objects_left = simp (prune-area, prune-line)
-
-abbrev used_in : List (Bool × List ℤ) → ℕ → Bool
-used_in bs i = list_any (λ b. list_any (λ r. number_of r == i) b.1) bs
 
 lines_and_rings_left : objects_lines_and_rings (two None (Some (g.Line (pos 2 ∷ [])))) ≡ (false, pos 2 ∷ []) ∷ []
 lines_and_rings_left = ap (λ l. (l ++ []) ++ []) (lines_and_rings-line Point (List ℤ) (pos 2 ∷ []))

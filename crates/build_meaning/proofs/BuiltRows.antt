@@ -1,10 +1,7 @@
 -- Worked rows of lines that are reduced at thresholds above zero, computed from the definitions.
-use Rattle.std.proofs.Common.{◌≡◌, ℕ, pos, negsuc, true, false, List, [], ◌∷◌, map, Some, None, refl}
-use Rattle.build_meaning.proofs.Names.{cross, twice_area, shoelace, Point, Collapsed, Small, Stroke, is_before, reduced, all_arcs, kept_refs, own_cause, rebuilt, cleaned, kept_line}
-use Rattle.geometry.specs.Rings.{same}
-
-abbrev at : ℕ → ℕ → Point
-at x y = record { x = pos x; y = pos y }
+use Rattle.std.proofs.Common.{◌≡◌, negsuc, true, false, List, [], ◌∷◌, map, Some, None, refl}
+use Rattle.build_meaning.proofs.Names.{cross, twice_area, shoelace, Point, Collapsed, Small, Stroke, is_before, reduced, all_arcs, kept_refs, own_cause, rebuilt, cleaned, kept_line, same}
+use Rattle.build_meaning.proofs.SimplifiedRows.{at}
 
 -- ---- a line and its reverse: one arc, in which two corners have twice the area 2, and the lesser position goes first
 

@@ -1,10 +1,10 @@
 -- A topology on a grid is reduced to the cells of the reduced topology.
-use Rattle.std.proofs.Common.{rules, arith, ◌≡◌, ◌==◌, ℕ, zero, suc, ℤ, Bool, List, [], ◌∷◌, ◌++◌, map, Option, None, Some, refl, sym, ap, ◌∙◌}
-use Rattle.build_meaning.proofs.SimplifiedNames.{AllByRecursion, list_any, agreed, composed, at, number_of, map_some, then_some, with_some, Point, prune, option_lines_and_rings, lines_and_rings, TopoShape, Contents, object_features, features_lines_and_rings, objects_lines_and_rings, place_on, TopoFeature, TopoObject, One, Many, Transform, reduce, DirectionLaw, NoneIsNew, ZeroLaw, kept_of_map, built, is_used, keep_from, line_renumbered, trimmed, feature_celled, object_celled, objects_celled, celled, LiesBack, SimplifiesToBuiltOnGrid, Refs, retained, retained_arcs, large_refs, feature_pruned, object_pruned, objects_pruned, retained_whole, simplified_by, simplified_contents}
+use Rattle.std.proofs.Common.{rules, arith, ◌≡◌, ◌==◌, ℕ, zero, suc, ℤ, Bool, List, [], ◌∷◌, map, Option, None, Some, refl, sym, ap, ◌∙◌, map-id}
+use Rattle.build_meaning.proofs.Names.{AllByRecursion, list_any, agreed, composed, at, number_of, map_some, then_some, with_some, Point, prune, TopoShape, Contents, objects_lines_and_rings, place_on, TopoObject, Transform, reduce, is_used, keep_from, line_renumbered, trimmed, objects_celled, celled, LiesBack, Refs, retained, retained_arcs, large_refs, objects_pruned, retained_whole, simplified_by, simplified_contents}
 use Rattle.build_meaning.proofs.Again.{all_hold}
-use Rattle.build_meaning.proofs.BuiltCells.{built_cells}
-use Rattle.build_meaning.proofs.Simplified.{simplifies_to_built}
-use Rattle.build_meaning.proofs.Replaced.{lines_and_rings_replaced}
+use Rattle.build_meaning.proofs.Objects.{lines_placed}
+use Rattle.build_meaning.proofs.Reshaped.{Objects, pruned_shape, objects_same, objects_twice}
+use Rattle.build_meaning.proofs.Trimmed.{kept_of_map}
 use Rattle.build_meaning.proofs.ValidRetained.{all_retained}
 
 -- ---- arcs
@@ -58,36 +58,15 @@ module _ (transform : Transform) (cell : Point → Point) where
     shape_turn None = refl
     shape_turn (Some s) = search (rules, composed, agreed, all_hold, as_it_is)
 
-    features_turn : (fs : List TopoFeature) → map (feature_pruned kept) (map (feature_celled cell) fs) ≡ map (feature_celled cell) (map (feature_pruned kept) fs)
-    features_turn [] = refl
-    features_turn (f ∷ fs) = grind (arith, shape_turn, features_turn fs)
+    objects_turn : (os : Objects) → objects_pruned kept (objects_celled cell os) ≡ objects_celled cell (objects_pruned kept os)
+    objects_turn os =
+        objects_twice (pruned_shape (λ p. p) kept) (pruned_shape cell same_refs) os
+        ∙ objects_same (λ s. pruned_shape (λ p. p) kept (pruned_shape cell same_refs s)) (λ s. pruned_shape cell same_refs (pruned_shape (λ p. p) kept s)) shape_turn os
+        ∙ sym (objects_twice (pruned_shape cell same_refs) (pruned_shape (λ p. p) kept) os)
 
-    objects_turn : (os : List (List ℕ × TopoObject)) → objects_pruned kept (objects_celled cell os) ≡ objects_celled cell (objects_pruned kept os)
-    objects_turn [] = refl
-    objects_turn (o ∷ os) = ap (λ x. (o.0, x) ∷ objects_pruned kept (objects_celled cell os)) (grind (arith, shape_turn, features_turn))
-        ∙ ap (λ xs. (o.0, object_celled cell (object_pruned kept o.1)) ∷ xs) (objects_turn os)
-
-  -- ---- the same lines, so the same arcs are used
-
-  map_same : {A : Type 0} (xs : List (Bool × A)) → map (λ b. (b.0, b.1)) xs ≡ xs
-  map_same [] = refl
-  map_same (x ∷ xs) = ap (λ l. x ∷ l) (map_same xs)
-
-  option_lines : (s : Option TopoShape) → option_lines_and_rings (then_some (prune cell same_refs) s) ≡ option_lines_and_rings s
-  option_lines None = refl
-  option_lines (Some s) = lines_and_rings_replaced cell (λ (refs : List ℤ). refs) s ∙ map_same (lines_and_rings s)
-
-  features_lines : (fs : List TopoFeature) → features_lines_and_rings (map (feature_celled cell) fs) ≡ features_lines_and_rings fs
-  features_lines [] = refl
-  features_lines (f ∷ fs) = ap (λ l. l ++ features_lines_and_rings (map (feature_celled cell) fs)) (option_lines f.shape) ∙ ap (λ l. option_lines_and_rings f.shape ++ l) (features_lines fs)
-
-  object_lines : (o : TopoObject) → features_lines_and_rings (object_features (object_celled cell o)) ≡ features_lines_and_rings (object_features o)
-  object_lines (One f) = features_lines (f ∷ [])
-  object_lines (Many fs) = features_lines fs
-
-  pub objects_lines : (os : List (List ℕ × TopoObject)) → objects_lines_and_rings (objects_celled cell os) ≡ objects_lines_and_rings os
-  objects_lines [] = refl
-  objects_lines (o ∷ os) = ap (λ l. l ++ objects_lines_and_rings (objects_celled cell os)) (object_lines o.1) ∙ ap (λ l. features_lines_and_rings (object_features o.1) ++ l) (objects_lines os)
+  -- the same lines, so the same arcs are used
+  pub objects_lines : (os : Objects) → objects_lines_and_rings (objects_celled cell os) ≡ objects_lines_and_rings os
+  objects_lines os = lines_placed cell (λ refs. refs) os ∙ map-id (objects_lines_and_rings os)
 
   -- ---- topologies
 
@@ -126,11 +105,3 @@ module _ (transform : Transform) (cell : Point → Point) where
     unfolding simplified_contents celled
     simplified_celled t =
         ap (λ k. simplified_by k limit (celled transform cell plain)) (indexes_same t arcs lie) ∙ retained_celled (map (reduce t) arcs)
-
--- ---- what is built of layers
-
-pub simplifies_on_grid : DirectionLaw → ZeroLaw → NoneIsNew → SimplifiesToBuiltOnGrid
-unfolding built trimmed
-simplifies_on_grid law stays none transform cell t limit ls sound lie =
-    (simplified_celled transform cell limit (built 0 0 ls).objects (built 0 0 ls).arcs (built_cells none (LiesBack transform cell) 0 0 ls lie).0 t) ∙ ap
-    (celled transform cell) (simplifies_to_built law stays t limit ls sound)

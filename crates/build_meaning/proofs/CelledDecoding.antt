@@ -1,9 +1,10 @@
 -- A topology on a grid decodes to what the topology decodes to whose positions its cells stand for.
 use Rattle.std.proofs.Common.{rules, arith, ◌≡◌, ℕ, ℤ, bytes_eq, Bool, List, [], ◌∷◌, map, Option, None, Some, refl, ap, ◌∙◌, subst}
-use Rattle.build_meaning.proofs.SimplifiedNames.{AllByRecursion, all_left, all_right, map_agree, prune-point, prune-points, prune-line, prune-lines, prune-area, prune-areas, prune-group, composed, by_kinds, map_some, then_some, some_of, joined, Point, prune, places_at, decoded_line, decoded_shape, decoded_feature, decoded_object, of_name, decoded, TopoShape, object_features, place_on, TopoFeature, TopoObject, Transform, feature_celled, object_celled, objects_celled, celled, LiesBack, EachCell, CelledDecodes}
-use Rattle.geometry.specs.declared.shape.Geometry.TheVariants as g
-use Rattle.topojson_types.specs.Validity.{places, option_places, features_places, objects_places}
+use Rattle.build_meaning.proofs.Names.{AllByRecursion, all_left, all_right, map_agree, prune-point, prune-points, prune-line, prune-lines, prune-area, prune-areas, prune-group, composed, by_kinds, map_some, then_some, some_of, joined, Point, prune, places_at, decoded_line, decoded_shape, decoded_feature, decoded_object, of_name, decoded, TopoShape, object_features, place_on, TopoFeature, TopoObject, Transform, feature_celled, object_celled, objects_celled, celled, LiesBack, EachCell, CelledDecodes, places, option_places, features_places, objects_places, BuiltDecodesOnGrid, DecodesBack, DecodesBackOnGrid, NoneIsNew, all_weaker, built}
+use Rattle.build_meaning.proofs.BuiltCells.{built_cells}
+use Rattle.build_meaning.proofs.Renumbered.{built_has_no_transform}
 use Rattle.build_meaning.proofs.Celled.{all_lie_back}
+use Rattle.geometry.specs.declared.shape.Geometry.TheVariants as g
 
 -- ---- shapes whose Points and MultiPoints are placed alike
 
@@ -89,3 +90,11 @@ plain_same transform cell os arcs name h = search (rules, all_lie_back, name_sam
 
 pub celled_decodes : CelledDecodes
 celled_decodes transform cell y name plain h = grind (arith, plain_same)
+
+-- ---- what is built of layers
+
+pub built_decodes : NoneIsNew → BuiltDecodesOnGrid
+built_decodes none transform cell t limit ls name lie = celled_decodes transform cell (built t limit ls) name (built_has_no_transform t limit ls) (built_cells none (LiesBack transform cell) t limit ls lie)
+
+pub decodes_back : DecodesBack → NoneIsNew → DecodesBackOnGrid
+decodes_back back none transform cell t limit ls sound distinct lie = grind (arith, all_weaker, built_decodes)

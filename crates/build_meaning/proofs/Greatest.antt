@@ -1,6 +1,9 @@
 -- The protected ring of a shape is the greatest.
 use Rattle.std.proofs.Common.{arith, rules, ◌≡◌, ℕ, ◌<◌, ◌≤◌, nat_lt, Bool, true, false, cond, List, [], ◌∷◌, ◌++◌, Option, None, Some, refl, sym, ap, ◌∙◌, subst}
-use Rattle.build_meaning.proofs.SimplifiedNames.{nat_tests, AllByRecursion, filter, all_append, all_weaker, is_long, outer_rings, greater, greatest, enclosed, greatest_ring, GreatestRingIsGreatest, NoneIsGreatest}
+use Rattle.build_meaning.proofs.Names.{nat_tests, AllByRecursion, filter, all_append, all_weaker, is_long, outer_rings, greater, greatest, enclosed, greatest_ring, GreatestRingIsGreatest, NoneIsGreatest}
+
+pub same_some : {X : Type 0} (a b : X) → Some a ≡ Some b → a ≡ b
+same_some a b e = cc
 
 module _ {X : Type 0} (size : X → ℕ) (p : X → Bool) where
   abbrev Less : ℕ → X → Type 0
@@ -44,9 +47,6 @@ module _ {X : Type 0} (size : X → ℕ) (p : X → Bool) where
   later_is : (y : X) (ys : List X) (x : X) → Less (size x) y → Split ys x → Split (y ∷ ys) x
   later_is y ys x h s = record { before = y ∷ s.before; after = s.after; is = ap (λ zs. y ∷ zs) s.is; passes = s.passes; less = (h, s.less); no_more = s.no_more }
 
-  same : (x y : X) → Some x ≡ Some y → x ≡ y
-  same x y e = cc
-
   pub split : (xs : List X) (x : X) → best xs ≡ Some x → Split xs x
   split [] x h = cc
   split (y ∷ ys) x h = on (p y) refl h (split ys)
@@ -60,7 +60,7 @@ module _ {X : Type 0} (size : X → ℕ) (p : X → Bool) where
       of_rest e (Some w) k f = against w e (f w k) (nat_lt (size y) (size w)) refl
 
       on : (b : Bool) → p y ≡ b → greatest size (cond b (y ∷ filter p ys) (filter p ys)) ≡ Some x → ((w : X) → best ys ≡ Some w → Split ys w) → Split (y ∷ ys) x
-      on true e k f = subst (Split (y ∷ ys)) (same (greater size y (best ys)) x k) (of_rest e (best ys) refl f)
+      on true e k f = subst (Split (y ∷ ys)) (same_some (greater size y (best ys)) x k) (of_rest e (best ys) refl f)
       on false e k f = later_is y ys x (λ g. not_passing y e g) (f x k)
 
 pub greatest_is : GreatestRingIsGreatest

@@ -1,10 +1,10 @@
 -- The ring that encloses most of what is left of a shape is what is made of the one that encloses most of the shape.
 use Rattle.std.proofs.Common.{◌≡◌, ℕ, ℤ, suc, nat_lt, Bool, true, false, cond, List, [], ◌∷◌, map, Option, None, Some, refl, sym, ap, ◌∙◌, subst}
-use Rattle.build_meaning.proofs.SimplifiedNames.{AllByRecursion, filter, all_append, all_left, all_right, all_weaker, lines_and_rings_at, composed, by_kinds, map_some, then_some, joined, Placed, inside_part, of_parts, Point, prune, lines_and_rings, Geometry, TopoShape, is_long, outer_ring, outer_rings, marked, greater, greatest, enclosed, greatest_ring}
-use Rattle.geometry.specs.declared.shape.Geometry.TheVariants as g
+use Rattle.build_meaning.proofs.Names.{AllByRecursion, filter, all_append, all_left, all_right, all_weaker, lines_and_rings_at, composed, by_kinds, map_some, then_some, joined, Placed, inside_part, of_parts, Point, prune, lines_and_rings, Geometry, TopoShape, is_long, outer_ring, outer_rings, marked, greater, greatest, enclosed, greatest_ring}
 use Rattle.build_meaning.proofs.Marks.{outer_rings_at}
 use Rattle.build_meaning.proofs.MarksLeft.{Follows, nothing, made, left_out}
 use Rattle.build_meaning.proofs.ShapesLeft.{keeping_mark, rings_left, Turns, TurnsOver, stays}
+use Rattle.geometry.specs.declared.shape.Geometry.TheVariants as g
 
 -- ---- the outer rings are among the lines and rings
 

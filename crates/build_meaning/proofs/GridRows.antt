@@ -1,11 +1,9 @@
 -- Worked rows of topologies with a transform: what counts is where cells lie, not their numbers.
-use Rattle.std.proofs.Common.{◌≡◌, ℕ, pos, negsuc, List, [], ◌∷◌, None, Some, refl}
-use Rattle.std.specs.Prelude.{codes}
-use Rattle.build_meaning.proofs.SimplifiedNames.{cross, twice_area, Point, scaled_of, Contents, moved, place_on, Transform, is_before, reduce, celled, LiesBack, reduced_indexes}
+use Rattle.std.proofs.Common.{◌≡◌, pos, negsuc, List, [], ◌∷◌, None, Some, refl}
+use Rattle.build_meaning.proofs.Names.{codes, cross, twice_area, Point, scaled_of, Contents, place_on, Transform, is_before, reduce, celled, LiesBack, reduced_indexes}
 use Rattle.topojson_types.specs.TransformNumbers.{stands_for, to_units, transform_value}
-
-abbrev at : ℕ → ℕ → Point
-at x y = record { x = pos x; y = pos y }
+use Rattle.topojson_types.specs.Transforms.{moved}
+use Rattle.build_meaning.proofs.SimplifiedRows.{at}
 
 -- a topology of one arc and no object
 abbrev one_arc : List Point → Contents

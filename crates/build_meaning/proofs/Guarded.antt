@@ -1,12 +1,13 @@
 -- Arcs that are reduced at once: those that are left of a topology, as positions, with their ends, and what is left without a guard.
 use Rattle.std.proofs.Common.{◌≡◌, ℕ, suc, ◌-◌, ◌≤◌, Bool, false, List, [], ◌∷◌, map, length, Option, None, Some, refl, sym, ap, ◌∙◌, subst}
-use Rattle.build_meaning.proofs.SimplifiedNames.{length-map, AllByRecursion, last_of, Point, placed_arcs, Contents, place_on, Transform, sub_all, Vertex, numbered, reduce, Sublist, none, keep, skip, remaining_arcs, reduce_arcs, reduced_arcs, UnguardedIndexLaw, EachTo, IsThinned, kept_of_map, keep_from, arc_positions, guarded_indexes, guarded_contents, guarded_dropped, guarded_removed_count, ArcsRetainedAreReduced, UnguardedIsSimplified, retained_arcs, simplified_by, dropped_by, removed_count_by, FromFirstToLast, EachFromFirstToLast, placed_cells, reduced_indexes, simplified_contents, simplified_dropped, simplified_removed_count}
-use Rattle.elimination_meaning.specs.Rising.{RisesTo, RisesOver}
-use Rattle.guarded_meaning.specs.Arcs.{points_of}
-use Rattle.guarded_meaning.proofs.Thinned.{remaining_thinned}
+use Rattle.build_meaning.proofs.Names.{length-map, AllByRecursion, last_of, Point, placed_arcs, Contents, place_on, Transform, sub_all, Vertex, numbered, reduce, Sublist, none, keep, skip, remaining_arcs, reduce_arcs, reduced_arcs, UnguardedIndexLaw, EachTo, IsThinned, keep_from, arc_positions, guarded_indexes, guarded_contents, guarded_dropped, guarded_removed_count, ArcsRetainedAreReduced, UnguardedIsSimplified, retained_arcs, simplified_by, dropped_by, removed_count_by, FromFirstToLast, EachFromFirstToLast, placed_cells, reduced_indexes, simplified_contents, simplified_dropped, simplified_removed_count}
 use Rattle.owned_values.proofs.Tests.{holds_of_chosen}
+use Rattle.elimination_meaning.specs.Rising.{RisesTo, RisesOver}
+use Rattle.guarded_meaning.proofs.Thinned.{remaining_thinned}
+use Rattle.guarded_meaning.specs.Arcs.{points_of}
 use Rattle.build_meaning.proofs.Celled.{arcs_map}
-use Rattle.build_meaning.proofs.Retained.{Stands, all_stand, points_retained}
+use Rattle.build_meaning.proofs.ValidRetained.{Stands, all_stand, points_retained}
+use Rattle.build_meaning.proofs.Trimmed.{kept_of_map}
 
 -- ---- which arcs are left
 

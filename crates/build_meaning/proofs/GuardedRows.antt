@@ -1,14 +1,12 @@
 -- Worked rows of topologies whose arcs are reduced at once, in whole units, computed from the definitions. The fold of a shape is opened by
 -- its kind.
 use Rattle.std.proofs.Common.{◌≡◌, ◌==◌, ℕ, ◌-◌, ℤ, pos, negsuc, true, false, List, [], ◌∷◌, ◌++◌, None, Some, refl, ap, ◌∙◌}
-use Rattle.build_meaning.proofs.SimplifiedNames.{prune-line, lines_and_rings-line, cross, twice_area, shoelace, number_of, Point, same, Contents, objects_lines_and_rings, TopoFeature, TopoObject, Many, reduce_arcs, goes_before, is_free, keeps_rings, trimmed, spread, guarded_indexes, guarded_contents, large_refs, objects_pruned, simplified_by}
-use Rattle.geometry.specs.declared.shape.Geometry.TheVariants as g
+use Rattle.build_meaning.proofs.Names.{prune-line, lines_and_rings-line, cross, twice_area, shoelace, number_of, Point, same, Contents, objects_lines_and_rings, TopoFeature, TopoObject, Many, reduce_arcs, goes_before, is_free, keeps_rings, trimmed, spread, guarded_indexes, guarded_contents, large_refs, objects_pruned, simplified_by}
 use Rattle.guarded_meaning.specs.Segments.{is_on, same_ends}
 use Rattle.guarded_meaning.specs.Triangles.{in_triangle}
 use Rattle.build_meaning.proofs.Assembled.{contents}
-
-abbrev at : ℕ → ℕ → Point
-at x y = record { x = pos x; y = pos y }
+use Rattle.geometry.specs.declared.shape.Geometry.TheVariants as g
+use Rattle.build_meaning.proofs.SimplifiedRows.{at}
 
 -- as far under zero as the second number says, which is over zero
 abbrev below : ℕ → ℕ → Point
@@ -17,7 +15,7 @@ below x y = record { x = pos x; y = negsuc (y - 1) }
 abbrev line : List ℤ → TopoFeature
 line refs = record { id = None; properties = None; shape = Some (g.Line refs) }
 
-abbrev layer : List TopoFeature → List (List ℕ × TopoObject)
+abbrev pub layer : List TopoFeature → List (List ℕ × TopoObject)
 layer fs = ((97 ∷ []), Many fs) ∷ []
 
 abbrev two_lines : List Point → List Point → Contents

@@ -1,12 +1,14 @@
 -- In each feature of layers the protected ring stays.
 use Rattle.std.proofs.Common.{◌≡◌, ℕ, ℤ, Bool, List, [], ◌∷◌, map, Option, None, Some, sym, ap, ◌∙◌, subst}
-use Rattle.build_meaning.proofs.SimplifiedNames.{map-map, AllByRecursion, all_of_map, all_two, all_weaker, joined, map_some, Point, option_lines_and_rings, Featured, Axes, cell, linework, Contents, TopoFeature, NoneIsNew, ZeroLaw, ArcsRise, RingsStay, EachTo, AllUsed, all_used, each_stays, loses_nothing, kept_refs, untrimmed, built, AreSound, feature_by, is_used, keep_from, line_renumbered, renumbered, trimmed, arcs_of_layers, feature_celled, object_celled, celled, LiesBack, all_features, transform_of, arc_positions, greatest_ring, protected_of, protecting_contents, protecting_reduced, HasRing, ring_refs, protecting_arc_indexes, assembled_sparing, greatest_rings, BuiltFeaturesHaveRings, LayersShapesStay, AreOn, IsOn, quantized, feature_pruned, object_pruned}
-use Rattle.build_meaning.specs.Layers.{Named, layers_of}
+use Rattle.build_meaning.proofs.Names.{map-map, AllByRecursion, all_of_map, all_two, all_weaker, joined, map_some, Point, option_lines_and_rings, Featured, Axes, cell, linework, Contents, TopoFeature, NoneIsNew, ZeroLaw, ArcsRise, RingsStay, EachTo, kept_refs, untrimmed, built, AreSound, feature_by, is_used, keep_from, line_renumbered, renumbered, trimmed, arcs_of_layers, feature_celled, celled, LiesBack, all_features, transform_of, arc_positions, greatest_ring, protected_of, protecting_contents, protecting_reduced, HasRing, ring_refs, protecting_arc_indexes, assembled_sparing, greatest_rings, BuiltFeaturesHaveRings, LayersShapesStay, AreOn, IsOn, quantized, feature_pruned, Named, layers_of}
 use Rattle.build_meaning.proofs.OnGrid.{all_lie, built_on}
-use Rattle.build_meaning.proofs.Protected.{each_to_made, features_over, each_of_objects, shapes_stay}
+use Rattle.build_meaning.proofs.Protected.{each_to_made, each_of_objects, shapes_stay}
+use Rattle.build_meaning.proofs.Reshaped.{pruned_shape, features_with}
 use Rattle.build_meaning.proofs.ProtectedLayers.{IsWholeFeature, ring_of_layer, features_of_layers, each_layer, is_assembled}
-use Rattle.build_meaning.proofs.RingsAlike.{pruned_features, ring_alike, ring_celled, celled_features}
+use Rattle.build_meaning.proofs.RingsAlike.{ring_alike, ring_celled}
 use Rattle.build_meaning.proofs.SparedAlike.{positions_alike, placed_same}
+use Rattle.build_meaning.proofs.Trimmed.{AllUsed, all_renumbered, all_used}
+use Rattle.build_meaning.proofs.Whole.{each_stays, loses_nothing}
 
 each_further : {A B C : Type 0} (R : B → A → Type 0) (S : C → A → Type 0) (make : B → C) → ((b : B) (a : A) → R b a → S (make b) a) → (ys : List B) (xs : List A) → EachTo R ys xs → EachTo S (map make ys) xs
 each_further R S make f [] [] h = tt
@@ -48,7 +50,7 @@ module _ (zero : ZeroLaw) (ls : Named) (sound : AreSound ls) where
   features_are : all_features (built 0 0 ls) ≡ map by_new_refs features
   unfolding built trimmed
   features_are =
-      features_over (feature_pruned (line_renumbered used)) (object_pruned (line_renumbered used)) (pruned_features (line_renumbered used)) whole.objects
+      features_with (pruned_shape (λ p. p) (line_renumbered used)) whole.objects
       ∙ ap (map (feature_pruned (line_renumbered used))) (features_of_layers ls ls) ∙ map-map (feature_pruned (line_renumbered used)) by_refs features
 
   abbrev IsUsed : Featured → Type 0
@@ -60,7 +62,7 @@ module _ (zero : ZeroLaw) (ls : Named) (sound : AreSound ls) where
       (subst (AllByRecursion (λ (f : TopoFeature). AllByRecursion (AllUsed used) (option_lines_and_rings f.shape))) (features_of_layers ls ls) (each_of_objects (AllUsed used) whole.objects (all_used whole.objects)))
 
   has_ring : (f : Featured) → IsUsed f → IsWholeFeature ls f → RingOf (keep_from used 0 (arcs_of_layers ls)) (by_new_refs f) f
-  has_ring f uses whole_lines = ring_alike (arcs_of_layers ls) used (by_refs f).shape uses ∙ ap (map_some (map (renumbered used))) (ring_of_layer ls f.shape whole_lines)
+  has_ring f uses whole_lines = ring_alike (λ p. p) (map (renumbered used)) (arcs_of_layers ls) (keep_from used 0 (arcs_of_layers ls)) (AllUsed used) (λ b h. all_renumbered used (arcs_of_layers ls) b.1 h) (by_refs f).shape uses ∙ ap (map_some (map (renumbered used))) (ring_of_layer ls f.shape whole_lines)
 
   positions_are : arc_positions (built 0 0 ls) ≡ keep_from used 0 (arcs_of_layers ls)
   unfolding built
@@ -86,7 +88,7 @@ module _ (zero : ZeroLaw) (ls : Named) (sound : AreSound ls) where
     unfolding celled built trimmed
     celled_have lie =
         subst (λ ps. EachTo (RingOf ps) (all_features (celled (transform_of g) (cell g) (built 0 0 ls))) features) (sym (placed_same (transform_of g) (cell g) 0 (built 0 0 ls).objects arcs lie))
-        (subst (λ fs. EachTo (RingOf arcs) fs features) (sym (features_over (feature_celled (cell g)) (object_celled (cell g)) (celled_features (cell g) arcs) (built 0 0 ls).objects))
+        (subst (λ fs. EachTo (RingOf arcs) fs features) (sym (features_with (pruned_shape (cell g) (λ closed refs. Some refs)) (built 0 0 ls).objects))
         (each_further (RingOf arcs) (RingOf arcs) (feature_celled (cell g)) (λ before f e. ring_celled (cell g) arcs before.shape ∙ e) (all_features (built 0 0 ls)) features built_have))
 
   quantized_have : NoneIsNew → (g : Option Axes) → AreOn g ls → Have (quantized g (built 0 0 ls))

@@ -1,7 +1,6 @@
 pub mod Addresses
 pub mod DroppableLines
 pub mod Decoding
-pub mod DecodingLines
 pub mod Linework
 pub mod Names
 pub mod Once
@@ -9,7 +8,6 @@ pub mod Renumbered
 mod BuiltRows
 pub mod LinesAndRings
 pub mod Trimmed
-pub mod ValidBuilt
 pub mod ValidEnds
 pub mod ValidIndexes
 pub mod ValidPositions
@@ -21,36 +19,30 @@ pub mod Again
 pub mod Assembled
 mod AssembledRows
 pub mod BuiltCells
-pub mod BuiltOnGrid
 pub mod Celled
 pub mod CelledDecoding
 mod GridRows
 pub mod Guarded
 pub mod Greatest
+pub mod GuardedAssembled
 pub mod GuardedLayers
 mod GuardedRows
-pub mod Kept
-pub mod KeptLabels
 pub mod Left
-pub mod SimplifiedNames
 pub mod Simplified
-pub mod Lying
 pub mod Made
 pub mod Marks
 pub mod Objects
 pub mod OnGrid
 pub mod Protected
 pub mod ProtectedRings
-pub mod Retained
-pub mod Reaching
 mod ProtectedRows
 pub mod Replaced
+pub mod Reshaped
 pub mod RingKept
 mod SimplifiedRows
 pub mod Snapped
 mod SnappedRows
 pub mod Spared
-pub mod Twice
 pub mod ValidSimplified
 pub mod ValidCelled
 pub mod ValidRetained
@@ -64,4 +56,3 @@ mod ProtectedLayersRows
 pub mod RingsAlike
 pub mod ShapesLeft
 pub mod SparedAlike
-pub mod SparedLeft

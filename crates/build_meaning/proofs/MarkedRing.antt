@@ -1,12 +1,11 @@
 -- The ring of a marked shape that has a mark is the one at the end of the way.
 use Rattle.std.proofs.Common.{◌≡◌, ℕ, suc, Bool, true, false, List, [], ◌∷◌, map, Option, None, Some, ◌⊎◌, inl, inr, refl, sym, ap, ◌∙◌, subst, arith}
-use Rattle.build_meaning.proofs.SimplifiedNames.{AllByRecursion, all_append, all_weaker, in_append, in_right, lines_and_rings_at, by_kinds, joined, In, Placed, inside_part, of_parts, lines_and_rings, Geometry, from_map, outer_ring, outer_rings, into_part, along, unmarked, rings_marked, marked}
-use Rattle.geometry.specs.declared.shape.Geometry.TheVariants as g
+use Rattle.build_meaning.proofs.Names.{AllByRecursion, all_append, all_weaker, in_append, in_right, lines_and_rings_at, by_kinds, joined, In, Placed, inside_part, of_parts, lines_and_rings, Geometry, from_map, outer_ring, outer_rings, into_part, along, unmarked, rings_marked, marked}
 use Rattle.build_meaning.proofs.Greatest.{Split, split}
 use Rattle.build_meaning.proofs.GreatestLeft.{greatest_of, way_of}
 use Rattle.build_meaning.proofs.Marks.{outer_rings_at, marked_at, marked-line, marked-lines, marked-area, marked-areas, marked-group, tagged}
-use Rattle.build_meaning.proofs.MarksLeft.{From, past, behind}
-use Rattle.build_meaning.proofs.RingKept.{into_here}
+use Rattle.build_meaning.proofs.MarksLeft.{From, past, behind, into_here}
+use Rattle.geometry.specs.declared.shape.Geometry.TheVariants as g
 
 -- a line or ring with a mark or without
 abbrev Marked : Type 0 → Type 0

@@ -1,6 +1,6 @@
 -- Marked shapes: the equations by kind, their lines and rings, and what is made of them where none has a mark.
 use Rattle.std.proofs.Common.{◌≡◌, ℕ, suc, Bool, true, false, List, [], ◌∷◌, map, Option, None, Some, refl, sym, ap, ◌∙◌}
-use Rattle.build_meaning.proofs.SimplifiedNames.{map-append, map-map, AllByRecursion, AtKinds, at_kinds, prune_at, prune-group, lines_and_rings_at, drop_causes_at, by_kinds, here, inner_cause, area_drop_causes, drop_causes, map_some, with_some, some_of, unless_empty, joined, of_parts, area_by, prune, lines_and_rings, Cause, Geometry, outer_rings_step, outer_rings, into_part, along, unmarked, rings_marked, marked_step, marked}
+use Rattle.build_meaning.proofs.Names.{map-append, map-map, AllByRecursion, AtKinds, at_kinds, prune_at, prune-group, lines_and_rings_at, drop_causes_at, by_kinds, here, inner_cause, area_drop_causes, drop_causes, map_some, with_some, some_of, unless_empty, joined, of_parts, area_by, prune, lines_and_rings, Cause, Geometry, outer_rings_step, outer_rings, into_part, along, unmarked, rings_marked, marked_step, marked}
 use Rattle.geometry.specs.declared.shape.Geometry.TheVariants as g
 
 -- ---- the equations by kind

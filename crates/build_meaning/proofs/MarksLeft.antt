@@ -1,8 +1,7 @@
 -- What is left of a marked shape is what is left of the shape, marked: its outer rings are those that are kept, in the same order, and each
 -- has a way of its own.
-use Rattle.std.proofs.Common.{arith, ◌≡◌, ◌==◌, ◌≤◌, ℕ, suc, false, List, [], ◌∷◌, ◌++◌, map, Option, None, Some, cond, refl, sym, ap, ◌∙◌}
-use Rattle.build_meaning.proofs.SimplifiedNames.{nat_tests, AllByRecursion, map_some, with_some, some_of, Placed, inside_part, of_parts, into_part, along}
-use Rattle.build_meaning.proofs.RingKept.{into_here}
+use Rattle.std.proofs.Common.{arith, ◌≡◌, ◌==◌, ◌≤◌, ℕ, suc, false, List, [], ◌∷◌, ◌++◌, map, Option, None, Some, cond, refl, sym, ap, ◌∙◌, true}
+use Rattle.build_meaning.proofs.Names.{nat_tests, AllByRecursion, map_some, with_some, some_of, Placed, inside_part, of_parts, into_part, along}
 
 -- ---- which rings are kept
 
@@ -40,6 +39,10 @@ module _ {L M : Type 0} (kept : L → Option M) where
 abbrev pub From : ℕ → List ℕ → Type 0
 From i [] = ⊥
 From i (k ∷ way) = i ≤ k
+
+-- the way leads into the part of this number
+pub into_here : (i : ℕ) (way : List ℕ) → into_part i (Some (i ∷ way)) ≡ Some way
+into_here i way = ap (λ b. cond b (Some way) None) (let e : (i == i) ≡ true = grind (arith, nat_tests) in e)
 
 not_here : (i k : ℕ) → (i ≡ k → ⊥) → (i == k) ≡ false
 not_here i k h = grind (arith, nat_tests, h)

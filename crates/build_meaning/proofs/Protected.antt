@@ -1,15 +1,18 @@
 -- Topologies in which rings are protected: where none is, which arcs are left, and that each protected ring is left.
-use Rattle.std.proofs.Common.{arith, ◌≡◌, ℕ, ◌-◌, ◌≤◌, ℤ, Bool, true, not, List, [], ◌∷◌, map, length, Option, None, Some, inl, refl, sym, ap, ◌∙◌, subst}
-use Rattle.build_meaning.proofs.SimplifiedNames.{map-append, map-map, AllByRecursion, all_append, all_left, all_right, all_of_map, all_two, all_weaker, each_of, in_right, composed, dropped_of_layers, arc_at, stitched, joined, map_some, then_some, with_some, some_of, In, Placed, Point, prune, lines_and_rings, option_lines_and_rings, clean, is_short, placed_arcs, TopoShape, Contents, object_features, features_lines_and_rings, objects_lines_and_rings, TopoFeature, TopoObject, One, Many, Sublist, reduce_arcs, reduced_arcs, is_long, guarded_by, ArcsRise, CrossingsNeverRise, FewerArcsLaw, NoneStaysNone, RingsStay, EachTo, AllUsed, all_renumbered, all_used, positions_of, is_used, keep_from, renumbered, line_renumbered, feature_renumbered}
-use Rattle.build_meaning.proofs.SimplifiedNames.{object_renumbered, trimmed, all_features, arc_positions, crossings_of, guarded_indexes, guarded_contents, guarded_dropped, guarded_removed_count, GuardedArcsAreReduced, GuardedIndexesReach, GuardedIsValid, GuardedKeeps, GuardedCrossingsNeverRise, GuardedNoneStaysNone, labels, outer_rings, marked, Protection, no_protection, greatest_ring, protected_of, protected_rings, cause_sparing, sparing, MarkedRefs, shape_marked, feature_spared, object_spared, spared_whole, spared_by, option_unprotected, spared_dropped, spared_removed_count, protecting_indexes, protecting_contents, protecting_dropped, protecting_removed_count, UnprotectedIsSimplified, UnprotectedIsGuarded, ProtectingIndexesReach, ProtectingIsValid, ProtectingKeeps, protecting_reduced, ProtectingArcsAreReduced, ProtectingCrossingsNeverRise, ProtectingNoneStaysNone, HasRing, ShapesStay, small_cause, large_refs, option_small, retained_arcs, simplified_by, dropped_by, removed_count_by, EachFromFirstToLast, retained_whole}
-use Rattle.topojson_types.specs.Validity.{IsArc, IsTopology}
+use Rattle.std.proofs.Common.{arith, ◌≡◌, ℕ, ◌-◌, ◌≤◌, ℤ, Bool, true, not, List, [], ◌∷◌, map, length, Option, None, Some, inl, refl, sym, ap, ◌∙◌, subst, false}
+use Rattle.std.proofs.Math.Path.{fun_ext}
+use Rattle.topojson_types.proofs.Parts.{parts_all}
+use Rattle.build_meaning.proofs.Names.{map-map, AllByRecursion, all_of_map, all_two, all_weaker, each_of, in_right, composed, dropped_of_layers, arc_at, stitched, joined, map_some, then_some, with_some, some_of, In, Placed, Point, prune, option_lines_and_rings, clean, is_short, placed_arcs, TopoShape, Contents, object_features, features_lines_and_rings, objects_lines_and_rings, TopoFeature, TopoObject, Sublist, reduce_arcs, reduced_arcs, is_long, guarded_by, ArcsRise, CrossingsNeverRise, FewerArcsLaw, NoneStaysNone, RingsStay, EachTo, positions_of, is_used, keep_from, renumbered, line_renumbered, feature_renumbered, trimmed, all_features, arc_positions, crossings_of, guarded_indexes, guarded_contents, guarded_dropped, guarded_removed_count, GuardedArcsAreReduced, GuardedIndexesReach, GuardedIsValid, GuardedKeeps, GuardedCrossingsNeverRise, GuardedNoneStaysNone, labels, outer_rings, marked, Protection, no_protection, greatest_ring, protected_of, protected_rings, cause_sparing, sparing, MarkedRefs, shape_marked, feature_spared, spared_whole, spared_by, option_unprotected, spared_dropped, spared_removed_count, protecting_indexes, protecting_contents, protecting_dropped, protecting_removed_count, UnprotectedIsSimplified, UnprotectedIsGuarded, ProtectingIndexesReach, ProtectingIsValid, ProtectingKeeps, protecting_reduced, ProtectingArcsAreReduced, ProtectingCrossingsNeverRise, ProtectingNoneStaysNone, HasRing, ShapesStay, small_cause, large_refs, option_small, retained_arcs, simplified_by, dropped_by, removed_count_by, EachFromFirstToLast, retained_whole, IsArc, IsTopology, all_map, all_parts, Cause, IndexesReach, ReducedIsValid, UnguardedIndexLaw}
 use Rattle.build_meaning.proofs.Again.{all_hold}
-use Rattle.build_meaning.proofs.Greatest.{greatest_is}
-use Rattle.build_meaning.proofs.Guarded.{retained_are_reduced, placed_retained, placed_left, placed_through, sub_left}
-use Rattle.build_meaning.proofs.KeptLabels.{spared_keeps}
+use Rattle.build_meaning.proofs.Greatest.{same_some, greatest_is}
+use Rattle.build_meaning.proofs.Guarded.{unguarded_indexes, unguarded_is_simplified, retained_are_reduced, placed_retained, placed_left, placed_through, sub_left}
+use Rattle.build_meaning.proofs.Left.{spared_keeps}
 use Rattle.build_meaning.proofs.Marks.{causes_plain}
+use Rattle.build_meaning.proofs.GreatestLeft.{rings_within}
+use Rattle.build_meaning.proofs.Reshaped.{pruned_shape, features_with}
 use Rattle.build_meaning.proofs.RingKept.{ring_kept}
-use Rattle.build_meaning.proofs.Spared.{whole_plain}
+use Rattle.build_meaning.proofs.Spared.{spared_shape, whole_plain}
+use Rattle.build_meaning.proofs.Trimmed.{AllUsed, all_renumbered, all_used}
 use Rattle.build_meaning.proofs.ValidSimplified.{spared_is_valid}
 
 -- ---- where no ring is protected
@@ -18,20 +21,11 @@ option_plain : (limit : ℕ) (arcs : List (List Point)) (s : Option TopoShape) �
 option_plain limit arcs None = refl
 option_plain limit arcs (Some s) = causes_plain (cause_sparing (small_cause limit arcs)) s
 
-features_plain : (limit : ℕ) (arcs : List (List Point)) (fs : List TopoFeature) → map (λ f. option_unprotected no_protection limit arcs f.shape) fs ≡ map (λ f. option_small limit arcs f.shape) fs
-features_plain limit arcs [] = refl
-features_plain limit arcs (f ∷ fs) = rw (option_plain limit arcs f.shape, features_plain limit arcs fs) refl
-
-dropped_plain : (limit : ℕ) (arcs : List (List Point)) (os : List (List ℕ × TopoObject))
-    → map (λ o. map (λ f. option_unprotected no_protection limit arcs f.shape) (object_features o.1)) os ≡ map (λ o. map (λ f. option_small limit arcs f.shape) (object_features o.1)) os
-dropped_plain limit arcs [] = refl
-dropped_plain limit arcs (o ∷ os) = rw (features_plain limit arcs (object_features o.1), dropped_plain limit arcs os) refl
-
 pub unprotected_is_simplified : UnprotectedIsSimplified
 unfolding spared_by spared_dropped spared_removed_count simplified_by dropped_by removed_count_by
 unprotected_is_simplified kept limit y = record {
   contents = ap trimmed (whole_plain kept limit y);
-  dropped = ap (dropped_of_layers 0) (dropped_plain limit _ y.objects);
+  dropped = ap (λ (small : Option TopoShape → List (Placed Cause)). dropped_of_layers 0 (map (λ o. map (λ f. small f.shape) (object_features o.1)) y.objects)) (fun_ext (option_plain limit (placed_arcs y.transform (retained_arcs kept y.arcs))));
   removed_count = ap (λ z. positions_of (keep_from (is_used z.objects) 0 y.arcs) - positions_of (trimmed z).arcs) (whole_plain kept limit y);
 }
 
@@ -129,6 +123,12 @@ guarded_indexes_reach rise no_crossings t y h = subst (λ kept. EachFromFirstToL
 pub guarded_is_valid : ArcsRise → GuardedIsValid
 guarded_is_valid rise no_crossings t limit y h = subst IsTopology (same_contents no_crossings t limit y) (is_valid rise no_crossings no_protection t limit y h)
 
+pub reduced_indexes_reach : UnguardedIndexLaw → ArcsRise → IndexesReach
+reduced_indexes_reach law rise t y h = subst (λ kept. EachFromFirstToLast kept y.arcs) (unguarded_indexes law t y) (guarded_indexes_reach rise false t y h)
+
+pub reduced_is_valid : UnguardedIndexLaw → ArcsRise → ReducedIsValid
+reduced_is_valid law rise t limit y h = subst IsTopology (unguarded_is_simplified law t limit y).contents (guarded_is_valid rise false t limit y h)
+
 pub guarded_keeps : GuardedKeeps
 guarded_keeps no_crossings t limit y = subst (λ z. (labels z ≡ labels y) × (z.transform ≡ y.transform)) (same_contents no_crossings t limit y) (keeps_labels no_crossings no_protection t limit y)
 
@@ -153,13 +153,10 @@ all_giving : {A B : Type 0} (Y : B → Type 0) (g : A → Option B) (xs : List A
 all_giving Y g [] h = tt
 all_giving {B = B} Y g (x ∷ xs) h = on (g x) refl h (all_giving Y g xs)
   where
-    same : (b c : B) → Some b ≡ Some c → b ≡ c
-    same b c e = cc
-
     on : (o : Option B) → g x ≡ o → AllByRecursion Y (with_some o (some_of g xs)) → (AllByRecursion Y (some_of g xs) → AllByRecursion (λ x. (b : B) → g x ≡ Some b → Y b) xs)
         → AllByRecursion (λ x. (b : B) → g x ≡ Some b → Y b) (x ∷ xs)
     on None e k f = ((λ b d. let z : None ≡ Some b = sym e ∙ d in cc), f k)
-    on (Some c) e k f = ((λ b d. subst Y (same c b (sym e ∙ d)) k.0), f k.1)
+    on (Some c) e k f = ((λ b d. subst Y (same_some c b (sym e ∙ d)) k.0), f k.1)
 
 pub each_to_made : {A B : Type 0} (R : B → A → Type 0) (g : A → B) (xs : List A) → AllByRecursion (λ x. R (g x) x) xs → EachTo R (map g xs) xs
 each_to_made R g [] h = tt
@@ -167,39 +164,15 @@ each_to_made R g (x ∷ xs) h = (h.0, each_to_made R g xs h.1)
 
 -- ---- features of objects
 
-abbrev features_of : List (List ℕ × TopoObject) → List TopoFeature
-features_of os = joined (map (λ o. object_features o.1) os)
-
-module _ (h : TopoFeature → TopoFeature) (of : TopoObject → TopoObject) (each : (o : TopoObject) → object_features (of o) ≡ map h (object_features o)) where
-  abbrev over : List (List ℕ × TopoObject) → List (List ℕ × TopoObject)
-  over os = map (λ o. (o.0, of o.1)) os
-
-  pub features_over : (os : List (List ℕ × TopoObject)) → features_of (over os) ≡ map h (features_of os)
-  features_over [] = refl
-  features_over (o ∷ os) = rw (each o.1, features_over os) (sym (map-append h (object_features o.1) (features_of os)))
-
-spared_features : (protects : Protection) (kept : MarkedRefs) (o : TopoObject) → object_features (object_spared protects kept o) ≡ map (feature_spared protects kept) (object_features o)
-spared_features protects kept (One f) = refl
-spared_features protects kept (Many fs) = refl
-
-renumbered_features : (used : ℕ → Bool) (o : TopoObject) → object_features (object_renumbered used o) ≡ map (feature_renumbered used) (object_features o)
-renumbered_features used (One f) = refl
-renumbered_features used (Many fs) = refl
-
 module _ (X : Bool × List ℤ → Type 0) where
   abbrev pub OfFeature : TopoFeature → Type 0
   OfFeature f = AllByRecursion X (option_lines_and_rings f.shape)
 
-  each_feature : (fs : List TopoFeature) → AllByRecursion X (features_lines_and_rings fs) → AllByRecursion OfFeature fs
-  each_feature [] h = tt
-  each_feature (f ∷ fs) h = (all_left X (option_lines_and_rings f.shape) (features_lines_and_rings fs) h, each_feature fs (all_right X (option_lines_and_rings f.shape) (features_lines_and_rings fs) h))
-
   pub each_of_objects : (os : List (List ℕ × TopoObject)) → AllByRecursion X (objects_lines_and_rings os) → AllByRecursion OfFeature (joined (map (λ o. object_features o.1) os))
-  each_of_objects [] h = tt
-  each_of_objects (o ∷ os) h =
-      all_append OfFeature (object_features o.1) (joined (map (λ o. object_features o.1) os))
-      (each_feature (object_features o.1) (all_left X (features_lines_and_rings (object_features o.1)) (objects_lines_and_rings os) h))
-      (each_of_objects os (all_right X (features_lines_and_rings (object_features o.1)) (objects_lines_and_rings os) h))
+  each_of_objects os h =
+      all_parts OfFeature (λ (o : List ℕ × TopoObject). object_features o.1) os
+      (all_weaker (λ o. AllByRecursion X (features_lines_and_rings (object_features o.1))) (λ o. AllByRecursion OfFeature (object_features o.1))
+      (λ o k. parts_all X (λ (f : TopoFeature). option_lines_and_rings f.shape) (object_features o.1) k) os (parts_all X (λ (o : List ℕ × TopoObject). features_lines_and_rings (object_features o.1)) os h))
 
 -- ---- shapes stay
 
@@ -215,12 +188,20 @@ pub protected_parts : (protects : Protection) (o : Option TopoShape) (refs : Lis
 protected_parts protects None refs h = cc
 protected_parts protects (Some s) refs h = on (protects s) refl h
   where
-    same : (a b : List ℤ) → Some a ≡ Some b → a ≡ b
-    same a b e = cc
-
     on : (r : Option (Placed (List ℤ))) → protects s ≡ r → map_some (λ x. x.part) r ≡ Some refs → Protects protects (Some s) refs
     on None e k = cc
-    on (Some x) e k = record { shape = s; has_shape = refl; ring = x; is_ring = e; refs_are = same x.part refs k }
+    on (Some x) e k = record { shape = s; has_shape = refl; ring = x; is_ring = e; refs_are = same_some x.part refs k }
+
+is_long_ring : (arcs : List (List Point)) (f : TopoFeature) (refs : List ℤ) → protected_of (greatest_ring arcs) f ≡ Some refs → is_long arcs refs ≡ true
+is_long_ring arcs f refs e =
+    let p : Protects (greatest_ring arcs) f.shape refs = protected_parts (greatest_ring arcs) f.shape refs e in
+    subst (λ rs. is_long arcs rs ≡ true) p.refs_are (greatest_is arcs p.shape p.ring p.is_ring).long
+
+pub are_long : (arcs : List (List Point)) (os : List (List ℕ × TopoObject)) → AllByRecursion (λ refs. is_long arcs refs ≡ true) (protected_rings (greatest_ring arcs) os)
+are_long arcs os =
+    let features : List TopoFeature = joined (map (λ o. object_features o.1) os) in
+    all_given (λ refs. is_long arcs refs ≡ true) (protected_of (greatest_ring arcs)) features
+    (all_hold (λ f. (refs : List ℤ) → protected_of (greatest_ring arcs) f ≡ Some refs → is_long arcs refs ≡ true) (is_long_ring arcs) features)
 
 module _ (stay : RingsStay) (no_crossings : Bool) (t limit : ℕ) (y : Contents) where
   abbrev protects : Protection
@@ -254,15 +235,8 @@ module _ (stay : RingsStay) (no_crossings : Bool) (t limit : ℕ) (y : Contents)
   abbrev LongIn : List (List Point) → List ℤ → Type 0
   LongIn arcs refs = is_long arcs refs ≡ true
 
-  long_at_first : (f : TopoFeature) → OfRing (LongIn (arc_positions y)) f
-  long_at_first f refs h =
-      let p : Protects protects f.shape refs = protected_parts protects f.shape refs h in
-      subst (LongIn (arc_positions y)) p.refs_are (greatest_is (arc_positions y) p.shape p.ring p.is_ring).long
-
   long_still : AllByRecursion (OfRing (LongIn all)) features
-  long_still =
-      all_giving (LongIn all) (protected_of protects) features
-      (stay no_crossings (protected_rings protects y.objects) t (arc_positions y) (all_given (LongIn (arc_positions y)) (protected_of protects) features (all_hold (OfRing (LongIn (arc_positions y))) long_at_first features)))
+  long_still = all_giving (LongIn all) (protected_of protects) features (stay no_crossings (protected_rings protects y.objects) t (arc_positions y) (are_long (arc_positions y) y.objects))
 
   -- the arcs of what is left of a feature are used
   abbrev IsUsedBy : TopoFeature → Type 0
@@ -271,7 +245,7 @@ module _ (stay : RingsStay) (no_crossings : Bool) (t limit : ℕ) (y : Contents)
   each_used : AllByRecursion IsUsedBy features
   each_used =
       all_of_map (OfFeature (AllUsed used)) (feature_spared protects spared) features
-      (subst (AllByRecursion (OfFeature (AllUsed used))) (features_over (feature_spared protects spared) (object_spared protects spared) (spared_features protects spared) y.objects)
+      (subst (AllByRecursion (OfFeature (AllUsed used))) (features_with (spared_shape protects spared) y.objects)
       (each_of_objects (AllUsed used) whole.objects (all_used whole.objects)))
 
   abbrev both : MarkedRefs
@@ -295,14 +269,15 @@ module _ (stay : RingsStay) (no_crossings : Bool) (t limit : ℕ) (y : Contents)
       ap (λ o. then_some (prune (λ c. c) (line_renumbered used)) (then_some (λ s. prune (λ c. c) spared (shape_marked protects s)) o)) p.has_shape
       ∙ ap (λ m. then_some (prune (λ c. c) (line_renumbered used)) (prune (λ c. c) spared m)) way
       ∙ composed (λ (c : Point). c) (λ c. c) spared (line_renumbered used) (marked p.shape (Some x.path)) ∙ second.is_left in
-      let all_are : AllUsed used (true, x.part) = each_of (AllUsed used) (lines_and_rings first.shape) (true, x.part) (subst (λ o. AllByRecursion (AllUsed used) (option_lines_and_rings o)) is_first uses) first.has.within in
+      let rings = rings_within (AllUsed used) first.shape (subst (λ o. AllByRecursion (AllUsed used) (option_lines_and_rings o)) is_first uses) in
+      let all_are : AllUsed used (true, x.part) = each_of (λ l. AllUsed used (true, l)) (map (λ z. z.part) (outer_rings first.shape)) x.part (all_map (λ l. AllUsed used (true, l)) (λ z. z.part) (outer_rings first.shape) rings) first.outer in
       let same : map (arc_at left) (map (renumbered used) x.part) ≡ map (arc_at all) x.part =
       ap (λ arcs. map (arc_at arcs) (map (renumbered used) x.part)) (arcs_are_reduced no_crossings protects t limit y) ∙ all_renumbered used all x.part all_are in
       record {
         shape = second.shape;
         has_shape = is_second;
         ring = map (renumbered used) x.part;
-        is_outer = second.has.outer;
+        is_outer = second.outer;
         is_same = same ∙ ap (map (arc_at all)) p.refs_are;
         is_long_ring = ap (λ pss. not (is_short true (clean (stitched pss)))) (same ∙ ap (map (arc_at all)) p.refs_are) ∙ long refs h;
       }
@@ -310,8 +285,8 @@ module _ (stay : RingsStay) (no_crossings : Bool) (t limit : ℕ) (y : Contents)
   features_left : all_features (protecting_contents no_crossings protects t limit y) ≡ map what_is_left features
   unfolding protecting_contents spared_by trimmed
   features_left =
-      features_over (feature_renumbered used) (object_renumbered used) (renumbered_features used) whole.objects
-      ∙ ap (map (feature_renumbered used)) (features_over (feature_spared protects spared) (object_spared protects spared) (spared_features protects spared) y.objects)
+      features_with (pruned_shape (λ p. p) (line_renumbered used)) whole.objects
+      ∙ ap (map (feature_renumbered used)) (features_with (spared_shape protects spared) y.objects)
       ∙ map-map (feature_renumbered used) (feature_spared protects spared) features
 
   abbrev KeepsRing : TopoFeature → TopoFeature → Type 0

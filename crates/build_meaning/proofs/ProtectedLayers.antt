@@ -1,12 +1,13 @@
 -- What is built of layers at zero and then reduced at once, where of each feature the ring that encloses most is protected, is what is
 -- assembled of them.
-use Rattle.std.proofs.Common.{arith, ◌≡◌, ℕ, ◌≤◌, ℤ, Bool, true, false, cond, List, [], ◌∷◌, ◌++◌, map, length, Option, None, Some, refl, sym, ap, ◌∙◌, subst, map-id}
-use Rattle.build_meaning.proofs.SimplifiedNames.{map-append, AllByRecursion, all_append, all_left, all_right, all_two, all_weaker, agreed, joined, map_some, then_some, some_of, Point, prune, lines_and_rings, option_lines_and_rings, Collapsed, Shape, Featured, clean, is_short, Stroke, linework, TopoShape, Contents, object_features, TopoFeature, TopoObject, Many, sub_all, EndsStay, NoneIsNew, ZeroLaw, reduce_arcs, is_long, guarded_by, ArcsRise, Line, untrimmed_is_valid, each_stays, loses_nothing, kept_refs, untrimmed, built, unless, AreSound, feature_by, features_by, objects_by}
-use Rattle.build_meaning.proofs.SimplifiedNames.{is_used, keep_from, renumbered, trimmed, arcs_of_layers, own_refs, EachCell, arc_positions, spread, marked, enclosed, greatest_ring, protected_of, protected_rings, MarkedRefs, sparing, shape_marked, feature_spared, objects_spared, spared_by, spared_removed_count, protecting_indexes, protecting_contents, protecting_removed_count, drafted_refs, greatest_of_layers, ring_refs, layers_rings, layer_shape_marked, protecting_arc_indexes, unprotected_refs, feature_sparing, assembled_sparing, assembled_sparing_removed_count, greatest_rings, SparingIsOfLayers, BuiltRingsAreOfLayers, ProtectingArcIndexesAreOfLayers, ProtectingIsAssembled, ProtectingArcIndexesReach, AssembledSparingIsValid, AssembledSparingIsOn, IsOn, named_points, quantized, small_cause, large_refs, retained_arcs, EachFromFirstToLast}
-use Rattle.build_meaning.specs.Layers.{Named, layers_of, features_lines_and_rings, named_lines_and_rings}
+use Rattle.std.proofs.Common.{arith, ◌≡◌, ℕ, ℤ, Bool, true, false, cond, List, [], ◌∷◌, map, Option, None, Some, refl, sym, ap, ◌∙◌, subst, map-id}
+use Rattle.geojson_types.specs.declared.layer.Layer.{Layer}
+use Rattle.topojson_types.proofs.Parts.{parts_all}
+use Rattle.build_meaning.proofs.Reshaped.{made_parts}
+use Rattle.build_meaning.proofs.Names.{AllByRecursion, all_left, all_right, all_two, all_weaker, agreed, joined, map_some, then_some, some_of, Point, prune, lines_and_rings, option_lines_and_rings, Collapsed, Shape, Featured, clean, is_short, Stroke, linework, TopoShape, Contents, object_features, TopoFeature, TopoObject, Many, EndsStay, NoneIsNew, ZeroLaw, reduce_arcs, is_long, guarded_by, ArcsRise, kept_refs, untrimmed, built, unless, feature_by, features_by, objects_by, is_used, renumbered, trimmed, arcs_of_layers, own_refs, EachCell, arc_positions, spread, marked, enclosed, greatest_ring, protected_of, protected_rings, MarkedRefs, sparing, shape_marked, feature_spared, objects_spared, spared_by, spared_removed_count, protecting_indexes, protecting_contents, protecting_removed_count, drafted_refs, greatest_of_layers, ring_refs, layers_rings, layer_shape_marked, unprotected_refs, feature_sparing, assembled_sparing, assembled_sparing_removed_count, greatest_rings, SparingIsOfLayers, BuiltRingsAreOfLayers, ProtectingArcIndexesAreOfLayers, ProtectingIsAssembled, ProtectingArcIndexesReach, AssembledSparingIsValid, AssembledSparingIsOn, IsOn, named_points, quantized, small_cause, large_refs, retained_arcs, EachFromFirstToLast, Named, layers_of, named_lines_and_rings, all_parts}
 use Rattle.build_meaning.proofs.GreatestLeft.{way_of, ring_in, RingAgrees, ring_left, spared_left}
-use Rattle.build_meaning.proofs.Guarded.{each_through, sub_left}
-use Rattle.build_meaning.proofs.GuardedLayers.{spread_through, layers_long, built_arcs, built_positions}
+use Rattle.build_meaning.proofs.GuardedLayers.{built_arcs, built_positions, built_through, arc_indexes_reach}
+use Rattle.build_meaning.proofs.Linework.{Line}
 use Rattle.build_meaning.proofs.MarkedRing.{MarkPasses, marks_pass}
 use Rattle.build_meaning.proofs.Marks.{without_mark}
 use Rattle.build_meaning.proofs.OnGrid.{built_on}
@@ -14,8 +15,11 @@ use Rattle.build_meaning.proofs.RingsAlike.{as_it_is, all_marked, rings_made}
 use Rattle.build_meaning.proofs.ShapesLeft.{keeping_mark}
 use Rattle.build_meaning.proofs.Simplified.{IsWholeAtZero, no_small}
 use Rattle.build_meaning.proofs.SparedAlike.{trimmed_rings, trimmed_first, protecting_on_grid}
-use Rattle.build_meaning.proofs.SparedLeft.{spared_cells}
+use Rattle.build_meaning.proofs.Left.{spared_cells}
 use Rattle.build_meaning.proofs.ValidSimplified.{spared_is_valid}
+use Rattle.build_meaning.proofs.ValidUntrimmed.{untrimmed_is_valid}
+use Rattle.build_meaning.proofs.Whole.{each_stays, loses_nothing}
+use Rattle.build_meaning.specs.Layers.{features_lines_and_rings}
 
 -- ---- lines and rings of layers
 
@@ -81,24 +85,20 @@ module _ (ls : Named) where
   ring_of_layer (Some s) h = ring_left place refs_at_zero size long size_after long_after s (all_agree s h) (drafted_refs lines true) (by_short true)
 
   pub features_of_layers : (ms : Named) → joined (map (λ o. object_features o.1) (objects_by refs_at_zero ms)) ≡ map (feature_by refs_at_zero) (joined (map (λ l. l.1.features) ms))
-  features_of_layers [] = refl
-  features_of_layers (m ∷ ms) =
-      ap (λ fs. features_by refs_at_zero m.1.features ++ fs) (features_of_layers ms) ∙ sym (map-append (feature_by refs_at_zero) m.1.features (joined (map (λ l. l.1.features) ms)))
+  features_of_layers ms =
+      made_parts (λ (l : List ℕ × Layer). l.1.features) (λ (o : List ℕ × TopoObject). object_features o.1) (λ l. (l.0, Many (features_by refs_at_zero l.1.features))) (feature_by refs_at_zero) (λ l. refl) ms
 
   abbrev pub IsWholeFeature : Featured → Type 0
   IsWholeFeature f = AllWhole (option_lines_and_rings f.shape)
 
   each_feature : (fs : List Featured) → AllWhole (features_lines_and_rings fs) → AllByRecursion IsWholeFeature fs
-  each_feature [] h = tt
-  each_feature (f ∷ fs) h =
-      (all_left (IsWholeAtZero lines) (option_lines_and_rings f.shape) (features_lines_and_rings fs) h, each_feature fs (all_right (IsWholeAtZero lines) (option_lines_and_rings f.shape) (features_lines_and_rings fs) h))
+  each_feature fs h = parts_all (IsWholeAtZero lines) (λ (f : Featured). option_lines_and_rings f.shape) fs h
 
   pub each_layer : (ms : Named) → AllWhole (named_lines_and_rings ms) → AllByRecursion IsWholeFeature (joined (map (λ l. l.1.features) ms))
-  each_layer [] h = tt
-  each_layer (m ∷ ms) h =
-      all_append IsWholeFeature m.1.features (joined (map (λ l. l.1.features) ms))
-      (each_feature m.1.features (all_left (IsWholeAtZero lines) (features_lines_and_rings m.1.features) (named_lines_and_rings ms) h))
-      (each_layer ms (all_right (IsWholeAtZero lines) (features_lines_and_rings m.1.features) (named_lines_and_rings ms) h))
+  each_layer ms h =
+      all_parts IsWholeFeature (λ (l : List ℕ × Layer). l.1.features) ms
+      (all_weaker (λ l. AllWhole (features_lines_and_rings l.1.features)) (λ l. AllByRecursion IsWholeFeature l.1.features) (λ l k. each_feature l.1.features k) ms
+      (parts_all (IsWholeAtZero lines) (λ (l : List ℕ × Layer). features_lines_and_rings l.1.features) ms h))
 
   -- the protected rings of the layers over all their arcs
   pub rings_of_layers : AllByRecursion (IsWholeAtZero (linework (layers_of ls))) (named_lines_and_rings ls)
@@ -195,26 +195,6 @@ built_rings zero ls sound =
     ∙ ap (λ xs. map (map (renumbered (is_used whole.objects))) (protected_rings (greatest_ring xs) whole.objects)) (each_stays zero (arcs_of_layers ls))
     ∙ ap (map (map (renumbered (is_used whole.objects)))) (rings_of_layers ls (loses_nothing zero ls sound))
 
-module _ (zero : ZeroLaw) (rise : ArcsRise) (no_crossings : Bool) (t : ℕ) (ls : Named) (sound : AreSound ls) where
-  abbrev used : ℕ → Bool
-  used = is_used (untrimmed 0 0 ls).objects
-
-  abbrev IsLong : List Point → Type 0
-  IsLong ps = 2 ≤ length ps
-
-  abbrev indexes : List (List ℕ)
-  indexes = protecting_indexes no_crossings (greatest_rings (built 0 0 ls)) t (built 0 0 ls)
-
-  through : EachFromFirstToLast indexes (keep_from used 0 (arcs_of_layers ls))
-  through =
-      subst (EachFromFirstToLast indexes) (built_positions ls ∙ built_arcs ls zero)
-      (each_through indexes (arc_positions (built 0 0 ls))
-      (rise (guarded_by no_crossings (protected_rings (greatest_rings (built 0 0 ls)) (built 0 0 ls).objects)) t (arc_positions (built 0 0 ls)))
-      (subst (AllByRecursion IsLong) (sym (built_positions ls ∙ built_arcs ls zero)) (sub_all IsLong (sub_left used 0 (arcs_of_layers ls)) (layers_long ls sound))))
-
-  pub arc_indexes_reach : EachFromFirstToLast (protecting_arc_indexes no_crossings t ls) (arcs_of_layers ls)
-  arc_indexes_reach = spread_through used 0 indexes (arcs_of_layers ls) (layers_long ls sound) through
-
 pub arc_indexes_are : ZeroLaw → ProtectingArcIndexesAreOfLayers
 arc_indexes_are zero no_crossings t ls sound =
     let used : ℕ → Bool = is_used (untrimmed 0 0 ls).objects in
@@ -222,7 +202,8 @@ arc_indexes_are zero no_crossings t ls sound =
     ∙ ap (λ arcs. spread used 0 (reduce_arcs (guarded_by no_crossings (map (map (renumbered used)) (layers_rings ls))) t arcs) (arcs_of_layers ls)) (built_positions ls ∙ built_arcs ls zero)
 
 pub arc_indexes_through : ZeroLaw → ArcsRise → ProtectingArcIndexesReach
-arc_indexes_through zero rise no_crossings t ls sound = arc_indexes_reach zero rise no_crossings t ls sound
+arc_indexes_through zero rise no_crossings t ls sound =
+    arc_indexes_reach ls zero rise no_crossings (protected_rings (greatest_rings (built 0 0 ls)) (built 0 0 ls).objects) t sound
 
 pub is_assembled : NoneIsNew → ZeroLaw → ArcsRise → ProtectingIsAssembled
 unfolding protecting_contents protecting_removed_count assembled_sparing assembled_sparing_removed_count built trimmed
@@ -232,7 +213,7 @@ is_assembled none zero rise no_crossings g t limit ls on sound =
     let kept : List (List ℕ) = protecting_indexes no_crossings (greatest_rings (trimmed whole)) t (trimmed whole) in
     let stays : whole.arcs ≡ arcs_of_layers ls = each_stays zero (arcs_of_layers ls) in
     let on_grid = protecting_on_grid no_crossings g t limit (built 0 0 ls) on.0 refl (built_on none g 0 0 ls on) in
-    let alike = trimmed_first kept limit whole (subst (EachFromFirstToLast kept) (sym (built_arcs ls zero)) (through zero rise no_crossings t ls sound)) in
+    let alike = trimmed_first kept limit whole (subst (EachFromFirstToLast kept) (sym (built_arcs ls zero)) (built_through ls zero rise no_crossings (protected_rings (greatest_rings (built 0 0 ls)) (built 0 0 ls).objects) t sound)) in
     record {
       contents =
           on_grid.contents

@@ -1,18 +1,12 @@
 -- Worked rows of layers in which of each feature the ring that encloses most is protected, computed from the definitions. The fold of a shape
 -- is opened by its kind.
-use Rattle.std.proofs.Common.{◌≡◌, ℕ, ◌+◌, pos, Bool, true, false, List, [], ◌∷◌, map, Option, None, Some, refl, ap, ◌∙◌}
-use Rattle.build_meaning.proofs.SimplifiedNames.{drop_causes-areas, shoelace, area_drop_causes, drop_causes, dropped_of_layers, map_some, with_some, Placed, of_parts, Point, same, Cause, Collapsed, Small, Outer, Shape, Stroke, placed_lines_and_rings_at, linework, all_arcs, marked, drafted_refs, greatest_of_layers, layers_rings, unprotected_cause, unprotected_cause_by, assembled_sparing_dropped, retained_arcs}
+use Rattle.std.proofs.Common.{◌≡◌, ℕ, pos, Bool, true, false, List, [], ◌∷◌, map, Option, None, Some, refl, ap, ◌∙◌}
+use Rattle.build_meaning.proofs.Names.{drop_causes-areas, shoelace, area_drop_causes, drop_causes, dropped_of_layers, map_some, with_some, Placed, of_parts, Point, same, Cause, Collapsed, Small, Outer, Shape, Stroke, placed_lines_and_rings_at, linework, all_arcs, marked, drafted_refs, greatest_of_layers, layers_rings, unprotected_cause, unprotected_cause_by, assembled_sparing_dropped, retained_arcs, Named, layers_of}
 use Rattle.geometry.specs.declared.address.Dropped.{Dropped}
-use Rattle.geometry.specs.declared.shape.Geometry.TheVariants as g
-use Rattle.build_meaning.specs.Layers.{Named, layers_of}
 use Rattle.build_meaning.proofs.Marks.{outer_rings_at, marked-areas}
-
-abbrev at : ℕ → ℕ → Point
-at x y = record { x = pos x; y = pos y }
-
--- a triangle with legs of this length
-abbrev triangle : ℕ → ℕ → ℕ → List Point
-triangle x y side = at x y ∷ (at (x + side) y ∷ (at x (y + side) ∷ (at x y ∷ [])))
+use Rattle.geometry.specs.declared.shape.Geometry.TheVariants as g
+use Rattle.build_meaning.proofs.SimplifiedRows.{at}
+use Rattle.build_meaning.proofs.ProtectedRows.{triangle}
 
 -- ---- three polygons: the outer ring of the first is one position, and it has a hole; the third is greater than the second
 

@@ -1,30 +1,11 @@
 -- What holds of the rings of a topology holds of those of them that are protected.
 use Rattle.std.proofs.Common.{◌≡◌, ℕ, ℤ, Bool, true, List, ◌∷◌, map, length, Option, None, Some, inl, refl, sym, subst}
-use Rattle.std.specs.List.{AllByRecursion}
-use Rattle.std.proofs.lemmas.List.{length-map}
-use Rattle.geometry.specs.Joins.{AreInRange, Meet, arc_at}
-use Rattle.geometry.specs.Lists.{In, joined}
-use Rattle.geometry.specs.Points.{Point}
-use Rattle.geometry.specs.Pruning.{option_lines_and_rings}
-use Rattle.guarded_meaning.specs.Guards.{is_long}
-use Rattle.owned_values.proofs.Elements.{all_weaker, each_of}
-use Rattle.owned_values.proofs.Members.{in_right}
-use Rattle.topojson_types.specs.declared.feature.TopoFeature.{TopoFeature}
-use Rattle.topojson_types.specs.declared.object.TopoObject.{TopoObject}
-use Rattle.topojson_types.specs.declared.transform.Transform.{Transform}
-use Rattle.topojson_types.specs.Decoding.{placed_arcs}
-use Rattle.topojson_types.specs.Topologies.{object_features, objects_lines_and_rings}
-use Rattle.topojson_types.specs.Transforms.{place_on}
-use Rattle.topojson_types.specs.Validity.{IsJoined}
-use Rattle.build_meaning.specs.Guarded.{arc_positions}
-use Rattle.build_meaning.specs.OuterRings.{outer_rings}
-use Rattle.build_meaning.specs.Protected.{greatest_ring, protected_of, protected_rings}
-use Rattle.build_meaning.specs.ProtectedRings.{ProtectedRingsCanStay}
-use Rattle.build_meaning.proofs.Again.{all_hold}
+use Rattle.build_meaning.proofs.Names.{AllByRecursion, length-map, AreInRange, Meet, arc_at, In, joined, Point, option_lines_and_rings, all_weaker, each_of, in_right, TopoFeature, TopoObject, Transform, placed_arcs, object_features, objects_lines_and_rings, place_on, IsJoined, arc_positions, outer_rings, greatest_ring, protected_of, protected_rings}
 use Rattle.build_meaning.proofs.Greatest.{greatest_is}
 use Rattle.build_meaning.proofs.GreatestLeft.{rings_within}
-use Rattle.build_meaning.proofs.Protected.{OfFeature, Protects, all_given, each_of_objects, protected_parts}
+use Rattle.build_meaning.proofs.Protected.{are_long, OfFeature, Protects, all_given, each_of_objects, protected_parts}
 use Rattle.build_meaning.proofs.ValidCelled.{line_map, meet_map}
+use Rattle.build_meaning.specs.ProtectedRings.{ProtectedRingsCanStay}
 
 -- ---- the protected ring of a feature
 
@@ -56,18 +37,6 @@ placed_meet None arcs refs h = h
 placed_meet (Some t) arcs refs h = subst Meet (sym (line_map (place_on t) arcs refs)) (meet_map (place_on t) (map (arc_at arcs) refs) h)
 
 -- ---- what the reduction asks of rings
-
-module _ (arcs : List (List Point)) where
-  is_long_ring : (f : TopoFeature) (refs : List ℤ) → protected_of (greatest_ring arcs) f ≡ Some refs → is_long arcs refs ≡ true
-  is_long_ring f refs e =
-      let p : Protects (greatest_ring arcs) f.shape refs = protected_parts (greatest_ring arcs) f.shape refs e in
-      subst (λ rs. is_long arcs rs ≡ true) p.refs_are (greatest_is arcs p.shape p.ring p.is_ring).long
-
-  are_long : (os : List (List ℕ × TopoObject)) → AllByRecursion (λ refs. is_long arcs refs ≡ true) (protected_rings (greatest_ring arcs) os)
-  are_long os =
-      let features : List TopoFeature = joined (map (λ o. object_features o.1) os) in
-      all_given (λ refs. is_long arcs refs ≡ true) (protected_of (greatest_ring arcs)) features
-      (all_hold (λ f. (refs : List ℤ) → protected_of (greatest_ring arcs) f ≡ Some refs → is_long arcs refs ≡ true) is_long_ring features)
 
 pub can_stay : ProtectedRingsCanStay
 can_stay y h =

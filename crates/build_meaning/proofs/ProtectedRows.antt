@@ -1,23 +1,19 @@
 -- Worked rows of topologies in which rings are protected, in whole units, computed from the definitions. The fold of a shape is opened by
 -- its kind.
 use Rattle.std.proofs.Common.{◌≡◌, ℕ, ◌+◌, ℤ, pos, negsuc, true, false, List, [], ◌∷◌, None, Some, refl, ap, ◌∙◌}
-use Rattle.build_meaning.proofs.SimplifiedNames.{drop_causes-area, drop_causes-areas, cross, twice_area, shoelace, number_of, Placed, Point, same, Small, TopoShape, Contents, TopoFeature, TopoObject, Many, reduce_arcs, goes_before, keeps_rings, guarded_by, outer_rings, marked, greatest_ring, protected_rings, protecting_indexes, sparing, objects_spared, spared_dropped, large_refs}
-use Rattle.geometry.specs.declared.shape.Geometry.TheVariants as g
+use Rattle.build_meaning.proofs.Names.{drop_causes-area, drop_causes-areas, cross, twice_area, shoelace, number_of, Placed, Point, same, Small, TopoShape, Contents, TopoFeature, reduce_arcs, goes_before, keeps_rings, guarded_by, outer_rings, marked, greatest_ring, protected_rings, protecting_indexes, sparing, objects_spared, spared_dropped, large_refs}
 use Rattle.build_meaning.proofs.Assembled.{contents}
 use Rattle.build_meaning.proofs.Marks.{outer_rings_at, marked-line, marked-area, marked-areas, marked-group, left-area, left-areas}
-
-abbrev at : ℕ → ℕ → Point
-at x y = record { x = pos x; y = pos y }
+use Rattle.geometry.specs.declared.shape.Geometry.TheVariants as g
+use Rattle.build_meaning.proofs.SimplifiedRows.{at}
+use Rattle.build_meaning.proofs.GuardedRows.{layer}
 
 -- a triangle with legs of this length
-abbrev triangle : ℕ → ℕ → ℕ → List Point
+abbrev pub triangle : ℕ → ℕ → ℕ → List Point
 triangle x y side = at x y ∷ (at (x + side) y ∷ (at x (y + side) ∷ (at x y ∷ [])))
 
 abbrev feature : TopoShape → TopoFeature
 feature s = record { id = None; properties = None; shape = Some s }
-
-abbrev layer : List TopoFeature → List (List ℕ × TopoObject)
-layer fs = ((97 ∷ []), Many fs) ∷ []
 
 abbrev ring : ℕ → List ℤ
 ring k = pos k ∷ []

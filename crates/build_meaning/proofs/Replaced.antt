@@ -1,6 +1,6 @@
 -- Where each line and ring is replaced and none is left out, the lines and rings are those that stand for them.
 use Rattle.std.proofs.Common.{arith, ◌≡◌, Bool, true, false, List, [], ◌∷◌, ◌++◌, map, Option, Some, refl, sym, ap, ◌∙◌}
-use Rattle.build_meaning.proofs.SimplifiedNames.{map-append, AllByRecursion, prune-point, prune-points, prune-line, prune-lines, prune-area, prune-areas, prune-group, lines_and_rings-point, lines_and_rings-points, lines_and_rings-line, lines_and_rings-lines, lines_and_rings-area, lines_and_rings-areas, lines_and_rings-group, by_kinds, map_some, with_some, some_of, unless_empty, joined, area_by, prune, lines_and_rings, option_lines_and_rings, Geometry}
+use Rattle.build_meaning.proofs.Names.{map-append, AllByRecursion, prune-point, prune-points, prune-line, prune-lines, prune-area, prune-areas, prune-group, lines_and_rings-point, lines_and_rings-points, lines_and_rings-line, lines_and_rings-lines, lines_and_rings-area, lines_and_rings-areas, lines_and_rings-group, by_kinds, map_some, with_some, some_of, unless_empty, joined, area_by, prune, lines_and_rings, option_lines_and_rings, Geometry}
 use Rattle.geometry.specs.declared.shape.Geometry.TheVariants as g
 
 module _ {P Q L M : Type 0} (place : P → Q) (f : L → M) where

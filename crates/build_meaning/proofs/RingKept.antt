@@ -1,177 +1,109 @@
 -- A ring that has a mark is among the outer rings of what is left of the shape, where what is given for a marked ring is made of it.
-use Rattle.std.proofs.Common.{arith, ◌≡◌, ◌==◌, ℕ, suc, Bool, true, false, List, [], ◌∷◌, map, Option, None, Some, cond, ◌⊎◌, inl, inr, refl, sym, ap, ◌∙◌, subst}
-use Rattle.build_meaning.proofs.SimplifiedNames.{nat_tests, map-append, AllByRecursion, in_left, in_right, in_append, lines_and_rings_at, by_kinds, map_some, with_some, some_of, unless_empty, joined, In, Placed, inside_part, of_parts, area_by, prune, lines_and_rings, Geometry, from_map, outer_ring, outer_rings, into_part, along, rings_marked, marked}
+use Rattle.std.proofs.Common.{◌≡◌, ℕ, suc, Bool, true, false, List, [], ◌∷◌, map, Option, None, Some, refl, sym, ap, subst, ◌∙◌, inl, inr, ◌++◌}
+use Rattle.build_meaning.proofs.Names.{map-append, AllByRecursion, by_kinds, with_some, some_of, In, Placed, inside_part, of_parts, prune, Geometry, outer_ring, outer_rings, into_part, ends_here, along, rings_marked, marked}
+use Rattle.junctions.proofs.Members.{in_map}
 use Rattle.geometry.specs.declared.shape.Geometry.TheVariants as g
-use Rattle.build_meaning.proofs.Marks.{outer_rings_at, left-area, left-areas, left-group}
+use Rattle.build_meaning.proofs.Marks.{marked_at, outer_rings_at, marked-line, marked-lines, marked-area, marked-areas, marked-group}
+use Rattle.build_meaning.proofs.MarksLeft.{Follows, nothing, made, left_out, into_here}
+use Rattle.build_meaning.proofs.ShapesLeft.{rings_left, stays}
 
--- ---- lists
+-- ---- the outer rings of a marked shape
 
-pub in_joined : {X Y : Type 0} (f : X → List Y) (y : Y) (x : X) (xs : List X) → In x xs → In y (f x) → In y (joined (map f xs))
-in_joined f y x [] k h = elim k [ ]
-in_joined f y x (z ∷ xs) (inl e) h = in_left y (f z) (joined (map f xs)) (subst (λ w. In y (f w)) e h)
-in_joined f y x (z ∷ xs) (inr k) h = in_right y (f z) (joined (map f xs)) (in_joined f y x xs k h)
+-- the way leads to the polygon of this path
+abbrev leads : List ℕ → Option (List ℕ) → Bool
+leads [] way = ends_here way
+leads (i ∷ path) way = leads path (into_part i way)
 
-in_with : {X : Type 0} (x : X) (o : Option X) (xs : List X) → In x xs → In x (with_some o xs)
-in_with x None xs k = k
-in_with x (Some y) xs k = inr k
+leads_there : (path : List ℕ) → leads path (Some path) ≡ true
+leads_there [] = refl
+leads_there (i ∷ path) = ap (leads path) (into_here i path) ∙ leads_there path
 
-is_same : (i : ℕ) → (i == i) ≡ true
-is_same i = grind (arith, nat_tests)
+-- with a mark where the way leads to it
+abbrev with_mark : {L : Type 0} → Option (List ℕ) → Placed L → Placed (Bool × L)
+with_mark way x = record { path = x.path; part = (leads x.path way, x.part) }
 
--- the way leads into the part of this number
-pub into_here : (i : ℕ) (way : List ℕ) → into_part i (Some (i ∷ way)) ≡ Some way
-into_here i way = ap (λ b. cond b (Some way) None) (is_same i)
+inside_marked : {L : Type 0} (i : ℕ) (way : Option (List ℕ)) (xs : List (Placed L)) → inside_part i (map (with_mark (into_part i way)) xs) ≡ map (with_mark way) (inside_part i xs)
+inside_marked i way [] = refl
+inside_marked i way (x ∷ xs) = ap (λ ys. with_mark way (record { path = i ∷ x.path; part = x.part }) ∷ ys) (inside_marked i way xs)
 
--- ---- parts and the ways to them
+module _ {A B L : Type 0} (mark : A → Option (List ℕ) → B) (rings : A → List (Placed L)) (rings_after : B → List (Placed (Bool × L))) where
+  abbrev pub HasMarks : A → Type 0
+  HasMarks a = (way : Option (List ℕ)) → rings_after (mark a way) ≡ map (with_mark way) (rings a)
 
-abbrev pub parts : {A : Type 0} → List (Placed A) → List A
+  pub parts_marked : (i : ℕ) (xs : List A) (way : Option (List ℕ)) → AllByRecursion HasMarks xs → of_parts i (map rings_after (along mark i xs way)) ≡ map (with_mark way) (of_parts i (map rings xs))
+  parts_marked i [] way all = refl
+  parts_marked i (a ∷ xs) way all =
+      ap (λ ys. inside_part i ys ++ of_parts (suc i) (map rings_after (along mark (suc i) xs way))) (all.0 (into_part i way))
+      ∙ ap (λ ys. inside_part i (map (with_mark (into_part i way)) (rings a)) ++ ys) (parts_marked (suc i) xs way all.1)
+      ∙ ap (λ ys. ys ++ map (with_mark way) (of_parts (suc i) (map rings xs))) (inside_marked i way (rings a))
+      ∙ sym (map-append (with_mark way) (inside_part i (rings a)) (of_parts (suc i) (map rings xs)))
+
+module _ {L : Type 0} where
+  polygon_marked : (rs : List L) (way : Option (List ℕ)) → outer_ring (rings_marked rs way) ≡ map (with_mark way) (outer_ring rs)
+  polygon_marked [] way = refl
+  polygon_marked (o ∷ holes) way = refl
+
+  polygons_marked : (areas : List (List L)) → AllByRecursion (HasMarks rings_marked outer_ring outer_ring) areas
+  polygons_marked [] = tt
+  polygons_marked (rs ∷ areas) = (polygon_marked rs, polygons_marked areas)
+
+module _ {P L : Type 0} where
+  abbrev Marked : Geometry P L L → Type 0
+  Marked = HasMarks marked outer_rings outer_rings
+
+  none_marked : (s : Geometry P L L) (way : Option (List ℕ)) → outer_rings (marked s way) ≡ [] → outer_rings s ≡ [] → outer_rings (marked s way) ≡ map (with_mark way) (outer_rings s)
+  none_marked s way e f = e ∙ sym (ap (map (with_mark way)) f)
+
+  pub rings_of_marked : (s : Geometry P L L) → Marked s
+  rings_of_marked = by_kinds Marked (record {
+    point = λ p way. none_marked (g.Point p) way (ap (λ f. outer_rings (f way)) ((marked_at P L).point p) ∙ (outer_rings_at P (Bool × L)).point p) ((outer_rings_at P L).point p);
+    points = λ ps way. none_marked (g.MultiPoint ps) way (ap (λ f. outer_rings (f way)) ((marked_at P L).points ps) ∙ (outer_rings_at P (Bool × L)).points ps) ((outer_rings_at P L).points ps);
+    line = λ l way. none_marked (g.Line l) way (ap outer_rings (marked-line l way) ∙ (outer_rings_at P (Bool × L)).line (false, l)) ((outer_rings_at P L).line l);
+    lines = λ ls way. none_marked (g.Lines ls) way (ap outer_rings (marked-lines ls way) ∙ (outer_rings_at P (Bool × L)).lines (map (λ l. (false, l)) ls)) ((outer_rings_at P L).lines ls);
+    area = λ rs way. ap outer_rings (marked-area rs way) ∙ (outer_rings_at P (Bool × L)).area (rings_marked rs way) ∙ polygon_marked rs way ∙ sym (ap (map (with_mark way)) ((outer_rings_at P L).area rs));
+    areas = λ areas way. ap outer_rings (marked-areas areas way) ∙ (outer_rings_at P (Bool × L)).areas (along rings_marked 0 areas way)
+        ∙ parts_marked rings_marked outer_ring outer_ring 0 areas way (polygons_marked areas) ∙ sym (ap (map (with_mark way)) ((outer_rings_at P L).areas areas));
+    group = λ ss all way. ap outer_rings (marked-group ss way) ∙ (outer_rings_at P (Bool × L)).group (along marked 0 ss way)
+        ∙ parts_marked marked outer_rings outer_rings 0 ss way all ∙ sym (ap (map (with_mark way)) ((outer_rings_at P L).group ss));
+  })
+
+-- ---- what is left
+
+abbrev parts : {A : Type 0} → List (Placed A) → List A
 parts xs = map (λ x. x.part) xs
 
-inside_parts : {A : Type 0} (i : ℕ) (xs : List (Placed A)) → parts (inside_part i xs) ≡ parts xs
-inside_parts i [] = refl
-inside_parts i (x ∷ xs) = ap (λ ps. x.part ∷ ps) (inside_parts i xs)
+followed : {L M : Type 0} (kept : L → Option M) (T : List ℕ → List ℕ → Type 0) {xs : List (Placed L)} {ys : List (Placed M)} → Follows kept T xs ys → some_of kept (parts xs) ≡ parts ys
+followed kept T nothing = refl
+followed kept T (made {x} {y} {xs} {ys} e t h) = ap (λ o. with_some o (some_of kept (parts xs))) e ∙ ap (λ ms. y.part ∷ ms) (followed kept T h)
+followed kept T (left_out {x} {xs} {ys} e h) = ap (λ o. with_some o (some_of kept (parts xs))) e ∙ followed kept T h
 
-in_parts : {A B : Type 0} (f : B → List (Placed A)) (l : A) (i : ℕ) (y : B) (ys : List B) → In y ys → In l (parts (f y)) → In l (parts (of_parts i (map f ys)))
-in_parts f l i y [] k h = elim k [ ]
-in_parts f l i y (z ∷ ys) (inl e) h =
-    subst (In l) (sym (map-append (λ x. x.part) (inside_part i (f z)) (of_parts (suc i) (map f ys))))
-    (in_left l (parts (inside_part i (f z))) (parts (of_parts (suc i) (map f ys))) (subst (In l) (sym (inside_parts i (f z))) (subst (λ w. In l (parts (f w))) e h)))
-in_parts f l i y (z ∷ ys) (inr k) h =
-    subst (In l) (sym (map-append (λ x. x.part) (inside_part i (f z)) (of_parts (suc i) (map f ys))))
-    (in_right l (parts (inside_part i (f z))) (parts (of_parts (suc i) (map f ys))) (in_parts f l (suc i) y ys k h))
+in_some : {A B : Type 0} (kept : A → Option B) (a : A) (b : B) (xs : List A) → kept a ≡ Some b → In a xs → In b (some_of kept xs)
+in_some kept a b [] e k = elim k [ ]
+in_some kept a b (z ∷ xs) e (inl p) = subst (λ o. In b (with_some o (some_of kept xs))) (sym (ap kept (sym p) ∙ e)) (inl refl)
+in_some {B = B} kept a b (z ∷ xs) e (inr k) = on (kept z) (in_some kept a b xs e k)
+  where
+    on : (o : Option B) → In b (some_of kept xs) → In b (with_some o (some_of kept xs))
+    on None m = m
+    on (Some c) m = inr m
 
-module _ {P Q L M : Type 0} (place : P → Q) (kept : Bool → Bool × L → Option M) (made : L → M) (stays : (l : L) → kept true (true, l) ≡ Some (made l)) where
-  abbrev left : Geometry P L L → List ℕ → Option (Geometry Q M M)
-  left s way = prune place kept (marked s (Some way))
-
-  abbrev rings_left : List L → Option (List ℕ) → Option (List M)
-  rings_left rs way = area_by (kept true) (rings_marked rs way)
-
-  -- what is left has a ring made of it, as an outer ring
-  pub record Has (l : L) (t : Geometry Q M M) : Type 0 where
-    pub outer : In (made l) (parts (outer_rings t))
-    pub within : In (true, made l) (lines_and_rings t)
-
+module _ {P Q L M : Type 0} (place : P → Q) (kept : Bool → Bool × L → Option M) (make : L → M) (stays_marked : (l : L) → kept true (true, l) ≡ Some (make l)) where
   pub record Keeps (s : Geometry P L L) (x : Placed L) : Type 0 where
     pub shape : Geometry Q M M
-    pub is_left : left s x.path ≡ Some shape
-    pub has : Has x.part shape
-
-  -- ---- polygons
-
-  record Begins (rs : List L) (way : List ℕ) (l : L) : Type 0 where
-    holes : List M
-    are_left : rings_left rs (Some way) ≡ Some (made l ∷ holes)
-
-  begins : (rs : List L) (x : Placed L) → In x (outer_ring rs) → Begins rs x.path x.part
-  begins [] x k = elim k [ ]
-  begins (o ∷ holes) x (inl e) =
-      subst (λ (z : Placed L). Begins (o ∷ holes) z.path z.part) (sym e)
-      (record { holes = some_of (kept true) (map (λ h. (false, h)) holes); are_left = ap (map_some (λ m. m ∷ some_of (kept true) (map (λ h. (false, h)) holes))) (stays o) })
-  begins (o ∷ holes) x (inr k) = elim k [ ]
-
-  abbrev areas_left : ℕ → List (List L) → Option (List ℕ) → List (List M)
-  areas_left i areas way = some_of (area_by (kept true)) (along rings_marked i areas way)
-
-  record BeginsOne (mss : List (List M)) (l : L) : Type 0 where
-    holes : List M
-    among : In (made l ∷ holes) mss
-
-  begins_one : (i : ℕ) (areas : List (List L)) (x : Placed L) → In x (of_parts i (map outer_ring areas)) → BeginsOne (areas_left i areas (Some x.path)) x.part
-  begins_one i [] x k = elim k [ ]
-  begins_one i (rs ∷ areas) x k = on (in_append x (inside_part i (outer_ring rs)) (of_parts (suc i) (map outer_ring areas)) k) (begins_one (suc i) areas x)
-    where
-      here : (y : Placed L) → In y (outer_ring rs) → BeginsOne (areas_left i (rs ∷ areas) (Some (i ∷ y.path))) y.part
-      here y m =
-          let b : Begins rs y.path y.part = begins rs y m in
-          record {
-            holes = b.holes;
-            among = subst (λ o. In (made y.part ∷ b.holes) (with_some o (areas_left (suc i) areas (Some (i ∷ y.path))))) (sym (ap (rings_left rs) (into_here i y.path) ∙ b.are_left)) (inl refl);
-          }
-
-      on : In x (inside_part i (outer_ring rs)) ⊎ In x (of_parts (suc i) (map outer_ring areas)) → (In x (of_parts (suc i) (map outer_ring areas)) → BeginsOne (areas_left (suc i) areas (Some x.path)) x.part)
-          → BeginsOne (areas_left i (rs ∷ areas) (Some x.path)) x.part
-      on (inl m) later =
-          let f = from_map (λ (y : Placed L). record { path = i ∷ y.path; part = y.part }) x (outer_ring rs) m in
-          subst (λ (z : Placed L). BeginsOne (areas_left i (rs ∷ areas) (Some z.path)) z.part) (sym f.2) (here f.0 f.1)
-      on (inr m) later =
-          let b : BeginsOne (areas_left (suc i) areas (Some x.path)) x.part = later m in
-          record { holes = b.holes; among = in_with (made x.part ∷ b.holes) (rings_left rs (into_part i (Some x.path))) (areas_left (suc i) areas (Some x.path)) b.among }
-
-  -- ---- shapes
-
-  abbrev Stays : Geometry P L L → Type 0
-  Stays s = (x : Placed L) → In x (outer_rings s) → Keeps s x
-
-  has_area : (l : L) (holes : List M) → Has l (g.Area (made l ∷ holes))
-  has_area l holes = record {
-    outer = subst (λ xs. In (made l) (parts xs)) (sym ((outer_rings_at Q M).area (made l ∷ holes))) (inl refl);
-    within = subst (In (true, made l)) (sym ((lines_and_rings_at Q M).area (made l ∷ holes))) (inl refl);
-  }
-
-  has_areas : (l : L) (holes : List M) (mss : List (List M)) → In (made l ∷ holes) mss → Has l (g.Areas mss)
-  has_areas l holes mss k = record {
-    outer = subst (λ xs. In (made l) (parts xs)) (sym ((outer_rings_at Q M).areas mss)) (in_parts outer_ring (made l) 0 (made l ∷ holes) mss k (inl refl));
-    within = subst (In (true, made l)) (sym ((lines_and_rings_at Q M).areas mss)) (in_joined (map (λ m. (true, m))) (true, made l) (made l ∷ holes) mss k (inl refl));
-  }
-
-  has_group : (l : L) (t : Geometry Q M M) (ts : List (Geometry Q M M)) → In t ts → Has l t → Has l (g.Group ts)
-  has_group l t ts k h = record {
-    outer = subst (λ xs. In (made l) (parts xs)) (sym ((outer_rings_at Q M).group ts)) (in_parts outer_rings (made l) 0 t ts k h.outer);
-    within = subst (In (true, made l)) (sym ((lines_and_rings_at Q M).group ts)) (in_joined lines_and_rings (true, made l) t ts k h.within);
-  }
-
-  some_areas : (x : Placed L) (holes : List M) (mss : List (List M)) → In (made x.part ∷ holes) mss → (t : Geometry Q M M) × (unless_empty g.Areas mss ≡ Some t) × Has x.part t
-  some_areas x holes [] k = elim k [ ]
-  some_areas x holes (ms ∷ mss) k = (g.Areas (ms ∷ mss), refl, has_areas x.part holes (ms ∷ mss) k)
-
-  record KeepsOne (ts : List (Geometry Q M M)) (l : L) : Type 0 where
-    shape : Geometry Q M M
-    among : In shape ts
-    has : Has l shape
-
-  abbrev members_left : ℕ → List (Geometry P L L) → Option (List ℕ) → List (Geometry Q M M)
-  members_left i ss way = some_of (prune place kept) (along marked i ss way)
-
-  keeps_one : (i : ℕ) (ss : List (Geometry P L L)) → AllByRecursion Stays ss → (x : Placed L) → In x (of_parts i (map outer_rings ss)) → KeepsOne (members_left i ss (Some x.path)) x.part
-  keeps_one i [] all x k = elim k [ ]
-  keeps_one i (s ∷ ss) all x k = on (in_append x (inside_part i (outer_rings s)) (of_parts (suc i) (map outer_rings ss)) k) (keeps_one (suc i) ss all.1 x)
-    where
-      here : (y : Placed L) → In y (outer_rings s) → KeepsOne (members_left i (s ∷ ss) (Some (i ∷ y.path))) y.part
-      here y m =
-          let b : Keeps s y = all.0 y m in
-          record {
-            shape = b.shape;
-            among = subst (λ o. In b.shape (with_some o (members_left (suc i) ss (Some (i ∷ y.path))))) (sym (ap (λ way. prune place kept (marked s way)) (into_here i y.path) ∙ b.is_left)) (inl refl);
-            has = b.has;
-          }
-
-      on : In x (inside_part i (outer_rings s)) ⊎ In x (of_parts (suc i) (map outer_rings ss)) → (In x (of_parts (suc i) (map outer_rings ss)) → KeepsOne (members_left (suc i) ss (Some x.path)) x.part)
-          → KeepsOne (members_left i (s ∷ ss) (Some x.path)) x.part
-      on (inl m) later =
-          let f = from_map (λ (y : Placed L). record { path = i ∷ y.path; part = y.part }) x (outer_rings s) m in
-          subst (λ (z : Placed L). KeepsOne (members_left i (s ∷ ss) (Some z.path)) z.part) (sym f.2) (here f.0 f.1)
-      on (inr m) later =
-          let b : KeepsOne (members_left (suc i) ss (Some x.path)) x.part = later m in
-          record { shape = b.shape; among = in_with b.shape (prune place kept (marked s (into_part i (Some x.path)))) (members_left (suc i) ss (Some x.path)) b.among; has = b.has }
-
-  none_there : {s : Geometry P L L} (x : Placed L) → outer_rings s ≡ [] → In x (outer_rings s) → Keeps s x
-  none_there x e k = absurd (subst (In x) e k)
+    pub is_left : prune place kept (marked s (Some x.path)) ≡ Some shape
+    pub outer : In (make x.part) (map (λ z. z.part) (outer_rings shape))
 
   pub ring_kept : (s : Geometry P L L) (x : Placed L) → In x (outer_rings s) → Keeps s x
-  ring_kept = by_kinds Stays (record {
-    point = λ p x. none_there x ((outer_rings_at P L).point p);
-    points = λ ps x. none_there x ((outer_rings_at P L).points ps);
-    line = λ l x. none_there x ((outer_rings_at P L).line l);
-    lines = λ ls x. none_there x ((outer_rings_at P L).lines ls);
-    area = λ rs x k.
-        let b : Begins rs x.path x.part = begins rs x (subst (In x) ((outer_rings_at P L).area rs) k) in
-        record { shape = g.Area (made x.part ∷ b.holes); is_left = left-area place kept rs (Some x.path) ∙ ap (map_some g.Area) b.are_left; has = has_area x.part b.holes };
-    areas = λ areas x k.
-        let b : BeginsOne (areas_left 0 areas (Some x.path)) x.part = begins_one 0 areas x (subst (In x) ((outer_rings_at P L).areas areas) k) in
-        let t = some_areas x b.holes (areas_left 0 areas (Some x.path)) b.among in
-        record { shape = t.0; is_left = left-areas place kept areas (Some x.path) ∙ t.1; has = t.2 };
-    group = λ ss all x k.
-        let b : KeepsOne (members_left 0 ss (Some x.path)) x.part = keeps_one 0 ss all x (subst (In x) ((outer_rings_at P L).group ss) k) in
-        record { shape = g.Group (members_left 0 ss (Some x.path)); is_left = left-group place kept ss (Some x.path); has = has_group x.part b.shape (members_left 0 ss (Some x.path)) b.among b.has };
-  })
+  ring_kept s x k = on (prune place kept (marked s (Some x.path))) refl (subst (In (make x.part)) (followed (kept true) _ (stays place kept (marked s (Some x.path))).follow) given)
+    where
+      there : In (true, x.part) (parts (outer_rings (marked s (Some x.path))))
+      there =
+          subst (λ ys. In (true, x.part) (parts ys)) (sym (rings_of_marked s (Some x.path)))
+          (subst (λ b. In (b, x.part) (parts (map (with_mark (Some x.path)) (outer_rings s)))) (leads_there x.path)
+          (in_map (λ z. z.part) (with_mark (Some x.path) x) (map (with_mark (Some x.path)) (outer_rings s)) (in_map (with_mark (Some x.path)) x (outer_rings s) k)))
+
+      given : In (make x.part) (some_of (kept true) (parts (outer_rings (marked s (Some x.path)))))
+      given = in_some (kept true) (true, x.part) (make x.part) (parts (outer_rings (marked s (Some x.path)))) (stays_marked x.part) there
+
+      on : (o : Option (Geometry Q M M)) → prune place kept (marked s (Some x.path)) ≡ o → In (make x.part) (parts (rings_left place kept o)) → Keeps s x
+      on None e m = elim m [ ]
+      on (Some t) e m = record { shape = t; is_left = e; outer = m }

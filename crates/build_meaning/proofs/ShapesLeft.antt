@@ -1,10 +1,11 @@
 -- What is left of a marked shape is what is left of the shape, marked: shapes, by kind.
 use Rattle.std.proofs.Common.{◌≡◌, ℕ, Bool, true, false, List, [], ◌∷◌, map, Option, None, Some, refl, sym, ap, ◌∙◌, subst}
-use Rattle.build_meaning.proofs.SimplifiedNames.{AllByRecursion, prune-point, prune-points, prune-line, prune-lines, prune-area, prune-areas, prune-group, by_kinds, map_some, with_some, some_of, unless_empty, Placed, alone, of_parts, area_by, prune, Geometry, outer_ring, outer_rings, ends_here, along, unmarked, rings_marked, marked}
-use Rattle.geometry.specs.declared.shape.Geometry.TheVariants as g
-use Rattle.build_meaning.proofs.Marks.{outer_rings_at, marked_at, marked-line, marked-lines, marked-area, marked-areas, marked-group, left-point, left-points, left-line, left-lines, left-area, left-areas, left-group}
-use Rattle.build_meaning.proofs.MarksLeft as parts
+use Rattle.build_meaning.proofs.Names.{AllByRecursion, prune-point, prune-points, prune-line, prune-lines, prune-area, prune-areas, prune-group, by_kinds, map_some, with_some, some_of, unless_empty, Placed, alone, of_parts, area_by, prune, Geometry, outer_ring, outer_rings, ends_here, along, unmarked, rings_marked, marked}
+use Rattle.build_meaning.proofs.Reshaped.{same_made, same_listed}
+use Rattle.build_meaning.proofs.Marks.{some_made, outer_rings_at, marked_at, marked-line, marked-lines, marked-area, marked-areas, marked-group, left-point, left-points, left-line, left-lines, left-area, left-areas, left-group}
 use Rattle.build_meaning.proofs.MarksLeft.{Follows, nothing, made, left_out, weaker}
+use Rattle.geometry.specs.declared.shape.Geometry.TheVariants as g
+use Rattle.build_meaning.proofs.MarksLeft as parts
 
 abbrev Way : Type 0
 Way = Option (List ℕ)
@@ -19,19 +20,6 @@ module _ {P Q L M : Type 0} (place : P → Q) (kept : Bool → L → Option M) w
 
   abbrev left_marked : Geometry P (Bool × L) (Bool × L) → Option (Geometry Q (Bool × M) (Bool × M))
   left_marked = prune place (keeping_mark kept)
-
-  -- shapes of what is left
-  abbrev as_line : M → Geometry Q M M
-  as_line m = g.Line m
-
-  abbrev as_lines : List M → Geometry Q M M
-  as_lines ms = g.Lines ms
-
-  abbrev as_area : List M → Geometry Q M M
-  as_area ms = g.Area ms
-
-  abbrev as_areas : List (List M) → Geometry Q M M
-  as_areas mss = g.Areas mss
 
   -- the rings that are left of a shape that may be null
   abbrev pub rings_left : Option (Geometry Q M M) → List (Placed M)
@@ -105,40 +93,27 @@ module _ {P Q L M : Type 0} (place : P → Q) (kept : Bool → L → Option M) w
     follow = no_rings (g.MultiPoint ps) ((outer_rings_at P L).points ps) (ap rings_left (prune-points place kept ps) ∙ (outer_rings_at Q M).points (map place ps));
   }
 
-  line_turns : (o : Option M) → map_some g.Line (map_some (λ m. (false, m)) o) ≡ map_some (λ t. marked t None) (map_some as_line o)
+  line_turns : (o : Option M) → map_some g.Line (map_some (λ m. (false, m)) o) ≡ map_some (λ (t : Geometry Q M M). marked t None) (map_some g.Line o)
   line_turns None = refl
   line_turns (Some m) = ap Some (sym (marked-line m None))
-
-  line_rings : (o : Option M) → rings_left (map_some g.Line o) ≡ []
-  line_rings None = refl
-  line_rings (Some m) = (outer_rings_at Q M).line m
 
   at_line : (l : L) → Stays (g.Line l)
   at_line l = record {
     plainly = left-line place (keeping_mark kept) l None ∙ line_turns (kept false l) ∙ ap (map_some (λ t. marked t None)) (sym (prune-line place kept l));
-    follow = no_rings (g.Line l) ((outer_rings_at P L).line l) (ap rings_left (prune-line place kept l) ∙ line_rings (kept false l));
+    follow = no_rings (g.Line l) ((outer_rings_at P L).line l) (ap rings_left (prune-line place kept l) ∙ same_made [] outer_rings g.Line (outer_rings_at Q M).line (kept false l));
   }
 
   lines_turn : (ls : List L) → some_of (λ l. keeping_mark kept false (unmarked l)) ls ≡ map unmarked (some_of (kept false) ls)
-  lines_turn [] = refl
-  lines_turn (l ∷ ls) = ap (with_some (map_some (λ m. (false, m)) (kept false l))) (lines_turn ls) ∙ on (kept false l)
-    where
-      on : (o : Option M) → with_some (map_some (λ m. (false, m)) o) (map unmarked (some_of (kept false) ls)) ≡ map unmarked (with_some o (some_of (kept false) ls))
-      on None = refl
-      on (Some m) = refl
+  lines_turn ls = sym (some_made unmarked (keeping_mark kept false) ls) ∙ holes_turn false ls
 
-  marked_lines : (ms : List M) → unless_empty g.Lines (map unmarked ms) ≡ map_some (λ t. marked t None) (unless_empty as_lines ms)
+  marked_lines : (ms : List M) → unless_empty g.Lines (map unmarked ms) ≡ map_some (λ (t : Geometry Q M M). marked t None) (unless_empty g.Lines ms)
   marked_lines [] = refl
   marked_lines (m ∷ ms) = ap Some (sym (marked-lines (m ∷ ms) None))
-
-  lines_rings : (ms : List M) → rings_left (unless_empty g.Lines ms) ≡ []
-  lines_rings [] = refl
-  lines_rings (m ∷ ms) = (outer_rings_at Q M).lines (m ∷ ms)
 
   at_lines : (ls : List L) → Stays (g.Lines ls)
   at_lines ls = record {
     plainly = left-lines place (keeping_mark kept) ls None ∙ ap (unless_empty g.Lines) (lines_turn ls) ∙ marked_lines (some_of (kept false) ls) ∙ ap (map_some (λ t. marked t None)) (sym (prune-lines place kept ls));
-    follow = no_rings (g.Lines ls) ((outer_rings_at P L).lines ls) (ap rings_left (prune-lines place kept ls) ∙ lines_rings (some_of (kept false) ls));
+    follow = no_rings (g.Lines ls) ((outer_rings_at P L).lines ls) (ap rings_left (prune-lines place kept ls) ∙ same_listed [] outer_rings g.Lines (outer_rings_at Q M).lines (some_of (kept false) ls));
   }
 
   -- ---- areas
@@ -148,7 +123,7 @@ module _ {P Q L M : Type 0} (place : P → Q) (kept : Bool → L → Option M) w
       → Follows (kept true) (TurnsOver s) (outer_rings s) (rings_left (left s))
   rings_are s xs ys e f h = subst (λ zs. Follows (kept true) (TurnsOver s) (outer_rings s) zs) (sym f) (subst (λ zs. Follows (kept true) (TurnsOver s) zs ys) (sym e) h)
 
-  marked_area : (o : Option (List M)) (after : Way) → map_some g.Area (map_some (λ ms. rings_marked ms after) o) ≡ map_some (λ t. marked t after) (map_some as_area o)
+  marked_area : (o : Option (List M)) (after : Way) → map_some g.Area (map_some (λ ms. rings_marked ms after) o) ≡ map_some (λ (t : Geometry Q M M). marked t after) (map_some g.Area o)
   marked_area None after = refl
   marked_area (Some ms) after = ap Some (sym (marked-area ms after))
 
@@ -167,7 +142,7 @@ module _ {P Q L M : Type 0} (place : P → Q) (kept : Bool → L → Option M) w
         (weaker (kept true) (λ p q. RingsTurn rs (Some p) (Some q)) (TurnsOver (g.Area rs)) (λ p q e. area_turns rs (Some p) (Some q) e) (polygon_stays rs).follow);
   }
 
-  marked_areas : (mss : List (List M)) (after : Way) → unless_empty g.Areas (along rings_marked 0 mss after) ≡ map_some (λ t. marked t after) (unless_empty as_areas mss)
+  marked_areas : (mss : List (List M)) (after : Way) → unless_empty g.Areas (along rings_marked 0 mss after) ≡ map_some (λ (t : Geometry Q M M). marked t after) (unless_empty g.Areas mss)
   marked_areas [] after = refl
   marked_areas (ms ∷ mss) after = ap Some (sym (marked-areas (ms ∷ mss) after))
 

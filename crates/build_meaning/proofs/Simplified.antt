@@ -1,15 +1,13 @@
 -- What is built of layers at a threshold and a limit of zero and then reduced by both is what is built of them by both.
-use Rattle.std.proofs.Common.{rules, arith, ◌≡◌, ℕ, ℤ, Bool, false, cond, List, map, None, Some, refl, sym, ap, ◌∙◌, subst}
-use Rattle.build_meaning.proofs.SimplifiedNames.{AllByRecursion, all_weaker, all_two, then_some, Point, Small, clean, is_short, Stroke, linework, pieces, from_start, objects_lines_and_rings, TopoObject, index_in, reduced, DirectionLaw, ZeroLaw, Line, StandsIn, each_stands, own_apart, own_in, AllUsed, all_renumbered, all_used, loses_nothing, all_arcs, kept_refs, untrimmed, built, cleaned, own_pieces, own_cause, rebuilt, is_small, kept_line, AreSound, whole_line, objects_by, is_used, keep_from, renumbered, line_renumbered, trimmed, SimplifiesToBuilt, small_cause, large_refs, objects_pruned, simplified_by, simplified_contents}
-use Rattle.arc_table.proofs.Stitching.{same_stitched}
-use Rattle.cutter.specs.Places.{In, Apart, interior}
-use Rattle.junctions.specs.Cuts.{is_cut}
-use Rattle.build_meaning.specs.Layers.{Named, layers_of, named_lines_and_rings}
-use Rattle.build_meaning.proofs.DecodingLines.{pieces_back}
-use Rattle.build_meaning.proofs.Again.{all_hold, left_with, trimmed_again}
+use Rattle.std.proofs.Common.{rules, arith, ◌≡◌, ℕ, ℤ, Bool, false, cond, List, map, None, Some, refl, sym, ◌∙◌}
+use Rattle.build_meaning.proofs.Names.{AllByRecursion, all_weaker, all_two, then_some, Point, Small, clean, is_short, Stroke, linework, pieces, from_start, objects_lines_and_rings, TopoObject, index_in, reduced, DirectionLaw, ZeroLaw, all_arcs, kept_refs, cleaned, own_pieces, own_cause, rebuilt, is_small, kept_line, AreSound, whole_line, objects_by, keep_from, renumbered, line_renumbered, small_cause, large_refs, objects_pruned, same_stitched, In, AreDistinct as Apart, interior, is_cut, Named, layers_of, named_lines_and_rings}
+use Rattle.build_meaning.proofs.Again.{all_hold}
+use Rattle.build_meaning.proofs.Decoding.{pieces_back}
+use Rattle.build_meaning.proofs.Linework.{Line, StandsIn, each_stands, own_apart, own_in}
 use Rattle.build_meaning.proofs.Made.{objects_made}
-use Rattle.build_meaning.proofs.Objects.{objects_then, objects_left}
-use Rattle.build_meaning.proofs.Retained.{arcs_again}
+use Rattle.build_meaning.proofs.Objects.{objects_then}
+use Rattle.build_meaning.proofs.Trimmed.{AllUsed, all_renumbered}
+use Rattle.build_meaning.proofs.Whole.{loses_nothing}
 
 -- ---- nothing is small at zero
 
@@ -57,10 +55,6 @@ module _ (limit : ℕ) (u : ℕ → Bool) (arcs : List (List Point)) where
       ∙ sym (objects_then (large_refs limit arcs) (line_renumbered u) (λ closed refs. then_some (line_renumbered u closed) (large_refs limit arcs closed refs)) os
       (all_hold (λ b. then_some (line_renumbered u b.0) (large_refs limit arcs b.0 b.1) ≡ then_some (line_renumbered u b.0) (large_refs limit arcs b.0 b.1)) (λ b. refl) (objects_lines_and_rings os)))
 
-  -- no index is new
-  pub left_used : (os : List (List ℕ × TopoObject)) → AllByRecursion (AllUsed u) (objects_lines_and_rings os) → AllByRecursion (AllUsed u) (objects_lines_and_rings (objects_pruned (large_refs limit arcs) os))
-  left_used os h = grind (arith, objects_left (large_refs limit arcs) (AllUsed u) os, all_weaker (AllUsed u))
-
 -- ---- topologies
 
 -- the objects that are built at zero, reduced
@@ -72,17 +66,3 @@ objects_again law zero t limit ls sound =
     (all_two (StandsIn lines) (λ b. kept_line lines 0 0 b.0 b.1 ≡ whole_line ls b.0 b.1)
     (λ b. then_some (large_refs limit (map (reduced t) (all_arcs lines)) b.0) (kept_refs lines 0 0 b.0 b.1) ≡ kept_refs lines t limit b.0 b.1)
     (line_again law lines t limit (own_apart ls sound)) (named_lines_and_rings ls) (each_stands ls) (loses_nothing zero ls sound))
-
-pub simplifies_to_built : DirectionLaw → ZeroLaw → SimplifiesToBuilt
-unfolding simplified_contents simplified_by built trimmed
-simplifies_to_built law zero t limit ls sound =
-    let lines : List Stroke = linework (layers_of ls) in
-    let first : List (List ℕ × TopoObject) = objects_by (kept_refs lines 0 0) ls in
-    let u : ℕ → Bool = is_used first in
-    let all : List (List Point) = map (reduced t) (all_arcs lines) in
-    let same : objects_pruned (large_refs limit all) first ≡ objects_by (kept_refs lines t limit) ls = objects_again law zero t limit ls sound in
-    ap (λ arcs. trimmed (record { objects = objects_pruned (large_refs limit arcs) (objects_pruned (line_renumbered u) first); arcs = arcs; transform = None }))
-    (arcs_again zero t u (all_arcs lines))
-    ∙ ap (λ os. trimmed (record { objects = os; arcs = keep_from u 0 all; transform = None })) (objects_same limit u all first (all_used first))
-    ∙ ap (λ os. trimmed (left_with u (record { objects = os; arcs = all; transform = None }))) same
-    ∙ trimmed_again u (untrimmed t limit ls) (subst (λ os. AllByRecursion (AllUsed u) (objects_lines_and_rings os)) same (left_used limit u all first (all_used first)))

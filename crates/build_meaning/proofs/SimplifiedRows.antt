@@ -1,27 +1,27 @@
 -- Worked rows of topologies whose arcs are reduced, computed from the definitions. The fold of a shape is opened by its kind.
 use Rattle.std.proofs.Common.{◌≡◌, ◌==◌, ℕ, ◌-◌, ℤ, pos, negsuc, Bool, true, false, List, [], ◌∷◌, Option, None, Some, refl, ap, ◌∙◌}
-use Rattle.build_meaning.proofs.SimplifiedNames.{list_any, prune-line, prune-area, lines_and_rings-line, lines_and_rings-area, drop_causes-area, drop_causes-line, cross, twice_area, shoelace, drop_causes, number_of, Point, prune, same, Small, Outer, TopoShape, Contents, objects_lines_and_rings, TopoFeature, TopoObject, One, Many, is_before, reduce, positions_of, is_used, keep_from, line_renumbered, trimmed, retained_arcs, small_cause, large_refs, retained_whole, simplified_by, dropped_by, removed_count_by, reduced_indexes, simplified_contents, simplified_dropped, simplified_removed_count}
+use Rattle.build_meaning.proofs.Names.{list_any, prune-line, prune-area, lines_and_rings-line, lines_and_rings-area, drop_causes-area, drop_causes-line, cross, twice_area, shoelace, drop_causes, number_of, Point, prune, same, Small, Outer, TopoShape, Contents, objects_lines_and_rings, TopoFeature, TopoObject, One, Many, is_before, reduce, positions_of, is_used, keep_from, line_renumbered, trimmed, retained_arcs, small_cause, large_refs, retained_whole, simplified_by, dropped_by, removed_count_by, reduced_indexes, simplified_contents, simplified_dropped, simplified_removed_count}
 use Rattle.geometry.specs.declared.shape.Geometry.TheVariants as g
 
-abbrev at : ℕ → ℕ → Point
+abbrev pub at : ℕ → ℕ → Point
 at x y = record { x = pos x; y = pos y }
 
-abbrev feature : Option TopoShape → TopoFeature
+abbrev pub feature : Option TopoShape → TopoFeature
 feature s = record { id = None; properties = None; shape = s }
 
 -- one object of two features
-abbrev two : Option TopoShape → Option TopoShape → List (List ℕ × TopoObject)
+abbrev pub two : Option TopoShape → Option TopoShape → List (List ℕ × TopoObject)
 two s t = ((97 ∷ []), Many (feature s ∷ (feature t ∷ []))) ∷ []
 
 -- ---- a square of side 10 with a triangle as its hole, and an open line on a third arc, backwards
 
-abbrev square : List Point
+abbrev pub square : List Point
 square = at 0 0 ∷ (at 10 0 ∷ (at 10 10 ∷ (at 0 10 ∷ (at 0 0 ∷ []))))
 
-abbrev triangle : List Point
+abbrev pub triangle : List Point
 triangle = at 2 2 ∷ (at 3 2 ∷ (at 2 3 ∷ (at 2 2 ∷ [])))
 
-abbrev bent : List Point
+abbrev pub bent : List Point
 bent = at 20 0 ∷ (at 21 1 ∷ (at 23 0 ∷ []))
 
 abbrev rings : List (List ℤ)
@@ -49,9 +49,6 @@ holed_area = prune-area (λ (p : Point). p) (large_refs 0 fewer) rings
 holed_line : prune (λ (p : Point). p) (large_refs 0 fewer) (g.Line (negsuc 2 ∷ [])) ≡ Some (g.Line (negsuc 2 ∷ []))
 unfolding same shoelace
 holed_line = prune-line (λ (p : Point). p) (large_refs 0 fewer) (negsuc 2 ∷ [])
-
-abbrev whole : List (List Point) → Contents
-whole arcs = record { objects = two (prune (λ p. p) (large_refs 0 arcs) (g.Area rings)) (prune (λ p. p) (large_refs 0 arcs) (g.Line (negsuc 2 ∷ []))); arcs = arcs; transform = None }
 
 -- what is left before arcs are left out
 abbrev left : Contents

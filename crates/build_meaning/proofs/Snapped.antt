@@ -1,11 +1,9 @@
 -- Layers that are snapped to the grid over them lie on it, and are as sound as before.
 use Rattle.std.proofs.Common.{rules, arith, ◌≡◌, ℕ, ◌≤◌, true, List, [], ◌∷◌, map, Option, None, Some, refl, ap}
-use Rattle.build_meaning.proofs.SimplifiedNames.{AllByRecursion, all_weaker, all_left, all_right, all_append, all_map, by_kinds, moved_at, option_points_moved, map_some, Point, nesting_at, Featured, Shape, nesting, option_nesting, feature_nesting, FeatureHasNumbers, option_points, features_points, FeatureHasTexts, settled, Axes, IsGrid, covers, snapped, grid_over, Settles, IsSound, AreSound, IsSnapped, SnappedAreOn, EachFeature, SnappedKeep, named_points, IsCount, AreInputs, snapped_named, IsOn}
-use Rattle.build_meaning.specs.Layers.{Named, names_of}
-use Rattle.geojson_types.specs.Moving.{moved, moved_feature}
+use Rattle.build_meaning.proofs.Names.{AllByRecursion, all_weaker, all_left, all_right, all_append, all_map, by_kinds, moved_at, option_points_moved, map_some, Point, nesting_at, Featured, Shape, nesting, option_nesting, feature_nesting, FeatureHasNumbers, option_points, features_points, FeatureHasTexts, settled, Axes, IsGrid, covers, snapped, grid_over, Settles, IsSound, AreSound, IsSnapped, SnappedAreOn, EachFeature, SnappedKeep, named_points, IsCount, AreInputs, snapped_named, IsOn, Named, names_of, moved, moved_feature}
+use Rattle.json_value.specs.Depth.{greatest}
 use Rattle.grid_snap.proofs.Layered.{snapped_sound}
 use Rattle.grid_snap.proofs.Least.{covers_all, grid_made}
-use Rattle.json_value.specs.Depth.{greatest}
 use Rattle.build_meaning.proofs.Again.{all_hold}
 
 names_stay : (g : Option Axes) (ls : Named) → names_of (snapped_named g ls) ≡ names_of ls
@@ -80,17 +78,8 @@ module _ (f : Point → Point) where
   option_nests : (s : Option Shape) → option_nesting (map_some (moved f) s) ≡ option_nesting s
   option_nests s = grind (arith, moved_nests)
 
-  features_nest : (n : ℕ) (fs : List Featured) → AllByRecursion (λ x. feature_nesting x ≤ n) fs → AllByRecursion (λ x. feature_nesting x ≤ n) (map (moved_feature f) fs)
-  features_nest n [] h = tt
-  features_nest n (x ∷ fs) h = (rw (option_nests x.shape) h.0, features_nest n fs h.1)
-
   features_stay : (X : Featured → Type 0) → ((x : Featured) → X x → X (moved_feature f x)) → (fs : List Featured) → AllByRecursion X fs → AllByRecursion X (map (moved_feature f) fs)
-  features_stay X stays [] h = tt
-  features_stay X stays (x ∷ fs) h = (stays x h.0, features_stay X stays fs h.1)
-
-layers_nest : (g : Axes) (n : ℕ) (ls : Named) → EachFeature (λ f. feature_nesting f ≤ n) ls → EachFeature (λ f. feature_nesting f ≤ n) (snapped_named (Some g) ls)
-layers_nest g n [] h = tt
-layers_nest g n (l ∷ ls) h = (features_nest (snapped g) n l.1.features h.0, layers_nest g n ls h.1)
+  features_stay X stays fs h = all_map X (moved_feature f) fs (all_weaker X (λ x. X (moved_feature f x)) stays fs h)
 
 layers_stay : (g : Axes) (X : Featured → Type 0) → ((x : Featured) → X x → X (moved_feature (snapped g) x)) → (ls : Named) → EachFeature X ls → EachFeature X (snapped_named (Some g) ls)
 layers_stay g X stays [] h = tt
@@ -98,4 +87,4 @@ layers_stay g X stays (l ∷ ls) h = (features_stay (snapped g) X stays l.1.feat
 
 pub snapped_keep : SnappedKeep
 snapped_keep None ls = record { nests = λ n h. h; numbers = λ h. h; texts = λ h. h }
-snapped_keep (Some g) ls = record { nests = λ n h. layers_nest g n ls h; numbers = λ h. layers_stay g FeatureHasNumbers (λ x k. k) ls h; texts = λ h. layers_stay g FeatureHasTexts (λ x k. k) ls h }
+snapped_keep (Some g) ls = record { nests = λ n h. layers_stay g (λ f. feature_nesting f ≤ n) (λ x k. rw (option_nests (snapped g) x.shape) k) ls h; numbers = λ h. layers_stay g FeatureHasNumbers (λ x k. k) ls h; texts = λ h. layers_stay g FeatureHasTexts (λ x k. k) ls h }

@@ -1,14 +1,9 @@
 -- Worked rows of layers on a grid, computed from the definitions. The fold of a shape is opened by its kind.
 use Rattle.std.proofs.Common.{◌≡◌, ℕ, pos, false, List, [], ◌∷◌, ◌++◌, Option, None, Some, refl, ap, ◌∙◌}
+use Rattle.build_meaning.proofs.Names.{codes, points_at, prune-line, prune-point, moved_at, Point, prune, same, Collapsed, units_text, Shape, shape_points, Axes, number, cell, snapped, grid_over, Axis, TopoShape, Contents, Many, all_arcs, cleaned, own_cause, celled, transform_of, named_points, named_grid, snapped_named, quantized, Named, moved}
 use Rattle.std.specs.Fmt.{digits}
-use Rattle.std.specs.Prelude.{codes}
-use Rattle.build_meaning.proofs.SimplifiedNames.{points_at, prune-line, prune-point, moved_at, Point, prune, same, Collapsed, units_text, Shape, shape_points, Axes, number, cell, snapped, grid_over, Axis, TopoShape, Contents, Many, all_arcs, cleaned, own_cause, celled, transform_of, named_points, named_grid, snapped_named, quantized}
-use Rattle.build_meaning.specs.Layers.{Named}
-use Rattle.geojson_types.specs.Moving.{moved}
 use Rattle.geometry.specs.declared.shape.Geometry.TheVariants as g
-
-abbrev at : ℕ → ℕ → Point
-at x y = record { x = pos x; y = pos y }
+use Rattle.build_meaning.proofs.SimplifiedRows.{at}
 
 abbrev axis : ℕ → ℕ → ℕ → Axis
 axis first step last = record { first = pos first; step = step; last = last }

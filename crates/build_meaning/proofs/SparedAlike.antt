@@ -1,15 +1,16 @@
 -- What is left of a topology where rings are protected, before the arcs that no line uses are left out and after, and on a grid.
 use Rattle.std.proofs.Common.{◌≡◌, ◌==◌, ℕ, ◌-◌, ℤ, Bool, true, false, cond, List, map, Option, None, Some, refl, sym, ap, ◌∙◌, subst}
-use Rattle.build_meaning.proofs.SimplifiedNames.{AllByRecursion, list_any, all_weaker, number_of, Point, Cause, Axes, cell, placed_arcs, Contents, objects_lines_and_rings, place_on, TopoObject, Transform, reduce_arcs, guarded_by, AllUsed, all_used, kept_of_map, positions_of, unless, is_used, keep_from, line_renumbered, renumbered, trimmed, objects_celled, celled, LiesBack, transform_of, arc_positions, spread, Protection, greatest_ring, protected_rings, sparing, objects_spared, spared_whole, spared_by, spared_removed_count, protecting_indexes, protecting_contents, protecting_removed_count, greatest_rings, TrimmedFirstIsAlikeSparing, IsAlikeOnGrid, ProtectingOnGrid, IsOn, small_cause, large_refs, retained_arcs, objects_pruned}
-use Rattle.std.specs.Prelude.{sum}
+use Rattle.build_meaning.proofs.Names.{AllByRecursion, list_any, all_weaker, number_of, Point, Cause, Axes, cell, placed_arcs, Contents, objects_lines_and_rings, place_on, TopoObject, Transform, reduce_arcs, guarded_by, positions_of, unless, is_used, keep_from, line_renumbered, renumbered, trimmed, objects_celled, celled, LiesBack, transform_of, arc_positions, spread, Protection, greatest_ring, protected_rings, sparing, objects_spared, spared_whole, spared_by, spared_removed_count, protecting_indexes, protecting_contents, protecting_removed_count, greatest_rings, TrimmedFirstIsAlikeSparing, IsAlikeOnGrid, ProtectingOnGrid, IsOn, small_cause, large_refs, retained_arcs, objects_pruned, sum, then_some}
 use Rattle.build_meaning.proofs.Again.{trimmed_again}
 use Rattle.build_meaning.proofs.Celled.{arcs_map, all_lie_back, retained_lie, objects_lines, trimmed_celled}
+use Rattle.build_meaning.proofs.Greatest.{same_some}
 use Rattle.build_meaning.proofs.Guarded.{placed_left}
 use Rattle.build_meaning.proofs.GuardedLayers.{spread_left}
-use Rattle.build_meaning.proofs.Kept.{lengths_stay}
-use Rattle.build_meaning.proofs.OnGrid.{all_lie}
-use Rattle.build_meaning.proofs.RingsAlike.{same_some, rings_alike, objects_alike, rings_celled, objects_celled_alike}
+use Rattle.build_meaning.proofs.OnGrid.{lengths_stay, all_lie}
+use Rattle.build_meaning.proofs.RingsAlike.{rings_alike, objects_turned, rings_celled, objects_celled_alike}
+use Rattle.build_meaning.proofs.Simplified.{refs_same}
 use Rattle.build_meaning.proofs.Spared.{objects_left, Leaves}
+use Rattle.build_meaning.proofs.Trimmed.{AllUsed, all_renumbered, all_used, kept_of_map}
 
 -- ---- arcs that no line uses, left out first
 
@@ -22,18 +23,20 @@ pub trimmed_rings : (y : Contents) → protected_rings (greatest_rings (trimmed 
 unfolding trimmed
 trimmed_rings y =
     ap (λ arcs. protected_rings (greatest_ring arcs) (objects_pruned (line_renumbered (is_used y.objects)) y.objects)) (positions_alike y)
-    ∙ rings_alike (arc_positions y) (is_used y.objects) y.objects (all_used y.objects)
+    ∙ rings_alike (λ p. p) (map (renumbered (is_used y.objects))) (arc_positions y) (keep_from (is_used y.objects) 0 (arc_positions y)) (AllUsed (is_used y.objects))
+    (λ b h. all_renumbered (is_used y.objects) (arc_positions y) b.1 h) y.objects (all_used y.objects)
 
+-- whichever rings are protected before and after, if what is left of the objects is the same
 module _ (kept more : List (List ℕ)) (limit : ℕ) (y : Contents)
-    (same : keep_from (is_used y.objects) 0 (retained_arcs more y.arcs) ≡ retained_arcs kept (keep_from (is_used y.objects) 0 y.arcs)) where
+    (same : keep_from (is_used y.objects) 0 (retained_arcs more y.arcs) ≡ retained_arcs kept (keep_from (is_used y.objects) 0 y.arcs))
+    (protects after : Protection)
+    (turns : (places : List (List Point)) → objects_spared after (sparing (large_refs limit (keep_from (is_used y.objects) 0 places))) (objects_pruned (line_renumbered (is_used y.objects)) y.objects)
+    ≡ objects_pruned (line_renumbered (is_used y.objects)) (objects_spared protects (sparing (large_refs limit places)) y.objects)) where
   abbrev passes : ℕ → Bool
   passes = is_used y.objects
 
   abbrev places : List (List Point)
   places = placed_arcs y.transform (retained_arcs more y.arcs)
-
-  abbrev protects : Protection
-  protects = greatest_rings y
 
   abbrev left : List (List ℕ × TopoObject)
   left = objects_spared protects (sparing (large_refs limit places)) y.objects
@@ -42,13 +45,12 @@ module _ (kept more : List (List ℕ)) (limit : ℕ) (y : Contents)
   with_arcs os arcs = record { objects = os; arcs = arcs; transform = y.transform }
 
   -- the lines that are left of the used arcs
-  objects_same : (spared_whole (greatest_rings (trimmed y)) kept limit (trimmed y)).objects ≡ objects_pruned (line_renumbered passes) left
+  objects_same : (spared_whole after kept limit (trimmed y)).objects ≡ objects_pruned (line_renumbered passes) left
   unfolding trimmed
   objects_same =
-      ap (λ arcs. objects_spared (greatest_ring arcs) (sparing (large_refs limit (placed_arcs y.transform (retained_arcs kept (keep_from passes 0 y.arcs))))) (objects_pruned (line_renumbered passes) y.objects)) (positions_alike y)
-      ∙ ap (λ arcs. objects_spared (greatest_ring (keep_from passes 0 (arc_positions y))) (sparing (large_refs limit (placed_arcs y.transform arcs))) (objects_pruned (line_renumbered passes) y.objects)) (sym same)
-      ∙ ap (λ arcs. objects_spared (greatest_ring (keep_from passes 0 (arc_positions y))) (sparing (large_refs limit arcs)) (objects_pruned (line_renumbered passes) y.objects)) (placed_left y.transform passes (retained_arcs more y.arcs))
-      ∙ objects_alike (arc_positions y) passes limit places y.objects (all_used y.objects)
+      ap (λ arcs. objects_spared after (sparing (large_refs limit (placed_arcs y.transform arcs))) (objects_pruned (line_renumbered passes) y.objects)) (sym same)
+      ∙ ap (λ arcs. objects_spared after (sparing (large_refs limit arcs)) (objects_pruned (line_renumbered passes) y.objects)) (placed_left y.transform passes (retained_arcs more y.arcs))
+      ∙ turns places
 
   -- no index is new
   line_used : (b : Bool × List ℤ) → AllUsed passes b → Leaves protects (sparing (large_refs limit places)) (AllUsed passes) b
@@ -64,7 +66,7 @@ module _ (kept more : List (List ℕ)) (limit : ℕ) (y : Contents)
       objects_left protects (sparing (large_refs limit places)) (AllUsed passes) y.objects
       (all_weaker (AllUsed passes) (Leaves protects (sparing (large_refs limit places)) (AllUsed passes)) line_used (objects_lines_and_rings y.objects) (all_used y.objects))
 
-  pub contents_same : spared_by (greatest_rings (trimmed y)) kept limit (trimmed y) ≡ spared_by (greatest_rings y) more limit y
+  pub contents_same : spared_by after kept limit (trimmed y) ≡ spared_by protects more limit y
   unfolding spared_by trimmed
   contents_same =
       ap (λ os. trimmed (with_arcs os (retained_arcs kept (keep_from passes 0 y.arcs)))) objects_same
@@ -72,22 +74,42 @@ module _ (kept more : List (List ℕ)) (limit : ℕ) (y : Contents)
       ∙ trimmed_again passes (spared_whole protects more limit y) used_alike
 
   -- of the arcs as they were the same are left
-  arcs_same : keep_from (is_used (spared_whole (greatest_rings (trimmed y)) kept limit (trimmed y)).objects) 0 (trimmed y).arcs ≡ keep_from (is_used left) 0 y.arcs
+  arcs_same : keep_from (is_used (spared_whole after kept limit (trimmed y)).objects) 0 (trimmed y).arcs ≡ keep_from (is_used left) 0 y.arcs
   unfolding trimmed
   arcs_same = ap (λ os. keep_from (is_used os) 0 (keep_from passes 0 y.arcs)) objects_same ∙ ap (λ z. z.arcs) (trimmed_again passes (with_arcs left y.arcs) used_alike)
 
-  pub removed_same : spared_removed_count (greatest_rings (trimmed y)) kept limit (trimmed y) ≡ spared_removed_count (greatest_rings y) more limit y
+  pub removed_same : spared_removed_count after kept limit (trimmed y) ≡ spared_removed_count protects more limit y
   unfolding spared_removed_count
   removed_same =
-      ap (λ arcs. positions_of arcs - positions_of (spared_by (greatest_rings (trimmed y)) kept limit (trimmed y)).arcs) arcs_same
+      ap (λ arcs. positions_of arcs - positions_of (spared_by after kept limit (trimmed y)).arcs) arcs_same
       ∙ ap (λ z. positions_of (keep_from (is_used left) 0 y.arcs) - positions_of z.arcs) contents_same
+
+module _ (limit : ℕ) (y : Contents) where
+  abbrev uses : ℕ → Bool
+  uses = is_used y.objects
+
+  line_turns : (positions : List (List Point)) (b : Bool × List ℤ) → AllUsed uses b → (mark : Bool)
+      → sparing (large_refs limit (keep_from uses 0 positions)) b.0 (mark, map (renumbered uses) b.1) ≡ then_some (line_renumbered uses b.0) (sparing (large_refs limit positions) b.0 (mark, b.1))
+  line_turns positions b h true = refl
+  line_turns positions b h false = refs_same limit uses positions b h
+
+  greatest_turns : (positions : List (List Point)) → objects_spared (greatest_rings (trimmed y)) (sparing (large_refs limit (keep_from uses 0 positions))) (objects_pruned (line_renumbered uses) y.objects)
+      ≡ objects_pruned (line_renumbered uses) (objects_spared (greatest_rings y) (sparing (large_refs limit positions)) y.objects)
+  greatest_turns positions =
+      ap (λ arcs. objects_spared (greatest_ring arcs) (sparing (large_refs limit (keep_from uses 0 positions))) (objects_pruned (line_renumbered uses) y.objects)) (positions_alike y)
+      ∙ objects_turned (λ p. p) (map (renumbered uses)) (arc_positions y) (keep_from uses 0 (arc_positions y)) (AllUsed uses) (λ b h. all_renumbered uses (arc_positions y) b.1 h)
+      (sparing (large_refs limit positions)) (sparing (large_refs limit (keep_from uses 0 positions))) (line_turns positions) y.objects (all_used y.objects)
 
 pub trimmed_first : TrimmedFirstIsAlikeSparing
 unfolding trimmed
 trimmed_first kept limit y h =
     let more : List (List ℕ) = spread (is_used y.objects) 0 kept y.arcs in
     let same : keep_from (is_used y.objects) 0 (retained_arcs more y.arcs) ≡ retained_arcs kept (keep_from (is_used y.objects) 0 y.arcs) = spread_left (is_used y.objects) 0 kept y.arcs h in
-    record { rings = trimmed_rings y; contents = contents_same kept more limit y same; removed_count = removed_same kept more limit y same }
+    record {
+      rings = trimmed_rings y;
+      contents = contents_same kept more limit y same (greatest_rings y) (greatest_rings (trimmed y)) (greatest_turns limit y);
+      removed_count = removed_same kept more limit y same (greatest_rings y) (greatest_rings (trimmed y)) (greatest_turns limit y);
+    }
 
 -- ---- on a grid
 

@@ -1,10 +1,11 @@
 -- A topology on a grid is valid where the topology is whose positions its cells stand for.
 use Rattle.std.proofs.Common.{rules, arith, ◌≡◌, ℕ, ◌≤◌, ℤ, true, List, [], ◌∷◌, map, Option, None, Some, refl, sym, ap, ◌∙◌, subst}
-use Rattle.build_meaning.proofs.SimplifiedNames.{length-map, AllByRecursion, all_left, all_right, all_two, all_map, all_weaker, or_empty, arc_at, first_of, last_of, Meet, Closes, map_some, Point, IsPosition, is_some_list, Contents, object_features, IsTransform, TopoFeature, TopoObject, Transform, feature_celled, objects_celled, celled, IsOnGrid, EachCell, CelledIsValid, Refs}
+use Rattle.build_meaning.proofs.Names.{length-map, AllByRecursion, all_left, all_right, all_two, all_map, all_weaker, or_empty, arc_at, first_of, last_of, Meet, Closes, map_some, Point, IsPosition, is_some_list, Contents, object_features, IsTransform, TopoFeature, TopoObject, Transform, feature_celled, objects_celled, celled, IsOnGrid, EachCell, CelledIsValid, Refs, option_places, features_places, objects_places, IsPlace, IsFeature, IsObject, IsArc, IsTopology, BuiltIsValidOnGrid, IsValid, NoneIsNew}
 use Rattle.elimination_meaning.proofs.Direction.{map_reverse}
-use Rattle.topojson_types.specs.Validity.{option_places, features_places, objects_places, IsPlace, IsFeature, IsObject, IsArc, IsTopology}
 use Rattle.build_meaning.proofs.Celled.{at_map, objects_lines}
 use Rattle.build_meaning.proofs.ValidPruned.{GivesSome, option_full, option_stay, option_single}
+use Rattle.build_meaning.proofs.BuiltCells.{built_cells}
+use Rattle.build_meaning.proofs.Renumbered.{built_has_no_transform}
 
 -- ---- lines of mapped arcs
 
@@ -124,3 +125,6 @@ pub celled_is_valid : CelledIsValid
 celled_is_valid transform cell y numbers plain on h =
     let with_none : y ≡ record { objects = y.objects; arcs = y.arcs; transform = None } = ap (λ w. record { objects = y.objects; arcs = y.arcs; transform = w }) plain in
     subst (IsValidOn transform cell) (sym with_none) (valid_plain transform cell y.objects y.arcs numbers) on h
+
+pub built_is_valid : IsValid → NoneIsNew → BuiltIsValidOnGrid
+built_is_valid valid none transform cell t limit ls numbers sound distinct on = search (rules, celled_is_valid, built_has_no_transform, built_cells)

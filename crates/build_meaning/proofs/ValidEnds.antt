@@ -1,7 +1,6 @@
 -- A reduced arc begins and ends as the arc does, so lines of reduced arcs meet and close as before.
-use Rattle.std.proofs.Common.{◌≡◌, ℕ, zero, suc, ◌≤◌, List, [], ◌∷◌, ◌++◌, map, length, reverse, Option, None, Some, refl, ap, sym, ◌∙◌, subst, arith}
+use Rattle.std.proofs.Common.{◌≡◌, ℕ, zero, suc, ◌≤◌, List, [], ◌∷◌, ◌++◌, map, length, reverse, Option, None, Some, refl, ap, sym, ◌∙◌, subst, arith, ℤ, pos, negsuc}
 use Rattle.build_meaning.proofs.Names.{reverse-reverse, reverse-append, AllByRecursion, at, or_empty, arc_at, first_of, last_of, Meet, Closes, Point, reduced, EndsStay}
-use Rattle.std.specs.Prelude.{ℤ, pos, negsuc}
 
 -- they begin at the same position and end at the same
 abbrev pub SameEnds : List Point → List Point → Type 0

@@ -1,13 +1,10 @@
 -- The arcs of lines, and the indexes of one of the lines: they are in range, their arcs meet, and those of a ring close.
-use Rattle.std.proofs.Common.{◌≡◌, ◌<◌, ◌≤◌, true, List, [], ◌∷◌, map, length, ap, sym, ◌∙◌, subst, inl, inr, arith}
-use Rattle.build_meaning.proofs.Names.{AllByRecursion, all_of, all_made, in_append, number_of, arc_at, Meet, Closes, Point, is_some_list, IsClean, AllClean, is_cut, Stroke, clean_starts, line_or_ring_split, in_flat, structured, clean_in, segments, arcs_unlike, arc_is_piece, piece_has_alike, index_is, named_is, named_all, pieces_meet, rings_close, arcs_of, index_in}
-use Rattle.std.specs.Prelude.{ℤ}
-use Rattle.arc_table.specs.Growth.{first_alike}
-use Rattle.arc_table.proofs.Growth.{map_same}
-use Rattle.cutter.specs.Pieces.{pieces_of, pieces}
-use Rattle.cutter.specs.Slices.{IsSplit, started, split_of, lines_and_rings}
+use Rattle.std.proofs.Common.{◌≡◌, ◌<◌, ◌≤◌, true, List, [], ◌∷◌, map, length, ap, sym, ◌∙◌, subst, inl, inr, arith, ℤ}
+use Rattle.build_meaning.proofs.Names.{AllByRecursion, all_of, all_made, in_append, number_of, arc_at, Meet, Closes, Point, is_some_list, IsClean, AllClean, is_cut, Stroke, clean_starts, line_or_ring_split, in_flat, structured, clean_in, segments, arcs_unlike, arc_is_piece, piece_has_alike, index_is, named_is, named_all, pieces_meet, rings_close, arcs_of, index_in, pieces_of, pieces, IsSplit, started, split_of, In}
+use Rattle.cutter.specs.Slices.{lines_and_rings}
 use Rattle.cutter.specs.Structure.{PiecesAreLong}
-use Rattle.junctions.specs.Among.{In}
+use Rattle.arc_table.proofs.Growth.{map_same}
+use Rattle.arc_table.specs.Growth.{first_alike}
 
 started_clean : (lines : List Stroke) (s : Stroke) (ms : List Stroke) → AllClean (lines_and_rings (map (split_of lines) ms)) → In s ms → IsClean (started (is_cut lines) s)
 started_clean lines s [] h k = elim k [ ]

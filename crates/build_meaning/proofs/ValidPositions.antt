@@ -1,9 +1,7 @@
 -- Each position of an arc is a position of the layers.
 use Rattle.std.proofs.Common.{ℕ, ◌+◌, Bool, List, [], ◌∷◌, drop, take, arith}
-use Rattle.build_meaning.proofs.Names.{AllByRecursion, all_append, all_of, each_of, all_drop, all_take, Point, IsPosition, Address, Featured, option_points, features_points, Stroke, linework, from_flat, arc_is_piece, arcs_of, IsSound, AreSound, Named, layers_of}
-use Rattle.cutter.specs.Pieces.{joined, pieces_from, split_at, turned, pieces_of, pieces}
-use Rattle.linework.specs.Laws.{layers_points}
-use Rattle.linework.proofs.Positions.{none_is_new}
+use Rattle.build_meaning.proofs.Names.{AllByRecursion, all_append, all_of, each_of, all_drop, all_take, Point, IsPosition, Featured, option_points, features_points, Stroke, linework, from_flat, arc_is_piece, arcs_of, IsSound, AreSound, Named, layers_of, pieces_from, split_at, turned, pieces_of, pieces, layers_points, none_is_new}
+use Rattle.cutter.specs.Pieces.{joined}
 
 -- ---- pieces of a line
 
@@ -24,11 +22,16 @@ module _ (X : Point → Type 0) where
   all_turned : (k : ℕ) (ps : List Point) → AllByRecursion X ps → AllByRecursion X (turned k ps)
   all_turned k ps h = all_append X (drop k ps) (drop 1 (take (k + 1) ps)) (all_drop X k ps h) (all_drop X 1 (take (k + 1) ps) (all_take X (k + 1) ps h))
 
-  abbrev line : Address → Bool → List Point → Stroke
-  line at closed ps = record { address = at; closed = closed; positions = ps }
-
-  pub all_pieces_of : (lines : List Stroke) (s : Stroke) → AllByRecursion X s.positions → AllByRecursion (λ x. AllByRecursion X x) (pieces_of lines s)
+  all_pieces_of : (lines : List Stroke) (s : Stroke) → AllByRecursion X s.positions → AllByRecursion (λ x. AllByRecursion X x) (pieces_of lines s)
   all_pieces_of lines s h = grind (arith, all_split, all_turned)
+
+  pub arcs_have : (ls : Named) → AllByRecursion X (layers_points (layers_of ls)) → AllByRecursion (λ x. AllByRecursion X x) (arcs_of (pieces (linework (layers_of ls))))
+  arcs_have ls h =
+      let lines = linework (layers_of ls) in
+      all_of (AllByRecursion X) (arcs_of (pieces lines))
+      (λ x k. let r = from_flat (pieces_of lines) x lines (arc_is_piece x (pieces lines) k) in
+      each_of (AllByRecursion X) (pieces_of lines r.0) x
+      (all_pieces_of lines r.0 (all_of X r.0.positions (λ p m. each_of X (layers_points (layers_of ls)) p h (none_is_new (layers_of ls) r.0 p r.1 m)))) r.2)
 
 -- ---- positions of layers
 
@@ -41,10 +44,4 @@ layers_placed [] h = tt
 layers_placed (l ∷ ls) h = all_append IsPosition (features_points l.1.features) (layers_points (layers_of ls)) (features_placed l.1.features h.0) (layers_placed ls h.1)
 
 pub arcs_placed : (ls : Named) → AreSound ls → AllByRecursion (λ x. AllByRecursion IsPosition x) (arcs_of (pieces (linework (layers_of ls))))
-arcs_placed ls sound =
-    let lines = linework (layers_of ls) in
-    all_of (λ x. AllByRecursion IsPosition x) (arcs_of (pieces lines))
-    (λ x k. let r = from_flat (pieces_of lines) x lines (arc_is_piece x (pieces lines) k) in
-    each_of (λ y. AllByRecursion IsPosition y) (pieces_of lines r.0) x
-    (all_pieces_of IsPosition lines r.0 (all_of IsPosition r.0.positions
-    (λ p m. each_of IsPosition (layers_points (layers_of ls)) p (layers_placed ls sound) (none_is_new (layers_of ls) r.0 p r.1 m)))) r.2)
+arcs_placed ls sound = arcs_have IsPosition ls (layers_placed ls sound)

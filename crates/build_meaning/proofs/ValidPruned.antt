@@ -2,12 +2,12 @@
 -- where what is given for a line that has an element has one, its Points and MultiPoints stay where they are, and it is no group unless it
 -- was one.
 use Rattle.std.proofs.Common.{arith, ◌≡◌, ℕ, suc, ℤ, Bool, true, false, List, [], ◌∷◌, map, Option, None, Some, refl, sym, ap, ◌∙◌, subst}
-use Rattle.build_meaning.proofs.SimplifiedNames.{AllByRecursion, list_all, all_append, all_left, all_right, all_map, all_two, all_weaker, by_kinds, some_mapped, map_some, then_some, with_some, some_of, unless_empty, joined, Point, area_by, prune, is_some_list, full_at, full-group, places_at, single_at, TopoShape, TopoFeature, TopoObject, Transform, has_rings, has_option, no_places, line_places, lines_places, area_places, areas_places, line_full, lines_full, area_full, with_area, areas_full, into_part, ends_here, along, unmarked, rings_marked, marked, Protection, MarkedRefs, shape_marked, feature_spared, object_spared, objects_spared, Refs}
-use Rattle.std.proofs.lemmas.Bool.{and_from, and_parts}
-use Rattle.geometry.specs.declared.shape.Geometry.TheVariants as g
-use Rattle.topojson_types.specs.Validity.{is_full, is_full_option, places, option_places, is_single, is_single_option, IsPlace, IsFeature, IsObject}
+use Rattle.build_meaning.proofs.Names.{AllByRecursion, list_all, all_append, all_left, all_right, all_map, all_two, all_weaker, by_kinds, some_mapped, map_some, then_some, with_some, some_of, joined, Point, area_by, prune, is_some_list, full_at, full-group, places_at, single_at, TopoShape, TopoFeature, TopoObject, Transform, into_part, ends_here, along, unmarked, rings_marked, marked, Protection, MarkedRefs, shape_marked, feature_spared, object_spared, objects_spared, Refs, and_from, and_parts, is_full, is_full_option, places, option_places, is_single, is_single_option, IsPlace, IsFeature, IsObject}
 use Rattle.build_meaning.proofs.Marks.{left_plain, some_made, left-point, left-points, left-line, left-lines, left-area, left-areas, left-group}
+use Rattle.build_meaning.proofs.Reshaped.{same_made, same_listed}
 use Rattle.build_meaning.proofs.Spared.{by_refs}
+use Rattle.build_meaning.proofs.ValidShapes.{has_rings, has_option, no_places, line_full, lines_full, area_full, with_area, areas_full}
+use Rattle.geometry.specs.declared.shape.Geometry.TheVariants as g
 
 -- what is given for a line or ring that has an element has one
 abbrev pub GivesSome : Refs → Type 0
@@ -29,26 +29,14 @@ module _ (place : Point → Point) (kept : MarkedRefs) where
   abbrev Single : TopoShape → Type 0
   Single s = (way : Option (List ℕ)) → is_single s ≡ true → is_single_option (made s way) ≡ true
 
-  line_single : (o : Option (List ℤ)) → is_single_option (map_some g.Line o) ≡ true
-  line_single o = grind (arith, single_at.line)
-
-  lines_single : (ms : List (List ℤ)) → is_single_option (unless_empty g.Lines ms) ≡ true
-  lines_single ms = grind (arith, single_at.lines)
-
-  area_single : (o : Option (List (List ℤ))) → is_single_option (map_some g.Area o) ≡ true
-  area_single o = grind (arith, single_at.area)
-
-  areas_single : (mss : List (List (List ℤ))) → is_single_option (unless_empty g.Areas mss) ≡ true
-  areas_single mss = grind (arith, single_at.areas)
-
   stays_single : (s : TopoShape) → Single s
   stays_single = by_kinds Single (record {
     point = λ p way h. ap is_single_option (left-point place kept p way) ∙ single_at.point (place p);
     points = λ ps way h. ap is_single_option (left-points place kept ps way) ∙ single_at.points (map place ps);
-    line = λ l way h. ap is_single_option (left-line place kept l way) ∙ line_single (plain false l);
-    lines = λ ls way h. ap is_single_option (left-lines place kept ls way) ∙ lines_single (some_of (plain false) ls);
-    area = λ rs way h. ap is_single_option (left-area place kept rs way) ∙ area_single (area_by (kept true) (rings_marked rs way));
-    areas = λ areas way h. ap is_single_option (left-areas place kept areas way) ∙ areas_single (some_of (area_by (kept true)) (along rings_marked 0 areas way));
+    line = λ l way h. ap is_single_option (left-line place kept l way) ∙ same_made true is_single g.Line single_at.line (plain false l);
+    lines = λ ls way h. ap is_single_option (left-lines place kept ls way) ∙ same_listed true is_single g.Lines single_at.lines (some_of (plain false) ls);
+    area = λ rs way h. ap is_single_option (left-area place kept rs way) ∙ same_made true is_single g.Area single_at.area (area_by (kept true) (rings_marked rs way));
+    areas = λ areas way h. ap is_single_option (left-areas place kept areas way) ∙ same_listed true is_single g.Areas single_at.areas (some_of (area_by (kept true)) (along rings_marked 0 areas way));
     group = λ ss all way h. (let z : false ≡ true = sym (single_at.group ss) ∙ h in cc);
   })
 
@@ -79,10 +67,10 @@ module _ (place : Point → Point) (kept : MarkedRefs) where
       point = λ p way h. subst (AllByRecursion X) (sym (ap option_places (left-point place kept p way) ∙ places_at.point (place p))) (subst (AllByRecursion Placed) (places_at.point p) h);
       points = λ ps way h. subst (AllByRecursion X) (sym (ap option_places (left-points place kept ps way) ∙ places_at.points (map place ps)))
           (all_map X place ps (subst (AllByRecursion Placed) (places_at.points ps) h));
-      line = λ l way h. no_places X (made (g.Line l) way) (ap option_places (left-line place kept l way) ∙ line_places (plain false l));
-      lines = λ ls way h. no_places X (made (g.Lines ls) way) (ap option_places (left-lines place kept ls way) ∙ lines_places (some_of (plain false) ls));
-      area = λ rs way h. no_places X (made (g.Area rs) way) (ap option_places (left-area place kept rs way) ∙ area_places (area_by (kept true) (rings_marked rs way)));
-      areas = λ areas way h. no_places X (made (g.Areas areas) way) (ap option_places (left-areas place kept areas way) ∙ areas_places (some_of (area_by (kept true)) (along rings_marked 0 areas way)));
+      line = λ l way h. no_places X (made (g.Line l) way) (ap option_places (left-line place kept l way) ∙ same_made [] places g.Line places_at.line (plain false l));
+      lines = λ ls way h. no_places X (made (g.Lines ls) way) (ap option_places (left-lines place kept ls way) ∙ same_listed [] places g.Lines places_at.lines (some_of (plain false) ls));
+      area = λ rs way h. no_places X (made (g.Area rs) way) (ap option_places (left-area place kept rs way) ∙ same_made [] places g.Area places_at.area (area_by (kept true) (rings_marked rs way)));
+      areas = λ areas way h. no_places X (made (g.Areas areas) way) (ap option_places (left-areas place kept areas way) ∙ same_listed [] places g.Areas places_at.areas (some_of (area_by (kept true)) (along rings_marked 0 areas way)));
       group = λ ss all way h. subst (AllByRecursion X) (sym (ap option_places (left-group place kept ss way) ∙ places_at.group (some_of (prune place kept) (along marked 0 ss way))))
           (members_stay 0 ss way all (subst (AllByRecursion Placed) (places_at.group ss) h));
     })

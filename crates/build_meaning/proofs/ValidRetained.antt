@@ -1,7 +1,45 @@
--- Arcs of which cells are retained from the first to the last begin and end as before.
-use Rattle.std.proofs.Common.{◌≡◌, ℕ, zero, suc, ◌≤◌, ℤ, pos, negsuc, List, [], ◌∷◌, length, Option, None, Some, refl, ap, ◌∙◌, arith}
-use Rattle.build_meaning.proofs.SimplifiedNames.{AllByRecursion, at, or_empty, arc_at, first_of, last_of, with_some, Point, Transform, SameEnds, last_reverse, first_reverse, retained, retained_arcs, FromFirstToLast, EachFromFirstToLast}
-use Rattle.topojson_types.specs.Validity.{IsPlace, IsArc}
+-- Arcs of which cells are retained: by the indexes that reduction leaves they are the reduced ones, and from the first to the last they begin and end as before.
+use Rattle.std.proofs.Common.{◌≡◌, ℕ, suc, Bool, ◌+◌, List, [], ◌∷◌, map, length, Some, refl, ap, ◌∙◌, arith, sym, zero, ◌≤◌, ℤ, pos, negsuc, Option, None}
+use Rattle.build_meaning.proofs.Names.{AllByRecursion, all_two, all_weaker, map_agree, at, with_some, Point, sub_all, Vertex, numbered, remaining, reduce, reduced, keep_from, RetainedIsReduced, retained, retained_arcs, eliminate_sub, or_empty, arc_at, first_of, last_of, Transform, FromFirstToLast, EachFromFirstToLast, IsPlace, IsArc}
+use Rattle.build_meaning.proofs.Trimmed.{kept_of_map}
+use Rattle.build_meaning.proofs.ValidEnds.{SameEnds, last_reverse, first_reverse}
+
+-- the vertex stands in the line at its index
+abbrev pub Stands : List Point → Vertex → Type 0
+Stands ps v = at ps v.index ≡ Some v.point
+
+numbered_stand : (ps : List Point) (i : ℕ) (qs : List Point) → ((j : ℕ) → at ps (i + j) ≡ at qs j) → AllByRecursion (Stands ps) (numbered i qs)
+numbered_stand ps i [] h = tt
+numbered_stand ps i (q ∷ qs) h = (
+  ap (at ps) (let e : i ≡ i + 0 = omega arith in e) ∙ h 0,
+  numbered_stand ps (i + 1) qs (λ j. ap (at ps) (let e : i + 1 + j ≡ i + suc j = omega arith in e) ∙ h (suc j)),
+)
+
+pub points_retained : (ps : List Point) (vs : List Vertex) → AllByRecursion (Stands ps) vs → retained (map (λ v. v.index) vs) ps ≡ map (λ v. v.point) vs
+points_retained ps [] h = refl
+points_retained ps (v ∷ vs) h = ap (λ o. with_some o (retained (map (λ v. v.index) vs) ps)) h.0 ∙ ap (λ l. v.point ∷ l) (points_retained ps vs h.1)
+
+-- each vertex of the line stands in it
+pub all_stand : (ps : List Point) → AllByRecursion (Stands ps) (numbered 0 ps)
+all_stand ps = numbered_stand ps 0 ps (λ j. ap (at ps) (let e : 0 + j ≡ j = omega arith in e))
+
+pub retained_is_reduced : RetainedIsReduced
+unfolding reduce reduced
+retained_is_reduced t ps = points_retained ps (remaining t ps) (sub_all (Stands ps) (eliminate_sub (length ps) t (numbered 0 ps)) (all_stand ps))
+
+-- each arc is retained by its own indexes
+pub retained_each : (f : List Point → List ℕ) (arcs : List (List Point)) → retained_arcs (map f arcs) arcs ≡ map (λ a. retained (f a) a) arcs
+retained_each f [] = refl
+retained_each f (a ∷ arcs) = ap (λ xs. retained (f a) a ∷ xs) (retained_each f arcs)
+
+pub each_reduced : (t : ℕ) (arcs : List (List Point)) → map (λ a. retained (reduce t a) a) arcs ≡ map (reduced t) arcs
+each_reduced t arcs = search (all_two, all_weaker, map_agree, retained_is_reduced)
+
+-- so it is where only some of them are left
+pub each_kept : (t : ℕ) (used : ℕ → Bool) (arcs : List (List Point)) →
+    keep_from used 0 (retained_arcs (map (reduce t) arcs) arcs) ≡ retained_arcs (map (reduce t) (keep_from used 0 arcs)) (keep_from used 0 arcs)
+each_kept t used arcs =
+    ap (keep_from used 0) (retained_each (reduce t) arcs) ∙ sym (kept_of_map (λ a. retained (reduce t a) a) used 0 arcs) ∙ sym (retained_each (reduce t) (keep_from used 0 arcs))
 
 -- ---- one arc
 

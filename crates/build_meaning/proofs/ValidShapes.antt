@@ -1,11 +1,9 @@
 -- A shape of which some lines and rings are left out has no empty list where what is given for a line has an element, and its Points
 -- and MultiPoints stay where they are.
 use Rattle.std.proofs.Common.{◌≡◌, ◌&&◌, ℤ, Bool, true, false, List, [], ◌∷◌, map, Option, None, Some, refl, sym, ap, ◌∙◌, subst, arith}
-use Rattle.build_meaning.proofs.Names.{AllByRecursion, list_all, all_append, all_left, all_right, proper_at, points_at, proper-group, prune-point, prune-points, prune-line, prune-lines, prune-area, prune-areas, prune-group, by_kinds, map_some, with_some, some_of, unless_empty, joined, Point, area_by, prune, Shape, is_some_list, is_proper, shape_points, is_full, is_full_option, places, option_places}
-use Rattle.std.proofs.lemmas.Bool.{and_parts, and_from}
+use Rattle.build_meaning.proofs.Names.{AllByRecursion, list_all, all_append, all_left, all_right, proper_at, points_at, proper-group, prune-point, prune-points, prune-line, prune-lines, prune-area, prune-areas, prune-group, by_kinds, map_some, with_some, some_of, unless_empty, joined, Point, area_by, prune, Shape, is_some_list, is_proper, shape_points, is_full, is_full_option, places, option_places, and_parts, and_from, TopoShape, full_at, places_at, full-group}
 use Rattle.geometry.specs.declared.shape.Geometry.TheVariants as g
-use Rattle.topojson_types.specs.Topologies.{TopoShape}
-use Rattle.topojson_types.proofs.ByKind.{full_at, places_at, full-group}
+use Rattle.build_meaning.proofs.Reshaped.{same_made, same_listed}
 
 map_id : {A : Type 0} (xs : List A) → map (λ x. x) xs ≡ xs
 map_id [] = refl
@@ -14,19 +12,6 @@ map_id (x ∷ xs) = ap (λ ys. x ∷ ys) (map_id xs)
 -- a polygon has rings, of which none is empty
 abbrev pub has_rings : List (List ℤ) → Bool
 has_rings rs = is_some_list rs && list_all is_some_list rs
-
--- what stays of lines and polygons has no place
-pub line_places : (o : Option (List ℤ)) → option_places (map_some g.Line o) ≡ []
-line_places o = grind (arith, places_at.line)
-
-pub lines_places : (ms : List (List ℤ)) → option_places (unless_empty g.Lines ms) ≡ []
-lines_places ms = grind (arith, places_at.lines)
-
-pub area_places : (o : Option (List (List ℤ))) → option_places (map_some g.Area o) ≡ []
-area_places o = grind (arith, places_at.area)
-
-pub areas_places : (mss : List (List (List ℤ))) → option_places (unless_empty g.Areas mss) ≡ []
-areas_places mss = grind (arith, places_at.areas)
 
 pub no_places : (X : Point → Type 0) (o : Option TopoShape) → option_places o ≡ [] → AllByRecursion X (option_places o)
 no_places X o e = subst (AllByRecursion X) (sym e) tt
@@ -69,10 +54,10 @@ module _ (kept : Bool → List Point → Option (List ℤ)) where
     places_stay = by_kinds Stay (record {
       point = λ p h. subst (AllByRecursion X) (points_at.point p ∙ sym (ap option_places (prune-point (λ p. p) kept p) ∙ places_at.point p)) h;
       points = λ ps h. subst (AllByRecursion X) (points_at.points ps ∙ sym (ap option_places (prune-points (λ p. p) kept ps) ∙ places_at.points (map (λ p. p) ps) ∙ map_id ps)) h;
-      line = λ l h. no_places X (made (g.Line l)) (ap option_places (prune-line (λ p. p) kept l) ∙ line_places (kept false l));
-      lines = λ ls h. no_places X (made (g.Lines ls)) (ap option_places (prune-lines (λ p. p) kept ls) ∙ lines_places (some_of (kept false) ls));
-      area = λ rs h. no_places X (made (g.Area rs)) (ap option_places (prune-area (λ p. p) kept rs) ∙ area_places (area_by (kept true) rs));
-      areas = λ areas h. no_places X (made (g.Areas areas)) (ap option_places (prune-areas (λ p. p) kept areas) ∙ areas_places (some_of (area_by (kept true)) areas));
+      line = λ l h. no_places X (made (g.Line l)) (ap option_places (prune-line (λ p. p) kept l) ∙ same_made [] places g.Line places_at.line (kept false l));
+      lines = λ ls h. no_places X (made (g.Lines ls)) (ap option_places (prune-lines (λ p. p) kept ls) ∙ same_listed [] places g.Lines places_at.lines (some_of (kept false) ls));
+      area = λ rs h. no_places X (made (g.Area rs)) (ap option_places (prune-area (λ p. p) kept rs) ∙ same_made [] places g.Area places_at.area (area_by (kept true) rs));
+      areas = λ areas h. no_places X (made (g.Areas areas)) (ap option_places (prune-areas (λ p. p) kept areas) ∙ same_listed [] places g.Areas places_at.areas (some_of (area_by (kept true)) areas));
       group = λ ss all h. subst (AllByRecursion X) (sym (ap option_places (prune-group (λ p. p) kept ss) ∙ places_at.group (some_of made ss)))
           (members_stay ss all (subst (AllByRecursion X) (points_at.group ss) h));
     })

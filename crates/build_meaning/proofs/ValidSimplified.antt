@@ -1,10 +1,14 @@
 -- A topology whose arcs are reduced stays valid.
-use Rattle.std.proofs.Common.{arith, ◌≡◌, ℕ, ◌≤◌, ℤ, Bool, true, cond, List, map, length, Option, Some, sym, ap, ◌∙◌, subst}
-use Rattle.build_meaning.proofs.SimplifiedNames.{AllByRecursion, all_weaker, all_two, arc_at, Meet, Closes, Point, Cause, is_some_list, placed_arcs, Contents, objects_lines_and_rings, TopoObject, AllUsed, all_renumbered, all_used, meet_as, close_as, all_kept, all_below, of_objects, unless, is_used, keep_from, renumbered, line_renumbered, trimmed, SimplifiedIsValid, Protection, no_protection, sparing, objects_spared, spared_whole, spared_by, SparedIsValid, small_cause, large_refs, objects_pruned, retained_arcs, simplified_by, EachFromFirstToLast}
-use Rattle.topojson_types.specs.Validity.{AreDistinct, AreInRange, IsJoined, IsClosed, IsArc, IsObject, IsTopology}
-use Rattle.build_meaning.proofs.Spared.{by_refs, objects_plain, whole_plain, names_stay, objects_left}
-use Rattle.build_meaning.proofs.ValidRetained.{retained_length, named_retained, retained_are_arcs}
+use Rattle.std.proofs.Common.{arith, ◌≡◌, ℕ, ◌≤◌, ℤ, Bool, true, cond, List, map, length, Option, Some, sym, subst}
+use Rattle.build_meaning.proofs.Names.{AllByRecursion, all_weaker, all_two, arc_at, Meet, Closes, Point, Cause, is_some_list, placed_arcs, Contents, objects_lines_and_rings, TopoObject, unless, is_used, keep_from, renumbered, line_renumbered, trimmed, SimplifiedIsValid, Protection, no_protection, sparing, objects_spared, spared_whole, spared_by, SparedIsValid, small_cause, large_refs, objects_pruned, retained_arcs, simplified_by, EachFromFirstToLast, AreDistinct, AreInRange, IsJoined, IsClosed, IsArc, IsObject, IsTopology, EndsStay, IsValid, NoneIsNew, built, untrimmed}
+use Rattle.build_meaning.proofs.Reshaped.{pruned_shape, names_stay}
+use Rattle.build_meaning.proofs.Spared.{spared_shape, by_refs, objects_plain, whole_plain, objects_left}
+use Rattle.build_meaning.proofs.Trimmed.{AllUsed, all_renumbered, all_used}
+use Rattle.build_meaning.proofs.ValidEnds.{meet_as, close_as}
 use Rattle.build_meaning.proofs.ValidPruned.{MarkedGivesSome, objects_are}
+use Rattle.build_meaning.proofs.ValidRetained.{retained_length, named_retained, retained_are_arcs}
+use Rattle.build_meaning.proofs.ValidTrimmed.{all_kept, all_below, of_objects}
+use Rattle.build_meaning.proofs.ValidUntrimmed.{untrimmed_is_valid}
 
 -- the indexes name arcs that meet, and those of a ring close
 abbrev IsFine : List (List Point) → Bool × List ℤ → Type 0
@@ -36,7 +40,7 @@ valid_trimmed y h =
       λ c. subst Closes (sym (all_renumbered used y.arcs b.1 k)) (f.2 c),
     )) (objects_lines_and_rings y.objects) (all_fine y h) (all_used y.objects)) in
     record {
-      names = subst AreDistinct (sym (ap (map (λ o. o.0)) (sym as_spared) ∙ names_stay no_protection (by_refs (line_renumbered used)) y.objects)) h.names;
+      names = subst AreDistinct (sym (names_stay (pruned_shape (λ p. p) (line_renumbered used)) y.objects)) h.names;
       transform = h.transform;
       objects = subst (AllByRecursion (λ o. IsObject y.transform o.1)) as_spared (objects_are no_protection (by_refs (line_renumbered used)) (some_renumbered used) y.transform y.objects h.objects);
       arcs = all_kept (IsArc y.transform) used 0 y.arcs h.arcs;
@@ -63,7 +67,7 @@ valid_whole protects kept limit y h through =
       λ c. close_as (arc_at fewer) (arc_at y.arcs) ends b.1 (f.2 c),
     ) e) (objects_lines_and_rings y.objects) (all_fine y h)) in
     record {
-      names = subst AreDistinct (sym (names_stay protects (sparing (large_refs limit places)) y.objects)) h.names;
+      names = subst AreDistinct (sym (names_stay (spared_shape protects (sparing (large_refs limit places))) y.objects)) h.names;
       transform = h.transform;
       objects = objects_are protects (sparing (large_refs limit places)) (λ closed mark l has m e. gives l m mark (small_cause limit places closed l) has e) y.transform y.objects h.objects;
       arcs = retained_are_arcs y.transform kept y.arcs h.arcs through;
@@ -89,3 +93,7 @@ pub simplified_is_valid : SimplifiedIsValid
 unfolding simplified_by
 simplified_is_valid kept limit y h through =
     subst (λ whole. IsTopology (trimmed whole)) (whole_plain kept limit y) (valid_trimmed (spared_whole no_protection kept limit y) (valid_whole no_protection kept limit y h through))
+
+pub built_is_valid : EndsStay → NoneIsNew → IsValid
+unfolding built
+built_is_valid stay none t limit ls sound distinct = valid_trimmed (untrimmed t limit ls) (untrimmed_is_valid stay none t limit ls sound distinct)

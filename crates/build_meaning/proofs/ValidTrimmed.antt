@@ -1,10 +1,9 @@
 -- Where the arcs that no line uses are left out, each index that is used names the same arc as before.
-use Rattle.std.proofs.Common.{◌≡◌, ℕ, zero, suc, ◌+◌, ◌<◌, Bool, true, List, [], ◌∷◌, map, length, Option, None, Some, ap, subst, arith}
-use Rattle.build_meaning.proofs.Names.{AllByRecursion, all_weaker, all_append, all_left, all_right, number_of, option_lines_and_rings, TopoFeature, TopoObject, keep_from, new_index_from, renumbered, line_renumbered, feature_renumbered, object_renumbered}
-use Rattle.std.specs.Prelude.{ℤ}
-use Rattle.topojson_types.specs.Topologies.{object_features, features_lines_and_rings, objects_lines_and_rings}
-use Rattle.build_meaning.proofs.Trimmed.{IsUsed}
+use Rattle.std.proofs.Common.{◌≡◌, ℕ, zero, suc, ◌+◌, ◌<◌, Bool, true, List, [], ◌∷◌, map, length, Option, Some, ap, subst, arith, ℤ, None}
+use Rattle.build_meaning.proofs.Names.{TopoShape, objects_pruned, AllByRecursion, all_weaker, number_of, option_lines_and_rings, keep_from, new_index_from, renumbered, line_renumbered, objects_lines_and_rings}
 use Rattle.build_meaning.proofs.LinesAndRings.{option_left}
+use Rattle.build_meaning.proofs.Reshaped.{Objects, pruned_shape, objects_over}
+use Rattle.build_meaning.proofs.Trimmed.{IsUsed}
 
 -- ---- elements that stay
 
@@ -39,20 +38,10 @@ module _ (used : ℕ → Bool) (X : Bool × List ℤ → Type 0) where
   or_else d None = d
   or_else d (Some m) = m
 
-  of_feature : (f : TopoFeature) → AllByRecursion Renumbers (option_lines_and_rings f.shape) → AllByRecursion X (option_lines_and_rings (feature_renumbered used f).shape)
-  of_feature f h =
-      option_left (λ p. p) (line_renumbered used) X f.shape
-      (all_weaker Renumbers (λ b. (m : List ℤ) → Some (map (renumbered used) b.1) ≡ Some m → X (b.0, m)) (λ b k m e. subst (λ z. X (b.0, z)) (ap (or_else m) e) k) (option_lines_and_rings f.shape) h)
+  of_shape : (s : Option TopoShape) → AllByRecursion Renumbers (option_lines_and_rings s) → AllByRecursion X (option_lines_and_rings (pruned_shape (λ p. p) (line_renumbered used) s))
+  of_shape s h =
+      option_left (λ p. p) (line_renumbered used) X s
+      (all_weaker Renumbers (λ b. (m : List ℤ) → Some (map (renumbered used) b.1) ≡ Some m → X (b.0, m)) (λ b k m e. subst (λ z. X (b.0, z)) (ap (or_else m) e) k) (option_lines_and_rings s) h)
 
-  of_features : (fs : List TopoFeature) → AllByRecursion Renumbers (features_lines_and_rings fs) → AllByRecursion X (features_lines_and_rings (map (feature_renumbered used) fs))
-  of_features [] h = tt
-  of_features (f ∷ fs) h =
-      grind (arith, all_append, of_feature, all_left, all_right, of_features fs (all_right Renumbers (option_lines_and_rings f.shape) (features_lines_and_rings fs) h))
-
-  of_object : (o : TopoObject) → AllByRecursion Renumbers (features_lines_and_rings (object_features o)) → AllByRecursion X (features_lines_and_rings (object_features (object_renumbered used o)))
-  of_object o h = grind (arith, of_features)
-
-  pub of_objects : (os : List (List ℕ × TopoObject)) → AllByRecursion Renumbers (objects_lines_and_rings os) → AllByRecursion X (objects_lines_and_rings (map (λ o. (o.0, object_renumbered used o.1)) os))
-  of_objects [] h = tt
-  of_objects (o ∷ os) h =
-      search (all_append, of_object, all_left, all_right, of_objects os (all_right Renumbers (features_lines_and_rings (object_features o.1)) (objects_lines_and_rings os) h))
+  pub of_objects : (os : Objects) → AllByRecursion Renumbers (objects_lines_and_rings os) → AllByRecursion X (objects_lines_and_rings (objects_pruned (line_renumbered used) os))
+  of_objects os h = objects_over Renumbers X option_lines_and_rings option_lines_and_rings (pruned_shape (λ p. p) (line_renumbered used)) of_shape os h

@@ -1,10 +1,10 @@
 -- At a threshold and a limit of zero what is expected of a line is the line.
 use Rattle.std.proofs.Common.{◌≡◌, ℕ, nat_lt, Bool, true, false, ◌&&◌, ◌||◌, cond, List, [], ◌∷◌, map, length, None, Some, refl, ap, ◌∙◌, inl, inr, arith}
-use Rattle.build_meaning.proofs.Names.{nat_tests, all_weaker, twice_ring_area, Point, Address, clean_from, clean, is_short, Moves, IsCleanList, IsClean, AllClean, is_cut, Stroke, clean_starts, line_or_ring_split, turned_length, clean_in, In, reduced, ZeroLaw, cleaned, is_small, kept_line, LosesNothing}
-use Rattle.cutter.specs.Pieces.{start_in, turned, from_start, stitched}
-use Rattle.cutter.specs.Slices.{started, split_of, lines_and_rings}
-use Rattle.cutter.proofs.Starts.{ring_cut, start_cut, line}
+use Rattle.build_meaning.proofs.Names.{nat_tests, all_weaker, twice_ring_area, Point, Address, clean_from, clean, is_short, Moves, IsCleanList, IsClean, AllClean, is_cut, Stroke, clean_starts, line_or_ring_split, turned_length, clean_in, In, reduced, ZeroLaw, cleaned, is_small, kept_line, LosesNothing, start_in, turned, from_start, started, split_of}
 use Rattle.geometry.proofs.Points.{same_is}
+use Rattle.cutter.proofs.Starts.{ring_cut, start_cut, line}
+use Rattle.cutter.specs.Pieces.{stitched}
+use Rattle.cutter.specs.Slices.{lines_and_rings}
 use Rattle.build_meaning.proofs.Linework.{Line, plain, clean_line, plain_pieces, StandsIn, all_clean, each_stands}
 
 -- ---- a clean line stays when it is cleaned

@@ -20,7 +20,7 @@ pub fn built_is_valid()
 }
 
 /// Before reduction each segment of the layers' lines lies once, in exactly one arc.
-#[tactic(auto, using(crate::proofs::ValidBuilt::segments_once))]
+#[tactic(auto, using(crate::proofs::Once::each_segment_once))]
 pub fn each_segment_once()
     ensures { EachSegmentOnce }
 {}

@@ -9,11 +9,13 @@ use crate::simplified_laws::{
 use elimination_meaning::nothing_is_new;
 
 /// Sound layers snapped to the grid that is asked for are sound under the same names, and each of their positions lies on the grid.
+#[tactic(auto, using(crate::proofs::Snapped::snapped_on))]
 pub fn snapped_are_on()
     ensures { SnappedAreOn }
 {}
 
 /// Snapped layers nest no deeper, and their numbers stay numbers.
+#[tactic(auto, using(crate::proofs::Snapped::snapped_keep))]
 pub fn snapped_keep()
     ensures { SnappedKeep }
 {}
@@ -24,6 +26,7 @@ pub fn quantized_is_valid()
 {}
 
 /// It decodes to the same on the grid.
+#[tactic(auto, using(crate::proofs::OnGrid::quantized_decodes))]
 pub fn quantized_decodes()
     ensures { QuantizedDecodes }
 {}
@@ -58,6 +61,7 @@ pub fn built_decodes_quantized()
 
 /// What is built of such layers at a threshold and a limit of zero, put on the grid and then reduced by both, is what is built by both,
 /// put on the grid.
+#[tactic(auto, using(crate::proofs::OnGrid::simplifies))]
 pub fn simplifies_quantized()
     ensures { SimplifiesQuantized }
 {

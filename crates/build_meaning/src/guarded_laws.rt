@@ -78,6 +78,7 @@ pub fn guarded_is_assembled()
 }
 
 /// The indexes that stay of an arc of layers reach from its first position to its last.
+#[tactic(auto, using(crate::proofs::GuardedAssembled::arc_indexes_through))]
 pub fn guarded_arc_indexes_reach()
     ensures { GuardedArcIndexesReach }
 {

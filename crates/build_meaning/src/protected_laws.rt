@@ -6,11 +6,13 @@ use guarded_meaning::{
 };
 
 /// The protected ring is an outer ring of four positions or more, and of those the first that encloses most.
+#[tactic(auto, using(crate::proofs::Greatest::greatest_is))]
 pub fn greatest_ring_is_greatest()
     ensures { GreatestRingIsGreatest }
 {}
 
 /// Where a shape has none, no outer ring of it has four positions.
+#[tactic(auto, using(crate::proofs::Greatest::none_is))]
 pub fn none_is_greatest()
     ensures { NoneIsGreatest }
 {}
@@ -36,6 +38,7 @@ pub fn spared_keeps()
 {}
 
 /// The indexes that stay of a valid topology's arc reach from its first cell to its last.
+#[tactic(auto, using(crate::proofs::Protected::indexes_reach))]
 pub fn protecting_indexes_reach()
     ensures { ProtectingIndexesReach }
 {
@@ -55,11 +58,13 @@ pub fn protecting_keeps()
 {}
 
 /// The arcs that are left of it are the reduced ones that a line uses that is kept.
+#[tactic(auto, using(crate::proofs::Protected::arcs_are_reduced))]
 pub fn protecting_arcs_are_reduced()
     ensures { ProtectingArcsAreReduced }
 {}
 
 /// Where no crossing may be made, no more pairs of segments meet badly than before.
+#[tactic(auto, using(crate::proofs::Protected::crossings_never_rise))]
 pub fn protecting_crossings_never_rise()
     ensures { ProtectingCrossingsNeverRise }
 {
@@ -68,6 +73,7 @@ pub fn protecting_crossings_never_rise()
 }
 
 /// And none do where none did.
+#[tactic(auto, using(crate::proofs::Protected::none_stays_none))]
 pub fn protecting_none_stays_none()
     ensures { ProtectingNoneStaysNone }
 {
@@ -76,6 +82,7 @@ pub fn protecting_none_stays_none()
 }
 
 /// Each feature that has an outer ring of four positions or more keeps the one that encloses most.
+#[tactic(auto, using(crate::proofs::Protected::shapes_stay))]
 pub fn shapes_stay()
     ensures { ShapesStay }
 {

@@ -27,6 +27,7 @@ pub fn protecting_on_grid()
 
 /// What is left of layers over all their arcs is left by their own lines and rings: what is reported of one, and whether it is left, has one
 /// cause.
+#[tactic(auto, using(crate::proofs::ProtectedLayers::sparing_of_layers))]
 pub fn sparing_is_of_layers()
     ensures { SparingIsOfLayers }
 {
@@ -34,6 +35,7 @@ pub fn sparing_is_of_layers()
 }
 
 /// The protected rings of what is built of layers at zero are those of the layers.
+#[tactic(auto, using(crate::proofs::ProtectedLayers::built_rings))]
 pub fn built_rings_are_of_layers()
     ensures { BuiltRingsAreOfLayers }
 {
@@ -41,6 +43,7 @@ pub fn built_rings_are_of_layers()
 }
 
 /// In each feature of it, on a grid too, that of its feature of the layers is protected, if one is.
+#[tactic(auto, using(crate::proofs::LayersKept::features_have))]
 pub fn built_features_have_rings()
     ensures { BuiltFeaturesHaveRings }
 {
@@ -49,6 +52,7 @@ pub fn built_features_have_rings()
 }
 
 /// So the indexes that stay of the layers' arcs are those of the used arcs, where these rings are protected.
+#[tactic(auto, using(crate::proofs::ProtectedLayers::arc_indexes_are))]
 pub fn protecting_arc_indexes_are_of_layers()
     ensures { ProtectingArcIndexesAreOfLayers }
 {
@@ -65,6 +69,7 @@ pub fn protecting_is_assembled()
 }
 
 /// The indexes that stay of an arc of layers reach from its first position to its last.
+#[tactic(auto, using(crate::proofs::ProtectedLayers::arc_indexes_through))]
 pub fn protecting_arc_indexes_reach()
     ensures { ProtectingArcIndexesReach }
 {

@@ -3,15 +3,16 @@ ghost use Rattle.build_meaning.specs.SimplifiedLaws.{ArcIndexesReach, AssembledI
 
 use crate::built_laws::{built_decodes_back, built_is_valid};
 use elimination_meaning::{direction_law, ends_stay, nothing_is_new, zero_law};
+use guarded_meaning::{arcs_rise, unguarded_index_law};
 
 /// The positions with the indexes that stay are those that stay.
-#[tactic(auto, using(crate::proofs::Retained::retained_is_reduced))]
+#[tactic(auto, using(crate::proofs::ValidRetained::retained_is_reduced))]
 pub fn retained_is_reduced()
     ensures { RetainedIsReduced }
 {}
 
 /// What is built of layers at a threshold and a limit of zero and then reduced by both is what is built of them by both.
-#[tactic(auto, using(crate::proofs::Simplified::simplifies_to_built))]
+#[tactic(auto, using(crate::proofs::GuardedAssembled::simplifies_to_built))]
 pub fn simplifies_to_built()
     ensures { SimplifiesToBuilt }
 {
@@ -21,7 +22,7 @@ pub fn simplifies_to_built()
 
 /// On a grid on which each position of the layers lies, the cells of what is built at zero are reduced to the cells of what
 /// is built at the threshold.
-#[tactic(auto, using(crate::proofs::Celled::simplifies_on_grid))]
+#[tactic(auto, using(crate::proofs::GuardedAssembled::simplifies_on_grid))]
 pub fn simplifies_to_built_on_grid()
     ensures { SimplifiesToBuiltOnGrid }
 {
@@ -42,7 +43,7 @@ pub fn celled_decodes()
 {}
 
 /// What is built of layers on a grid on which each of their positions lies decodes to what is built of them without a grid.
-#[tactic(auto, using(crate::proofs::BuiltOnGrid::built_decodes))]
+#[tactic(auto, using(crate::proofs::CelledDecoding::built_decodes))]
 pub fn built_decodes_on_grid()
     ensures { BuiltDecodesOnGrid }
 {
@@ -76,15 +77,21 @@ pub fn simplified_is_valid()
 {}
 
 /// The indexes that reduction leaves of a valid topology's arc reach from its first cell to its last.
-#[tactic(auto, using(crate::proofs::Reaching::indexes_reach))]
+#[tactic(auto, using(crate::proofs::Protected::reduced_indexes_reach))]
 pub fn indexes_reach()
     ensures { IndexesReach }
-{}
+{
+    arcs_rise();
+    unguarded_index_law();
+}
 
 /// A topology whose arcs are reduced is valid again.
 pub fn reduced_is_valid()
     ensures { ReducedIsValid }
-{}
+{
+    arcs_rise();
+    unguarded_index_law();
+}
 
 /// What is assembled of layers, each arc reduced at a threshold, is what is built of them at that threshold.
 #[tactic(auto, using(crate::proofs::Assembled::assembles_to_built))]
@@ -125,7 +132,10 @@ pub fn assembling_removes()
 #[tactic(auto, using(crate::proofs::Assembled::indexes_reach))]
 pub fn arc_indexes_reach()
     ensures { ArcIndexesReach }
-{}
+{
+    arcs_rise();
+    unguarded_index_law();
+}
 
 /// What is assembled of layers is valid, where each arc keeps its ends.
 pub fn assembled_is_valid()

@@ -1,4 +1,4 @@
-use Rattle.build_meaning.proofs.Kept.{keeps}
+use Rattle.build_meaning.proofs.OnGrid.{keeps}
 use Rattle.build_meaning.proofs.grid_laws.quantized_keeps.Goals as goal
 
 pub returns : goal.returns

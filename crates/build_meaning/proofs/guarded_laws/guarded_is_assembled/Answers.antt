@@ -1,4 +1,4 @@
-use Rattle.build_meaning.proofs.GuardedLayers.{is_assembled}
+use Rattle.build_meaning.proofs.GuardedAssembled.{is_assembled}
 use Rattle.build_meaning.proofs.guarded_laws.guarded_is_assembled.Goals as goal
 
 pub returns : goal.returns

@@ -1,4 +1,4 @@
-use Rattle.build_meaning.proofs.KeptLabels.{spared_keeps}
+use Rattle.build_meaning.proofs.Left.{spared_keeps}
 use Rattle.build_meaning.proofs.protected_laws.spared_keeps.Goals as goal
 
 pub returns : goal.returns

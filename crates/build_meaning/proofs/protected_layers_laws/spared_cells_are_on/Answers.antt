@@ -1,4 +1,4 @@
-use Rattle.build_meaning.proofs.SparedLeft.{cells_are_on}
+use Rattle.build_meaning.proofs.Left.{cells_are_on}
 use Rattle.build_meaning.proofs.protected_layers_laws.spared_cells_are_on.Goals as goal
 
 pub returns : goal.returns

@@ -1,4 +1,4 @@
-use Rattle.build_meaning.proofs.BuiltOnGrid.{decodes_back}
+use Rattle.build_meaning.proofs.CelledDecoding.{decodes_back}
 use Rattle.build_meaning.proofs.simplified_laws.built_decodes_back_on_grid.Goals as goal
 
 pub returns : goal.returns

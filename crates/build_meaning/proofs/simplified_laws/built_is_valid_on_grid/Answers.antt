@@ -1,4 +1,4 @@
-use Rattle.build_meaning.proofs.BuiltOnGrid.{built_is_valid}
+use Rattle.build_meaning.proofs.ValidCelled.{built_is_valid}
 use Rattle.build_meaning.proofs.simplified_laws.built_is_valid_on_grid.Goals as goal
 
 pub returns : goal.returns

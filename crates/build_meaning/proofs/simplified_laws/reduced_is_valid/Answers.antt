@@ -1,5 +1,5 @@
-use Rattle.build_meaning.proofs.Reaching.{reduced_is_valid}
+use Rattle.build_meaning.proofs.Protected.{reduced_is_valid}
 use Rattle.build_meaning.proofs.simplified_laws.reduced_is_valid.Goals as goal
 
 pub returns : goal.returns
-returns c t limit y h = reduced_is_valid t limit y h
+returns c = reduced_is_valid c.unguarded_index_law.ensures c.arcs_rise.ensures

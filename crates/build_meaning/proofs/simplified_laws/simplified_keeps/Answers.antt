@@ -1,4 +1,4 @@
-use Rattle.build_meaning.proofs.KeptLabels.{simplified_keeps}
+use Rattle.build_meaning.proofs.Left.{simplified_keeps}
 use Rattle.build_meaning.proofs.simplified_laws.simplified_keeps.Goals as goal
 
 pub returns : goal.returns

@@ -1,4 +1,4 @@
-use Rattle.build_meaning.proofs.Lying.{on_grid}
+use Rattle.build_meaning.proofs.OnGrid.{on_grid}
 use Rattle.build_meaning.proofs.transform_laws.cells_are_on_grid.Goals as goal
 
 pub returns : goal.returns

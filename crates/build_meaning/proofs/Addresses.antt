@@ -1,7 +1,6 @@
 -- Lines with the same outlines have the same junctions, cut positions and pieces.
 use Rattle.std.proofs.Common.{◌≡◌, Bool, ◌&&◌, ◌||◌, not, ◌==◌, if◌then◌else◌, List, [], ◌∷◌, ◌++◌, map, length, take, drop, filter, refl, sym, ap, ◌∙◌}
-use Rattle.build_meaning.proofs.Names.{flat_map, list_any, list_all, ArcsAndIndexes, arcs_of, index_in, split_of, all_pieces, piece_lists, Point, same, is_cut, Stroke, Outline, outline, AddressesDoNotMatter}
-use Rattle.std.proofs.Math.Path.{fun_ext}
+use Rattle.build_meaning.proofs.Names.{flat_map, list_any, list_all, ArcsAndIndexes, arcs_of, index_in, split_of, all_pieces, piece_lists, Point, same, is_cut, Stroke, Outline, outline, AddressesDoNotMatter, fun_ext}
 use Rattle.geometry.specs.Order.{is_least}
 use Rattle.junctions.specs.Visits.{Visit, inner_visits, all_visits, ends_open, is_end, is_junction, distinct}
 use Rattle.build_meaning.proofs.Linework.{each_plain, each_split, pieces_by}

@@ -1,20 +1,18 @@
 -- What is assembled of layers, in the words of their lines; and with each arc reduced at a threshold it is what is built of them.
 use Rattle.std.proofs.Common.{rules, arith, ◌≡◌, ℕ, Bool, List, [], map, Option, None, ap, ◌∙◌, false, subst}
-use Rattle.build_meaning.proofs.Names.{AllByRecursion, all_weaker, dropped_of_layers, then_some, Point, option_lines_and_rings, Cause, Shape, Featured, Stroke, linework, Contents, TopoObject, reduce, reduced, DirectionLaw, ZeroLaw, EndsStay, NoneIsNew, all_arcs, kept_refs, untrimmed, built, removed_count, own_cause, unless, kept_line, expected_dropped, AreSound, whole_line, Kept, objects_by, trimmed, arcs_of_layers, arc_indexes, own_refs, assembled_cause, option_caused, layers_caused, assembled, assembled_dropped, assembled_removed_count, AssemblesToBuilt, AssemblingDropsExpected, AssemblingRemoves, ArcIndexesReach, AssembledIsValid, large_refs, retained_arcs, retained_whole, objects_pruned, simplified_by, removed_count_by, Named, layers_of, named_lines_and_rings, ArcsRise, EachFromFirstToLast, UnguardedIndexLaw, guarded_by, reduce_arcs}
+use Rattle.build_meaning.proofs.Names.{AllByRecursion, all_weaker, dropped_of_layers, then_some, Point, option_lines_and_rings, Cause, Shape, Featured, Stroke, linework, Contents, TopoObject, reduce, reduced, DirectionLaw, ZeroLaw, EndsStay, NoneIsNew, all_arcs, kept_refs, untrimmed, built, removed_count, own_cause, unless, kept_line, expected_dropped, AreSound, whole_line, Kept, objects_by, trimmed, arcs_of_layers, arc_indexes, own_refs, assembled_cause, option_caused, layers_caused, assembled, assembled_dropped, assembled_removed_count, AssemblesToBuilt, AssemblingDropsExpected, AssemblingRemoves, ArcIndexesReach, AssembledIsValid, large_refs, retained_arcs, retained_whole, objects_pruned, simplified_by, removed_count_by, Named, layers_of, named_lines_and_rings, ArcsRise, EachFromFirstToLast, UnguardedIndexLaw, guarded_by, reduce_arcs, Layer, features_lines_and_rings}
 use Rattle.geometry.proofs.Omitted.{drop_causes_agree}
-use Rattle.geojson_types.specs.declared.layer.Layer.{Layer}
-use Rattle.build_meaning.proofs.Reshaped.{alike}
+use Rattle.build_meaning.proofs.Guarded.{each_through}
 use Rattle.build_meaning.proofs.Linework.{Line, StandsIn, all_clean, each_stands, own_apart}
 use Rattle.build_meaning.proofs.Made.{objects_made}
-use Rattle.build_meaning.proofs.Guarded.{each_through}
-use Rattle.build_meaning.proofs.ValidRetained.{retained_each, each_reduced}
+use Rattle.build_meaning.proofs.Reshaped.{alike}
 use Rattle.build_meaning.proofs.Simplified.{IsWholeAtZero, no_small, cause_same, objects_again}
 use Rattle.build_meaning.proofs.Trimmed.{kept_of_map}
 use Rattle.build_meaning.proofs.ValidIndexes.{arcs_long}
+use Rattle.build_meaning.proofs.ValidRetained.{retained_each, each_reduced}
 use Rattle.build_meaning.proofs.ValidSimplified.{simplified_is_valid}
 use Rattle.build_meaning.proofs.ValidUntrimmed.{untrimmed_is_valid}
 use Rattle.build_meaning.proofs.Whole.{each_stays, loses_nothing}
-use Rattle.build_meaning.specs.Layers.{features_lines_and_rings}
 
 -- ---- in the words of the layers' lines
 

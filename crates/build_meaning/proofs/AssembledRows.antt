@@ -3,8 +3,8 @@
 use Rattle.std.proofs.Common.{◌≡◌, ℕ, ℤ, pos, Bool, true, false, List, [], ◌∷◌, ◌++◌, map, Option, None, Some, refl, ap, ◌∙◌}
 use Rattle.build_meaning.proofs.Names.{prune-line, prune-area, lines_and_rings-line, drop_causes-area, drop_causes-line, cross, twice_area, shoelace, number_of, Point, prune, same, Small, Outer, Featured, Shape, Stroke, placed_lines_and_rings_at, linework, objects_lines_and_rings, is_before, reduced, all_arcs, kept_refs, objects_by, trimmed, assembled, assembled_dropped, retained_arcs, large_refs, objects_pruned, simplified_by, Named, layers_of}
 use Rattle.build_meaning.proofs.Assembled.{contents}
-use Rattle.geometry.specs.declared.shape.Geometry.TheVariants as g
 use Rattle.build_meaning.proofs.SimplifiedRows.{at, square, triangle, bent, two}
+use Rattle.geometry.specs.declared.shape.Geometry.TheVariants as g
 
 -- ---- a polygon whose outer ring is a triangle, with a square as its hole, and a bent line
 

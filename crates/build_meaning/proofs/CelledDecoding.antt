@@ -2,8 +2,8 @@
 use Rattle.std.proofs.Common.{rules, arith, ◌≡◌, ℕ, ℤ, bytes_eq, Bool, List, [], ◌∷◌, map, Option, None, Some, refl, ap, ◌∙◌, subst}
 use Rattle.build_meaning.proofs.Names.{AllByRecursion, all_left, all_right, map_agree, prune-point, prune-points, prune-line, prune-lines, prune-area, prune-areas, prune-group, composed, by_kinds, map_some, then_some, some_of, joined, Point, prune, places_at, decoded_line, decoded_shape, decoded_feature, decoded_object, of_name, decoded, TopoShape, object_features, place_on, TopoFeature, TopoObject, Transform, feature_celled, object_celled, objects_celled, celled, LiesBack, EachCell, CelledDecodes, places, option_places, features_places, objects_places, BuiltDecodesOnGrid, DecodesBack, DecodesBackOnGrid, NoneIsNew, all_weaker, built}
 use Rattle.build_meaning.proofs.BuiltCells.{built_cells}
-use Rattle.build_meaning.proofs.Renumbered.{built_has_no_transform}
 use Rattle.build_meaning.proofs.Celled.{all_lie_back}
+use Rattle.build_meaning.proofs.Renumbered.{built_has_no_transform}
 use Rattle.geometry.specs.declared.shape.Geometry.TheVariants as g
 
 -- ---- shapes whose Points and MultiPoints are placed alike

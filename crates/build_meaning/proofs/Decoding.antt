@@ -1,11 +1,9 @@
 -- What is decoded of the topology that is built of layers is what is expected of it: of a line's indexes the line rebuilt of its own pieces.
 use Rattle.std.proofs.Common.{◌≡◌, ℕ, zero, suc, ◌<◌, ◌≤◌, ℤ, pos, negsuc, Bool, false, List, [], ◌∷◌, map, length, append-nil, reverse, Option, None, Some, refl, sym, ap, ◌∙◌, arith, inl, inr, rules, ◌≢◌, true, if◌then◌else◌}
-use Rattle.build_meaning.proofs.Names.{nat_tests, number_of, at, or_empty, arc_at, stitched, then_some, Point, Cause, clean_from, clean, is_short, Stroke, In, AreDistinct as Apart, interior, filled, completed, decoded_line, arcs_unlike, arc_is_piece, piece_has_alike, named_is, index_is, same_stitched, arcs_of, index_in, reduced, DirectionLaw, all_arcs, kept_refs, own_pieces, own_cause, rebuilt, unless, kept_line, pieces, AllByRecursion, all_weaker, all_two, all_map, all_left, all_right, all_of_map, agreed, composed, map_some, prune, option_lines_and_rings, Shape, Featured, linework, decoded_shape, decoded_feature, decoded_object, of_name, decoded, AreDistinct, untrimmed, built, expected_feature, expected, AreSound, DecodesBack, Named, names_of, layers_of, named_lines_and_rings, features_by, objects_by, Many}
-use Rattle.build_meaning.proofs.Linework.{Line, StandsIn, own_in, each_stands, own_apart}
+use Rattle.build_meaning.proofs.Names.{nat_tests, number_of, at, or_empty, arc_at, stitched, then_some, Point, Cause, clean_from, clean, is_short, Stroke, In, AreDistinct as Apart, interior, filled, completed, decoded_line, arcs_unlike, arc_is_piece, piece_has_alike, named_is, index_is, same_stitched, arcs_of, index_in, reduced, DirectionLaw, all_arcs, kept_refs, own_pieces, own_cause, rebuilt, unless, kept_line, pieces, AllByRecursion, all_weaker, all_two, all_map, all_left, all_right, all_of_map, agreed, composed, map_some, prune, option_lines_and_rings, Shape, Featured, linework, decoded_shape, decoded_feature, decoded_object, of_name, decoded, AreDistinct, untrimmed, built, expected_feature, expected, AreSound, DecodesBack, Named, names_of, layers_of, named_lines_and_rings, features_by, objects_by, Many, Layer, features_lines_and_rings}
 use Rattle.std.proofs.lemmas.Slice.Eq.{bytes_eq-Decides}
-use Rattle.geojson_types.specs.declared.layer.Layer.{Layer}
+use Rattle.build_meaning.proofs.Linework.{Line, StandsIn, own_in, each_stands, own_apart}
 use Rattle.build_meaning.proofs.Trimmed.{trimmed_decodes}
-use Rattle.build_meaning.specs.Layers.{features_lines_and_rings}
 use Rattle.geojson_types.specs.declared.layer.FeatureSet.TheVariants as set
 
 -- ---- an arc that is found again when all are replaced

@@ -6,8 +6,8 @@ use Rattle.elimination_meaning.specs.Rising.{RisesTo, RisesOver}
 use Rattle.guarded_meaning.proofs.Thinned.{remaining_thinned}
 use Rattle.guarded_meaning.specs.Arcs.{points_of}
 use Rattle.build_meaning.proofs.Celled.{arcs_map}
-use Rattle.build_meaning.proofs.ValidRetained.{Stands, all_stand, points_retained}
 use Rattle.build_meaning.proofs.Trimmed.{kept_of_map}
+use Rattle.build_meaning.proofs.ValidRetained.{Stands, all_stand, points_retained}
 
 -- ---- which arcs are left
 

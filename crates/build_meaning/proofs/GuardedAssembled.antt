@@ -1,19 +1,18 @@
 -- What is built of layers at zero and then reduced is what is assembled of them, where no ring is protected.
 use Rattle.std.proofs.Common.{◌≡◌, ℕ, Bool, List, [], map, Option, None, Some, refl, sym, ap, ◌∙◌, subst}
 use Rattle.build_meaning.proofs.Names.{AllByRecursion, Point, Axes, cell, Contents, NoneIsNew, ZeroLaw, reduce_arcs, guarded_by, ArcsRise, untrimmed, built, is_used, keep_from, line_renumbered, trimmed, arcs_of_layers, assembled, assembled_removed_count, celled, LiesBack, transform_of, spread, arc_positions, guarded_indexes, guarded_contents, guarded_removed_count, TrimmedFirstIsAlike, GuardedIsAssembled, GuardedArcIndexesReach, AreOn, named_points, quantized, retained_arcs, large_refs, objects_pruned, simplified_by, removed_count_by, EachFromFirstToLast, Named, DirectionLaw, SimplifiesToBuilt, SimplifiesToBuiltOnGrid, no_protection, objects_spared, reduce, simplified_contents, sparing}
-use Rattle.build_meaning.proofs.BuiltCells.{built_cells}
-use Rattle.build_meaning.proofs.Celled.{all_lie_back, retained_celled}
-use Rattle.build_meaning.proofs.OnGrid.{all_lie}
-use Rattle.build_meaning.proofs.Simplified.{objects_same}
-use Rattle.build_meaning.proofs.Trimmed.{all_used}
-use Rattle.build_meaning.proofs.Whole.{each_stays}
 use Rattle.build_meaning.proofs.Assembled.{assembles_to_built}
-use Rattle.build_meaning.proofs.Celled.{simplified_celled}
+use Rattle.build_meaning.proofs.BuiltCells.{built_cells}
+use Rattle.build_meaning.proofs.Celled.{all_lie_back, retained_celled, simplified_celled}
 use Rattle.build_meaning.proofs.GuardedLayers.{spread_left, built_arcs, built_positions, built_through, arc_indexes_reach}
+use Rattle.build_meaning.proofs.OnGrid.{all_lie}
 use Rattle.build_meaning.proofs.Protected.{unprotected_is_simplified}
-use Rattle.build_meaning.proofs.ValidRetained.{each_kept}
-use Rattle.build_meaning.proofs.SparedAlike.{contents_same, removed_same}
+use Rattle.build_meaning.proofs.Simplified.{objects_same}
 use Rattle.build_meaning.proofs.Spared.{objects_plain}
+use Rattle.build_meaning.proofs.SparedAlike.{contents_same, removed_same}
+use Rattle.build_meaning.proofs.Trimmed.{all_used}
+use Rattle.build_meaning.proofs.ValidRetained.{each_kept}
+use Rattle.build_meaning.proofs.Whole.{each_stays}
 
 -- ---- arcs that no line uses, left out first
 

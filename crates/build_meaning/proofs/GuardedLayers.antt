@@ -3,8 +3,8 @@ use Rattle.std.proofs.Common.{◌≡◌, ℕ, suc, ◌+◌, ◌≤◌, Bool, tru
 use Rattle.build_meaning.proofs.Names.{AllByRecursion, or_empty, first_of, last_of, tail, Point, linework, sub_all, numbered, ZeroLaw, reduce_arcs, guarded_by, ArcsRise, untrimmed, built, AreSound, is_used, keep_from, trimmed, arcs_of_layers, all_indexes, spread, arc_positions, retained, retained_arcs, FromFirstToLast, EachFromFirstToLast, numbered_points, Named, layers_of}
 use Rattle.build_meaning.proofs.Guarded.{each_through, sub_left}
 use Rattle.build_meaning.proofs.Linework.{all_clean}
-use Rattle.build_meaning.proofs.ValidRetained.{all_stand, points_retained}
 use Rattle.build_meaning.proofs.ValidIndexes.{arcs_long}
+use Rattle.build_meaning.proofs.ValidRetained.{all_stand, points_retained}
 use Rattle.build_meaning.proofs.Whole.{each_stays}
 
 -- ---- all numbers

@@ -5,8 +5,8 @@ use Rattle.build_meaning.proofs.Names.{prune-line, lines_and_rings-line, cross, 
 use Rattle.guarded_meaning.specs.Segments.{is_on, same_ends}
 use Rattle.guarded_meaning.specs.Triangles.{in_triangle}
 use Rattle.build_meaning.proofs.Assembled.{contents}
-use Rattle.geometry.specs.declared.shape.Geometry.TheVariants as g
 use Rattle.build_meaning.proofs.SimplifiedRows.{at}
+use Rattle.geometry.specs.declared.shape.Geometry.TheVariants as g
 
 -- as far under zero as the second number says, which is over zero
 abbrev below : ℕ → ℕ → Point

@@ -3,8 +3,8 @@ use Rattle.std.proofs.Common.{◌≡◌, ℕ, ℤ, Bool, List, [], ◌∷◌, ma
 use Rattle.build_meaning.proofs.Names.{map-map, AllByRecursion, all_of_map, all_two, all_weaker, joined, map_some, Point, option_lines_and_rings, Featured, Axes, cell, linework, Contents, TopoFeature, NoneIsNew, ZeroLaw, ArcsRise, RingsStay, EachTo, kept_refs, untrimmed, built, AreSound, feature_by, is_used, keep_from, line_renumbered, renumbered, trimmed, arcs_of_layers, feature_celled, celled, LiesBack, all_features, transform_of, arc_positions, greatest_ring, protected_of, protecting_contents, protecting_reduced, HasRing, ring_refs, protecting_arc_indexes, assembled_sparing, greatest_rings, BuiltFeaturesHaveRings, LayersShapesStay, AreOn, IsOn, quantized, feature_pruned, Named, layers_of}
 use Rattle.build_meaning.proofs.OnGrid.{all_lie, built_on}
 use Rattle.build_meaning.proofs.Protected.{each_to_made, each_of_objects, shapes_stay}
-use Rattle.build_meaning.proofs.Reshaped.{pruned_shape, features_with}
 use Rattle.build_meaning.proofs.ProtectedLayers.{IsWholeFeature, ring_of_layer, features_of_layers, each_layer, is_assembled}
+use Rattle.build_meaning.proofs.Reshaped.{pruned_shape, features_with}
 use Rattle.build_meaning.proofs.RingsAlike.{ring_alike, ring_celled}
 use Rattle.build_meaning.proofs.SparedAlike.{positions_alike, placed_same}
 use Rattle.build_meaning.proofs.Trimmed.{AllUsed, all_renumbered, all_used}

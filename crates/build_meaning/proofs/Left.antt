@@ -1,13 +1,12 @@
 -- What holds of each cell and of each feature of a topology holds of what is left of it, where rings are protected too, and what stays.
 use Rattle.std.proofs.Common.{◌≡◌, ℕ, List, map, Option, refl, ap, subst, ◌∙◌, suc, ◌+◌, ◌≤◌, max, Bool, [], ◌∷◌, None, Some, sym, arith}
-use Rattle.std.proofs.Math.Path.{fun_ext}
-use Rattle.build_meaning.proofs.Names.{map-map, TopoShape, object_features, TopoFeature, TopoObject, trimmed, labels, SimplifiedKeeps, no_protection, spared_by, SparedKeeps, simplified_by, AllByRecursion, by_kinds, map_some, Point, Geometry, nesting_at, option_pruned_nests, nesting, option_nesting, properties_nesting, placed_arcs, Contents, is_used, line_renumbered, EachCell, all_features, along, into_part, unmarked, rings_marked, marked, Protection, MarkedRefs, sparing, shape_marked, feature_spared, spared_whole, SparedCellsAreOn, SparedNestsNoDeeper, IsOn, Refs, feature_pruned, large_refs, retained_arcs, retained_whole, option_places, objects_pruned}
+use Rattle.build_meaning.proofs.Names.{fun_ext, map-map, TopoShape, object_features, TopoFeature, TopoObject, trimmed, labels, SimplifiedKeeps, no_protection, spared_by, SparedKeeps, simplified_by, AllByRecursion, by_kinds, map_some, Point, Geometry, nesting_at, option_pruned_nests, nesting, option_nesting, properties_nesting, placed_arcs, Contents, is_used, line_renumbered, EachCell, all_features, along, into_part, unmarked, rings_marked, marked, Protection, MarkedRefs, sparing, shape_marked, feature_spared, spared_whole, SparedCellsAreOn, SparedNestsNoDeeper, IsOn, Refs, feature_pruned, large_refs, retained_arcs, retained_whole, option_places, objects_pruned}
+use Rattle.json_value.specs.Depth.{greatest}
 use Rattle.json_value.specs.declared.json.Json.{Json}
 use Rattle.geojson_types.specs.declared.id.Id.{Id}
+use Rattle.build_meaning.proofs.Marks.{marked_at, marked-group}
 use Rattle.build_meaning.proofs.Reshaped.{Objects, at_name, feature_with, object_with, objects_with, object_features_with, pruned_shape, features_of, objects_over, features_hold}
 use Rattle.build_meaning.proofs.Spared.{spared_shape, whole_plain}
-use Rattle.json_value.specs.Depth.{greatest}
-use Rattle.build_meaning.proofs.Marks.{marked_at, marked-group}
 use Rattle.build_meaning.proofs.ValidPruned.{option_stay, places_stay}
 use Rattle.build_meaning.proofs.ValidRetained.{all_retained}
 use Rattle.build_meaning.proofs.ValidTrimmed.{all_kept}

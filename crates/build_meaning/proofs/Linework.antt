@@ -1,8 +1,7 @@
 -- The linework of named layers: their lines and rings that aren't short, cleaned; and the pieces of these.
 use Rattle.std.proofs.Common.{◌≡◌, ℕ, suc, Bool, false, cond, not, List, [], ◌∷◌, map, refl, ap, sym, subst, inl, inr, arith}
-use Rattle.build_meaning.proofs.Names.{map-append, AllByRecursion, filter, all_weaker, all_append, Point, option_lines_and_rings, Address, Featured, clean, is_short, IsCleanList, AllClean, is_cut, Stroke, line_or_ring_at, lines_and_rings_of_layer, lines_and_rings_of_layers, linework, in_flat, structured, In, AreDistinct as Apart, interior, own_pieces, IsRingIfClosed, IsSound, AreSound, Named, layers_of, named_lines_and_rings, pieces_of, pieces, split_at, start_in, turned, split_of, piece_lists, Placed, reported}
+use Rattle.build_meaning.proofs.Names.{map-append, AllByRecursion, filter, all_weaker, all_append, Point, option_lines_and_rings, Address, Featured, clean, is_short, IsCleanList, AllClean, is_cut, Stroke, line_or_ring_at, lines_and_rings_of_layer, lines_and_rings_of_layers, linework, in_flat, structured, In, AreDistinct as Apart, interior, own_pieces, IsRingIfClosed, IsSound, AreSound, Named, layers_of, named_lines_and_rings, pieces_of, pieces, split_at, start_in, turned, split_of, piece_lists, Placed, reported, features_lines_and_rings}
 use Rattle.junctions.proofs.Cleaned.{clean_is_clean}
-use Rattle.build_meaning.specs.Layers.{features_lines_and_rings}
 -- an open line (false) or a ring (true)
 pub use Rattle.linework.specs.Outlines.{Outline as Line, outline as plain, clean_outline as clean_line, long_outlines as long_of}
 

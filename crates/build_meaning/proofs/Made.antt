@@ -1,7 +1,6 @@
 -- Objects that are made of layers and then pruned are made of them at once.
 use Rattle.std.proofs.Common.{rules, arith, ◌≡◌, Bool, List, [], ◌∷◌, map, Option, None, Some, refl}
-use Rattle.build_meaning.proofs.Names.{AllByRecursion, all_left, all_right, agreed, composed, then_some, Point, prune, option_lines_and_rings, Shape, Featured, TopoShape, TopoFeature, Kept, features_by, objects_by, Refs, feature_pruned, objects_pruned, Named, named_lines_and_rings}
-use Rattle.build_meaning.specs.Layers.{features_lines_and_rings}
+use Rattle.build_meaning.proofs.Names.{AllByRecursion, all_left, all_right, agreed, composed, then_some, Point, prune, option_lines_and_rings, Shape, Featured, TopoShape, TopoFeature, Kept, features_by, objects_by, Refs, feature_pruned, objects_pruned, Named, named_lines_and_rings, features_lines_and_rings}
 
 module _ (kept : Kept) (next : Refs) (at_once : Kept) where
   abbrev pub Gets : Bool × List Point → Type 0

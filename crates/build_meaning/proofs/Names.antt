@@ -1,13 +1,14 @@
 -- The names that several proofs of this crate cite, passed on from one place.
+pub use Rattle.std.proofs.Math.Path.{fun_ext}
 pub use Rattle.std.proofs.lemmas.Bool.{and_from, and_parts}
 pub use Rattle.std.proofs.lemmas.Bool.Decides.{nat_tests}
-pub use Rattle.std.proofs.lemmas.List.{length-append, length-map, map-append, reverse-append, reverse-reverse}
+pub use Rattle.std.proofs.lemmas.List.{length-map, map-append, reverse-append, reverse-reverse}
 pub use Rattle.std.proofs.lemmas.Simd.{map-map}
 pub use Rattle.std.specs.List.{AllByRecursion, filter, flat_map, list_all, list_any}
 pub use Rattle.std.specs.Prelude.{codes, sum}
 pub use Rattle.owned_values.proofs.Elements.{all_append, all_drop, all_left, all_made, all_map, all_of, all_of_map, all_parts, all_right, all_take, all_two, all_weaker, each_of}
 pub use Rattle.owned_values.proofs.Lists.{map_agree}
-pub use Rattle.owned_values.proofs.Members.{any_from_in, in_append, in_left, in_right}
+pub use Rattle.owned_values.proofs.Members.{any_from_in, in_append, in_right}
 pub use Rattle.geometry.proofs.Agreement.{agreed}
 pub use Rattle.geometry.proofs.ByKind.{AtKinds, at_kinds, points_at, proper-group, proper_at}
 pub use Rattle.geometry.proofs.Cases.{drop_causes-area, drop_causes-areas, drop_causes-line, drop_causes_at, lines_and_rings-area, lines_and_rings-areas, lines_and_rings-group, lines_and_rings-line, lines_and_rings-lines, lines_and_rings-point, lines_and_rings-points, lines_and_rings_at, prune-area, prune-areas, prune-group, prune-line, prune-lines, prune-point, prune-points, prune_at}
@@ -42,7 +43,8 @@ pub use Rattle.geojson_types.specs.Numbers.{FeatureHasNumbers, IdHasNumbers, Pro
 pub use Rattle.geojson_types.specs.Places.{features_points, option_points}
 unfoldable pub use Rattle.geojson_types.specs.Places.{shape_points}
 pub use Rattle.geojson_types.specs.Texts.{FeatureHasTexts, IdHasTexts, PropertiesHaveTexts}
-pub use Rattle.junctions.proofs.Members.{from_map}
+pub use Rattle.geojson_types.specs.declared.layer.Layer.{Layer}
+pub use Rattle.junctions.proofs.Members.{from_map, in_map}
 pub use Rattle.junctions.specs.Cleaning.{AllClean, IsClean, IsCleanList, Moves, clean, clean_from, is_short}
 pub use Rattle.junctions.specs.Cuts.{is_cut}
 pub use Rattle.junctions.specs.declared.stroke.Stroke.{Stroke}
@@ -52,7 +54,6 @@ unfoldable pub use Rattle.grid_snap.specs.Axes.{number}
 pub use Rattle.grid_snap.specs.Laws.{Settles}
 pub use Rattle.grid_snap.specs.declared.axis.Axis.{Axis}
 pub use Rattle.linework.proofs.Placing.{placed_lines_and_rings_at, reported}
-pub use Rattle.linework.proofs.Positions.{none_is_new}
 pub use Rattle.linework.specs.Laws.{layers_points}
 pub use Rattle.linework.specs.Linework.{line_or_ring_at, lines_and_rings_of_layer, lines_and_rings_of_layers}
 unfoldable pub use Rattle.linework.specs.Linework.{linework}
@@ -66,9 +67,10 @@ pub use Rattle.cutter.specs.Places.{In, interior}
 pub use Rattle.cutter.specs.Segments.{line_segments, piece_segments, segments, times}
 pub use Rattle.cutter.specs.Slices.{IsSplit, all_pieces, piece_lists, split_of, started}
 pub use Rattle.topojson_types.proofs.ByKind.{full-group, full_at, places_at, single_at}
+pub use Rattle.topojson_types.proofs.Parts.{parts_all}
 pub use Rattle.topojson_types.specs.Decoding.{completed, decoded_feature, decoded_line, decoded_object, decoded_shape, filled, of_name, placed_arcs}
 unfoldable pub use Rattle.topojson_types.specs.Decoding.{decoded}
-pub use Rattle.topojson_types.specs.Topologies.{Contents, TopoShape, features_lines_and_rings, object_features, objects_lines_and_rings}
+pub use Rattle.topojson_types.specs.Topologies.{Contents, TopoShape, object_features, objects_lines_and_rings}
 pub use Rattle.topojson_types.specs.Transforms.{IsTransform}
 unfoldable pub use Rattle.topojson_types.specs.Transforms.{place_on}
 pub use Rattle.topojson_types.specs.Validity.{AreDistinct, AreInRange, IsArc, IsClosed, IsFeature, IsJoined, IsObject, IsPlace, IsTopology, features_places, is_full_option, is_single_option, objects_places, option_places}
@@ -102,14 +104,14 @@ pub use Rattle.build_meaning.specs.Celled.{EachCell, IsOnGrid, LiesBack, feature
 unfoldable pub use Rattle.build_meaning.specs.Celled.{celled}
 pub use Rattle.build_meaning.specs.DroppableLines.{DroppableLine, area_droppable_lines, droppable_lines_step, free, hole, if_kept}
 unfoldable pub use Rattle.build_meaning.specs.DroppableLines.{droppable_lines}
-pub use Rattle.build_meaning.specs.Expected.{cleaned, expected_feature, is_small, kept_line, option_drop_causes, own_cause, own_pieces, rebuilt, unless}
+pub use Rattle.build_meaning.specs.Expected.{cleaned, expected_feature, is_small, kept_line, own_cause, own_pieces, rebuilt, unless}
 unfoldable pub use Rattle.build_meaning.specs.Expected.{expected, expected_dropped}
 pub use Rattle.build_meaning.specs.GridLaws.{BuiltCellsAreOn, BuiltDecodesQuantized, BuiltIsValidQuantized, EachFeature, IsSnapped, Keeps, QuantizedDecodes, QuantizedIsValid, QuantizedKeeps, SimplifiesQuantized, SnappedAreOn, SnappedKeep, all_features}
 unfoldable pub use Rattle.build_meaning.specs.GridTransforms.{transform_of}
-pub use Rattle.build_meaning.specs.Guarded.{all_indexes, arc_positions, crossings_of, guarded_arc_indexes, guarded_indexes, spread}
+pub use Rattle.build_meaning.specs.Guarded.{all_indexes, arc_positions, crossings_of, guarded_indexes, spread}
 unfoldable pub use Rattle.build_meaning.specs.Guarded.{guarded_contents, guarded_dropped, guarded_removed_count}
 pub use Rattle.build_meaning.specs.GuardedLaws.{ArcsRetainedAreReduced, GuardedArcIndexesReach, GuardedArcsAreReduced, GuardedCrossingsNeverRise, GuardedIndexesReach, GuardedIsAssembled, GuardedIsValid, GuardedKeeps, GuardedNoneStaysNone, TrimmedFirstIsAlike, UnguardedIsSimplified}
-pub use Rattle.build_meaning.specs.Layers.{Named, layers_of, named_lines_and_rings, names_of}
+pub use Rattle.build_meaning.specs.Layers.{Named, features_lines_and_rings, layers_of, named_lines_and_rings, names_of}
 pub use Rattle.build_meaning.specs.Objects.{Kept, feature_by, features_by, objects_by}
 pub use Rattle.build_meaning.specs.OuterRings.{along, ends_here, into_part, marked_step, outer_ring, outer_rings_step, rings_marked, unmarked}
 unfoldable pub use Rattle.build_meaning.specs.OuterRings.{marked, outer_rings}
@@ -120,7 +122,7 @@ pub use Rattle.build_meaning.specs.ProtectedLayers.{drafted_refs, feature_sparin
 unfoldable pub use Rattle.build_meaning.specs.ProtectedLayers.{assembled_sparing, assembled_sparing_dropped, assembled_sparing_removed_count, greatest_of_layers}
 pub use Rattle.build_meaning.specs.ProtectedLayersLaws.{AssembledSparingIsOn, AssembledSparingIsValid, BuiltFeaturesHaveRings, BuiltRingsAreOfLayers, IsAlikeOnGrid, LayersShapesStay, ProtectingArcIndexesAreOfLayers, ProtectingArcIndexesReach, ProtectingIsAssembled, ProtectingOnGrid, SparedCellsAreOn, SparedNestsNoDeeper, SparingIsOfLayers, TrimmedFirstIsAlikeSparing, greatest_rings}
 pub use Rattle.build_meaning.specs.Quantized.{AreInputs, AreOn, IsCount, IsOn, named_grid, named_points, quantized, snapped_named}
-pub use Rattle.build_meaning.specs.Simplified.{EachFromFirstToLast, FromFirstToLast, Refs, feature_pruned, large_refs, object_pruned, objects_pruned, option_small, retained, retained_arcs, retained_whole, small_cause}
+pub use Rattle.build_meaning.specs.Simplified.{EachFromFirstToLast, FromFirstToLast, Refs, feature_pruned, large_refs, objects_pruned, option_small, retained, retained_arcs, retained_whole, small_cause}
 unfoldable pub use Rattle.build_meaning.specs.Simplified.{dropped_by, removed_count_by, simplified_by}
 pub use Rattle.build_meaning.specs.SimplifiedLaws.{ArcIndexesReach, AssembledIsValid, AssemblesToBuilt, AssemblingDropsExpected, AssemblingRemoves, BuiltDecodesOnGrid, BuiltIsValidOnGrid, CelledDecodes, CelledIsValid, DecodesBackOnGrid, IndexesReach, ReducedIsValid, RetainedIsReduced, SimplifiedIsValid, SimplifiedKeeps, SimplifiesToBuilt, SimplifiesToBuiltOnGrid, labels}
 pub use Rattle.build_meaning.specs.Thresholds.{placed_cells, reduced_indexes}

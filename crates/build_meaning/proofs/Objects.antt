@@ -1,8 +1,9 @@
 -- Objects that are pruned twice, and the lines and rings of pruned objects.
 use Rattle.std.proofs.Common.{rules, arith, ◌≡◌, ℕ, ℤ, Bool, List, [], ◌∷◌, map, Option, None, Some, refl, subst, ◌∙◌}
-use Rattle.build_meaning.proofs.Names.{AllByRecursion, all_weaker, agreed, composed, then_some, Point, prune, option_lines_and_rings, TopoShape, object_features, features_lines_and_rings, objects_lines_and_rings, TopoFeature, TopoObject, One, Many, no_protection, Refs, objects_pruned}
-use Rattle.build_meaning.proofs.Reshaped.{Objects, pruned_shape, feature_with, object_with, at_name, objects_with, made_parts, objects_alike, objects_twice}
+use Rattle.build_meaning.proofs.Names.{AllByRecursion, all_weaker, agreed, composed, then_some, Point, prune, option_lines_and_rings, TopoShape, object_features, objects_lines_and_rings, TopoFeature, TopoObject, One, Many, no_protection, Refs, objects_pruned}
+use Rattle.topojson_types.specs.Topologies.{features_lines_and_rings}
 use Rattle.build_meaning.proofs.Replaced.{lines_and_rings_replaced}
+use Rattle.build_meaning.proofs.Reshaped.{Objects, pruned_shape, feature_with, object_with, at_name, objects_with, made_parts, objects_alike, objects_twice}
 use Rattle.build_meaning.proofs.Spared.{by_refs, objects_plain}
 use Rattle.build_meaning.proofs.Spared as spared
 

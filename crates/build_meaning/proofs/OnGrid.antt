@@ -1,14 +1,14 @@
 -- Topologies whose positions lie on a grid, put on that grid: they are valid, decode to the same, and keep names, identifiers and properties.
 use Rattle.std.proofs.Common.{◌≡◌, ℕ, ◌+◌, ◌≤◌, max, List, [], ◌∷◌, map, length, None, Some, refl, ap, ◌∙◌, arith, Option, ◌*◌, sym, ℤ, pos, unsigned_abs, subst, rules}
 use Rattle.build_meaning.proofs.Names.{map-map, all_features, TopoShape, length-map, Point, option_pruned_nests, option_nesting, properties_nesting, IdHasNumbers, PropertiesHaveNumbers, IdHasTexts, PropertiesHaveTexts, cell, Contents, TopoFeature, Transform, feature_celled, celled, Keeps, QuantizedKeeps, transform_of, IsPosition, settled, covered_within, covered_parts, number_within, Axes, IsAxis, IsGrid, number, snapped, Settles, Axis, place_on, AllByRecursion, all_weaker, NoneIsNew, DecodesBack, IsValid, LiesBack, IsOnGrid, EachCell, QuantizedIsValid, QuantizedDecodes, BuiltCellsAreOn, BuiltIsValidQuantized, BuiltDecodesQuantized, SimplifiesQuantized, BuiltIsValidOnGrid, DecodesBackOnGrid, SimplifiesToBuilt, SimplifiesToBuiltOnGrid, IsOn, named_points, objects_places}
-use Rattle.build_meaning.proofs.Reshaped.{pruned_shape, feature_with, names_stay, features_with, features_hold}
 use Rattle.std.proofs.Math.Nat.{mul-le-mul_left}
 use Rattle.geometry.specs.Units.{position_limit}
 use Rattle.topojson_types.proofs.ExactTexts.{units_are_numbers, stands_exactly}
-use Rattle.build_meaning.specs.TransformLaws.{HasTransform, CellsLieThere, CellsAreOnGrid}
 use Rattle.build_meaning.proofs.BuiltCells.{built_cells}
 use Rattle.build_meaning.proofs.CelledDecoding.{celled_decodes}
+use Rattle.build_meaning.proofs.Reshaped.{pruned_shape, feature_with, names_stay, features_with, features_hold}
 use Rattle.build_meaning.proofs.ValidCelled.{celled_is_valid}
+use Rattle.build_meaning.specs.TransformLaws.{HasTransform, CellsLieThere, CellsAreOnGrid}
 
 -- ---- where cells lie, by the transform of the grid
 

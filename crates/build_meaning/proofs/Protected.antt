@@ -1,14 +1,13 @@
 -- Topologies in which rings are protected: where none is, which arcs are left, and that each protected ring is left.
 use Rattle.std.proofs.Common.{arith, ◌≡◌, ℕ, ◌-◌, ◌≤◌, ℤ, Bool, true, not, List, [], ◌∷◌, map, length, Option, None, Some, inl, refl, sym, ap, ◌∙◌, subst, false}
-use Rattle.std.proofs.Math.Path.{fun_ext}
-use Rattle.topojson_types.proofs.Parts.{parts_all}
-use Rattle.build_meaning.proofs.Names.{map-map, AllByRecursion, all_of_map, all_two, all_weaker, each_of, in_right, composed, dropped_of_layers, arc_at, stitched, joined, map_some, then_some, with_some, some_of, In, Placed, Point, prune, option_lines_and_rings, clean, is_short, placed_arcs, TopoShape, Contents, object_features, features_lines_and_rings, objects_lines_and_rings, TopoFeature, TopoObject, Sublist, reduce_arcs, reduced_arcs, is_long, guarded_by, ArcsRise, CrossingsNeverRise, FewerArcsLaw, NoneStaysNone, RingsStay, EachTo, positions_of, is_used, keep_from, renumbered, line_renumbered, feature_renumbered, trimmed, all_features, arc_positions, crossings_of, guarded_indexes, guarded_contents, guarded_dropped, guarded_removed_count, GuardedArcsAreReduced, GuardedIndexesReach, GuardedIsValid, GuardedKeeps, GuardedCrossingsNeverRise, GuardedNoneStaysNone, labels, outer_rings, marked, Protection, no_protection, greatest_ring, protected_of, protected_rings, cause_sparing, sparing, MarkedRefs, shape_marked, feature_spared, spared_whole, spared_by, option_unprotected, spared_dropped, spared_removed_count, protecting_indexes, protecting_contents, protecting_dropped, protecting_removed_count, UnprotectedIsSimplified, UnprotectedIsGuarded, ProtectingIndexesReach, ProtectingIsValid, ProtectingKeeps, protecting_reduced, ProtectingArcsAreReduced, ProtectingCrossingsNeverRise, ProtectingNoneStaysNone, HasRing, ShapesStay, small_cause, large_refs, option_small, retained_arcs, simplified_by, dropped_by, removed_count_by, EachFromFirstToLast, retained_whole, IsArc, IsTopology, all_map, all_parts, Cause, IndexesReach, ReducedIsValid, UnguardedIndexLaw}
+use Rattle.build_meaning.proofs.Names.{fun_ext, parts_all, map-map, AllByRecursion, all_of_map, all_two, all_weaker, each_of, in_right, composed, dropped_of_layers, arc_at, stitched, joined, map_some, then_some, with_some, some_of, In, Placed, Point, prune, option_lines_and_rings, clean, is_short, placed_arcs, TopoShape, Contents, object_features, objects_lines_and_rings, TopoFeature, TopoObject, Sublist, reduce_arcs, reduced_arcs, is_long, guarded_by, ArcsRise, CrossingsNeverRise, FewerArcsLaw, NoneStaysNone, RingsStay, EachTo, positions_of, is_used, keep_from, renumbered, line_renumbered, feature_renumbered, trimmed, all_features, arc_positions, crossings_of, guarded_indexes, guarded_contents, guarded_dropped, guarded_removed_count, GuardedArcsAreReduced, GuardedIndexesReach, GuardedIsValid, GuardedKeeps, GuardedCrossingsNeverRise, GuardedNoneStaysNone, labels, outer_rings, marked, Protection, no_protection, greatest_ring, protected_of, protected_rings, cause_sparing, sparing, MarkedRefs, shape_marked, feature_spared, spared_whole, spared_by, option_unprotected, spared_dropped, spared_removed_count, protecting_indexes, protecting_contents, protecting_dropped, protecting_removed_count, UnprotectedIsSimplified, UnprotectedIsGuarded, ProtectingIndexesReach, ProtectingIsValid, ProtectingKeeps, protecting_reduced, ProtectingArcsAreReduced, ProtectingCrossingsNeverRise, ProtectingNoneStaysNone, HasRing, ShapesStay, small_cause, large_refs, option_small, retained_arcs, simplified_by, dropped_by, removed_count_by, EachFromFirstToLast, retained_whole, IsArc, IsTopology, all_map, all_parts, Cause, IndexesReach, ReducedIsValid, UnguardedIndexLaw}
+use Rattle.topojson_types.specs.Topologies.{features_lines_and_rings}
 use Rattle.build_meaning.proofs.Again.{all_hold}
 use Rattle.build_meaning.proofs.Greatest.{same_some, greatest_is}
+use Rattle.build_meaning.proofs.GreatestLeft.{rings_within}
 use Rattle.build_meaning.proofs.Guarded.{unguarded_indexes, unguarded_is_simplified, retained_are_reduced, placed_retained, placed_left, placed_through, sub_left}
 use Rattle.build_meaning.proofs.Left.{spared_keeps}
 use Rattle.build_meaning.proofs.Marks.{causes_plain}
-use Rattle.build_meaning.proofs.GreatestLeft.{rings_within}
 use Rattle.build_meaning.proofs.Reshaped.{pruned_shape, features_with}
 use Rattle.build_meaning.proofs.RingKept.{ring_kept}
 use Rattle.build_meaning.proofs.Spared.{spared_shape, whole_plain}

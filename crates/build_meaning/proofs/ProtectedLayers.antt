@@ -1,25 +1,22 @@
 -- What is built of layers at zero and then reduced at once, where of each feature the ring that encloses most is protected, is what is
 -- assembled of them.
 use Rattle.std.proofs.Common.{arith, ◌≡◌, ℕ, ℤ, Bool, true, false, cond, List, [], ◌∷◌, map, Option, None, Some, refl, sym, ap, ◌∙◌, subst, map-id}
-use Rattle.geojson_types.specs.declared.layer.Layer.{Layer}
-use Rattle.topojson_types.proofs.Parts.{parts_all}
-use Rattle.build_meaning.proofs.Reshaped.{made_parts}
-use Rattle.build_meaning.proofs.Names.{AllByRecursion, all_left, all_right, all_two, all_weaker, agreed, joined, map_some, then_some, some_of, Point, prune, lines_and_rings, option_lines_and_rings, Collapsed, Shape, Featured, clean, is_short, Stroke, linework, TopoShape, Contents, object_features, TopoFeature, TopoObject, Many, EndsStay, NoneIsNew, ZeroLaw, reduce_arcs, is_long, guarded_by, ArcsRise, kept_refs, untrimmed, built, unless, feature_by, features_by, objects_by, is_used, renumbered, trimmed, arcs_of_layers, own_refs, EachCell, arc_positions, spread, marked, enclosed, greatest_ring, protected_of, protected_rings, MarkedRefs, sparing, shape_marked, feature_spared, objects_spared, spared_by, spared_removed_count, protecting_indexes, protecting_contents, protecting_removed_count, drafted_refs, greatest_of_layers, ring_refs, layers_rings, layer_shape_marked, unprotected_refs, feature_sparing, assembled_sparing, assembled_sparing_removed_count, greatest_rings, SparingIsOfLayers, BuiltRingsAreOfLayers, ProtectingArcIndexesAreOfLayers, ProtectingIsAssembled, ProtectingArcIndexesReach, AssembledSparingIsValid, AssembledSparingIsOn, IsOn, named_points, quantized, small_cause, large_refs, retained_arcs, EachFromFirstToLast, Named, layers_of, named_lines_and_rings, all_parts}
+use Rattle.build_meaning.proofs.Names.{Layer, parts_all, AllByRecursion, all_left, all_right, all_two, all_weaker, agreed, joined, map_some, then_some, some_of, Point, prune, lines_and_rings, option_lines_and_rings, Collapsed, Shape, Featured, clean, is_short, Stroke, linework, TopoShape, Contents, object_features, TopoFeature, TopoObject, Many, EndsStay, NoneIsNew, ZeroLaw, reduce_arcs, is_long, guarded_by, ArcsRise, kept_refs, untrimmed, built, unless, feature_by, features_by, objects_by, is_used, renumbered, trimmed, arcs_of_layers, own_refs, EachCell, arc_positions, spread, marked, enclosed, greatest_ring, protected_of, protected_rings, MarkedRefs, sparing, shape_marked, feature_spared, objects_spared, spared_by, spared_removed_count, protecting_indexes, protecting_contents, protecting_removed_count, drafted_refs, greatest_of_layers, ring_refs, layers_rings, layer_shape_marked, unprotected_refs, feature_sparing, assembled_sparing, assembled_sparing_removed_count, greatest_rings, SparingIsOfLayers, BuiltRingsAreOfLayers, ProtectingArcIndexesAreOfLayers, ProtectingIsAssembled, ProtectingArcIndexesReach, AssembledSparingIsValid, AssembledSparingIsOn, IsOn, named_points, quantized, small_cause, large_refs, retained_arcs, EachFromFirstToLast, Named, layers_of, named_lines_and_rings, all_parts, features_lines_and_rings}
 use Rattle.build_meaning.proofs.GreatestLeft.{way_of, ring_in, RingAgrees, ring_left, spared_left}
 use Rattle.build_meaning.proofs.GuardedLayers.{built_arcs, built_positions, built_through, arc_indexes_reach}
+use Rattle.build_meaning.proofs.Left.{spared_cells}
 use Rattle.build_meaning.proofs.Linework.{Line}
 use Rattle.build_meaning.proofs.MarkedRing.{MarkPasses, marks_pass}
 use Rattle.build_meaning.proofs.Marks.{without_mark}
 use Rattle.build_meaning.proofs.OnGrid.{built_on}
+use Rattle.build_meaning.proofs.Reshaped.{made_parts}
 use Rattle.build_meaning.proofs.RingsAlike.{as_it_is, all_marked, rings_made}
 use Rattle.build_meaning.proofs.ShapesLeft.{keeping_mark}
 use Rattle.build_meaning.proofs.Simplified.{IsWholeAtZero, no_small}
 use Rattle.build_meaning.proofs.SparedAlike.{trimmed_rings, trimmed_first, protecting_on_grid}
-use Rattle.build_meaning.proofs.Left.{spared_cells}
 use Rattle.build_meaning.proofs.ValidSimplified.{spared_is_valid}
 use Rattle.build_meaning.proofs.ValidUntrimmed.{untrimmed_is_valid}
 use Rattle.build_meaning.proofs.Whole.{each_stays, loses_nothing}
-use Rattle.build_meaning.specs.Layers.{features_lines_and_rings}
 
 -- ---- lines and rings of layers
 

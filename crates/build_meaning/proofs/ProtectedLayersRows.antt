@@ -4,9 +4,9 @@ use Rattle.std.proofs.Common.{◌≡◌, ℕ, pos, Bool, true, false, List, [], 
 use Rattle.build_meaning.proofs.Names.{drop_causes-areas, shoelace, area_drop_causes, drop_causes, dropped_of_layers, map_some, with_some, Placed, of_parts, Point, same, Cause, Collapsed, Small, Outer, Shape, Stroke, placed_lines_and_rings_at, linework, all_arcs, marked, drafted_refs, greatest_of_layers, layers_rings, unprotected_cause, unprotected_cause_by, assembled_sparing_dropped, retained_arcs, Named, layers_of}
 use Rattle.geometry.specs.declared.address.Dropped.{Dropped}
 use Rattle.build_meaning.proofs.Marks.{outer_rings_at, marked-areas}
-use Rattle.geometry.specs.declared.shape.Geometry.TheVariants as g
-use Rattle.build_meaning.proofs.SimplifiedRows.{at}
 use Rattle.build_meaning.proofs.ProtectedRows.{triangle}
+use Rattle.build_meaning.proofs.SimplifiedRows.{at}
+use Rattle.geometry.specs.declared.shape.Geometry.TheVariants as g
 
 -- ---- three polygons: the outer ring of the first is one position, and it has a hole; the third is greater than the second
 

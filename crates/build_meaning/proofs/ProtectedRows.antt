@@ -3,10 +3,10 @@
 use Rattle.std.proofs.Common.{◌≡◌, ℕ, ◌+◌, ℤ, pos, negsuc, true, false, List, [], ◌∷◌, None, Some, refl, ap, ◌∙◌}
 use Rattle.build_meaning.proofs.Names.{drop_causes-area, drop_causes-areas, cross, twice_area, shoelace, number_of, Placed, Point, same, Small, TopoShape, Contents, TopoFeature, reduce_arcs, goes_before, keeps_rings, guarded_by, outer_rings, marked, greatest_ring, protected_rings, protecting_indexes, sparing, objects_spared, spared_dropped, large_refs}
 use Rattle.build_meaning.proofs.Assembled.{contents}
-use Rattle.build_meaning.proofs.Marks.{outer_rings_at, marked-line, marked-area, marked-areas, marked-group, left-area, left-areas}
-use Rattle.geometry.specs.declared.shape.Geometry.TheVariants as g
-use Rattle.build_meaning.proofs.SimplifiedRows.{at}
 use Rattle.build_meaning.proofs.GuardedRows.{layer}
+use Rattle.build_meaning.proofs.Marks.{outer_rings_at, marked-line, marked-area, marked-areas, marked-group, left-area, left-areas}
+use Rattle.build_meaning.proofs.SimplifiedRows.{at}
+use Rattle.geometry.specs.declared.shape.Geometry.TheVariants as g
 
 -- a triangle with legs of this length
 abbrev pub triangle : ℕ → ℕ → ℕ → List Point

@@ -1,8 +1,6 @@
 -- Objects of which the shape of each feature is replaced, and what holds of them, feature by feature.
 use Rattle.std.proofs.Common.{◌≡◌, ℕ, List, [], ◌∷◌, map, Option, None, Some, refl, sym, ap, subst, ◌∙◌}
-use Rattle.std.proofs.Math.Path.{fun_ext}
-use Rattle.build_meaning.proofs.Names.{map-append, map-map, AllByRecursion, all_append, all_left, all_right, all_map, all_weaker, map_agree, joined, map_some, unless_empty, then_some, Point, prune, Refs, TopoShape, object_features, TopoFeature, TopoObject, One, Many}
-use Rattle.topojson_types.proofs.Parts.{parts_all}
+use Rattle.build_meaning.proofs.Names.{fun_ext, map-append, map-map, AllByRecursion, all_append, all_left, all_right, all_map, all_weaker, map_agree, joined, map_some, unless_empty, then_some, Point, prune, Refs, TopoShape, object_features, TopoFeature, TopoObject, One, Many, parts_all}
 
 -- ---- lists made of lists
 

@@ -1,11 +1,10 @@
 -- A ring that has a mark is among the outer rings of what is left of the shape, where what is given for a marked ring is made of it.
 use Rattle.std.proofs.Common.{◌≡◌, ℕ, suc, Bool, true, false, List, [], ◌∷◌, map, Option, None, Some, refl, sym, ap, subst, ◌∙◌, inl, inr, ◌++◌}
-use Rattle.build_meaning.proofs.Names.{map-append, AllByRecursion, by_kinds, with_some, some_of, In, Placed, inside_part, of_parts, prune, Geometry, outer_ring, outer_rings, into_part, ends_here, along, rings_marked, marked}
-use Rattle.junctions.proofs.Members.{in_map}
-use Rattle.geometry.specs.declared.shape.Geometry.TheVariants as g
+use Rattle.build_meaning.proofs.Names.{map-append, AllByRecursion, by_kinds, with_some, some_of, In, Placed, inside_part, of_parts, prune, Geometry, outer_ring, outer_rings, into_part, ends_here, along, rings_marked, marked, in_map}
 use Rattle.build_meaning.proofs.Marks.{marked_at, outer_rings_at, marked-line, marked-lines, marked-area, marked-areas, marked-group}
 use Rattle.build_meaning.proofs.MarksLeft.{Follows, nothing, made, left_out, into_here}
 use Rattle.build_meaning.proofs.ShapesLeft.{rings_left, stays}
+use Rattle.geometry.specs.declared.shape.Geometry.TheVariants as g
 
 -- ---- the outer rings of a marked shape
 

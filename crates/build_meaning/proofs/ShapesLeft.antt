@@ -1,9 +1,9 @@
 -- What is left of a marked shape is what is left of the shape, marked: shapes, by kind.
 use Rattle.std.proofs.Common.{◌≡◌, ℕ, Bool, true, false, List, [], ◌∷◌, map, Option, None, Some, refl, sym, ap, ◌∙◌, subst}
 use Rattle.build_meaning.proofs.Names.{AllByRecursion, prune-point, prune-points, prune-line, prune-lines, prune-area, prune-areas, prune-group, by_kinds, map_some, with_some, some_of, unless_empty, Placed, alone, of_parts, area_by, prune, Geometry, outer_ring, outer_rings, ends_here, along, unmarked, rings_marked, marked}
-use Rattle.build_meaning.proofs.Reshaped.{same_made, same_listed}
 use Rattle.build_meaning.proofs.Marks.{some_made, outer_rings_at, marked_at, marked-line, marked-lines, marked-area, marked-areas, marked-group, left-point, left-points, left-line, left-lines, left-area, left-areas, left-group}
 use Rattle.build_meaning.proofs.MarksLeft.{Follows, nothing, made, left_out, weaker}
+use Rattle.build_meaning.proofs.Reshaped.{same_made, same_listed}
 use Rattle.geometry.specs.declared.shape.Geometry.TheVariants as g
 use Rattle.build_meaning.proofs.MarksLeft as parts
 

@@ -2,8 +2,8 @@
 use Rattle.std.proofs.Common.{◌≡◌, ℕ, pos, false, List, [], ◌∷◌, ◌++◌, Option, None, Some, refl, ap, ◌∙◌}
 use Rattle.build_meaning.proofs.Names.{codes, points_at, prune-line, prune-point, moved_at, Point, prune, same, Collapsed, units_text, Shape, shape_points, Axes, number, cell, snapped, grid_over, Axis, TopoShape, Contents, Many, all_arcs, cleaned, own_cause, celled, transform_of, named_points, named_grid, snapped_named, quantized, Named, moved}
 use Rattle.std.specs.Fmt.{digits}
-use Rattle.geometry.specs.declared.shape.Geometry.TheVariants as g
 use Rattle.build_meaning.proofs.SimplifiedRows.{at}
+use Rattle.geometry.specs.declared.shape.Geometry.TheVariants as g
 
 abbrev axis : ℕ → ℕ → ℕ → Axis
 axis first step last = record { first = pos first; step = step; last = last }

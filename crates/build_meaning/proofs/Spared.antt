@@ -2,8 +2,8 @@
 use Rattle.std.proofs.Common.{◌≡◌, ℕ, ℤ, Bool, false, List, Option, None, Some, refl, sym, ap, subst}
 use Rattle.build_meaning.proofs.Names.{AllByRecursion, all_of_map, all_weaker, then_some, map_some, Point, prune, lines_and_rings, option_lines_and_rings, placed_arcs, TopoShape, Contents, objects_lines_and_rings, marked, Protection, no_protection, MarkedRefs, shape_marked, objects_spared, sparing, spared_whole, Refs, objects_pruned, large_refs, retained_arcs, retained_whole}
 use Rattle.build_meaning.proofs.LinesAndRings.{lines_and_rings_left}
-use Rattle.build_meaning.proofs.Reshaped.{Objects, pruned_shape, objects_over, objects_same}
 use Rattle.build_meaning.proofs.Marks.{without_mark, left_plain, lines_and_rings_back}
+use Rattle.build_meaning.proofs.Reshaped.{Objects, pruned_shape, objects_over, objects_same}
 
 -- the shape with its protected ring marked, and pruned
 abbrev pub spared_shape : Protection → MarkedRefs → Option TopoShape → Option TopoShape

@@ -1,6 +1,7 @@
 -- Leaving out the arcs that no line uses changes nothing of what is decoded.
 use Rattle.std.proofs.Common.{rules, ◌≡◌, ℕ, zero, suc, ◌+◌, ℤ, Bool, true, List, [], ◌∷◌, map, Option, None, Some, refl, ap, arith}
-use Rattle.build_meaning.proofs.Names.{nat_tests, AllByRecursion, all_weaker, all_of, any_from_in, all_left, all_right, agreed, composed, number_of, at, arc_at, stitched, map_some, then_some, Point, prune, option_lines_and_rings, Featured, Shape, completed, decoded_line, decoded_shape, decoded_feature, decoded_object, of_name, placed_arcs, decoded, TopoFeature, TopoObject, is_used, keep_from, new_index_from, renumbered, line_renumbered, feature_renumbered, object_renumbered, trimmed, Transform, TopoShape, Contents, object_features, features_lines_and_rings, objects_lines_and_rings}
+use Rattle.build_meaning.proofs.Names.{nat_tests, AllByRecursion, all_weaker, all_of, any_from_in, all_left, all_right, agreed, composed, number_of, at, arc_at, stitched, map_some, then_some, Point, prune, option_lines_and_rings, Featured, Shape, completed, decoded_line, decoded_shape, decoded_feature, decoded_object, of_name, placed_arcs, decoded, TopoFeature, TopoObject, is_used, keep_from, new_index_from, renumbered, line_renumbered, feature_renumbered, object_renumbered, trimmed, Transform, TopoShape, Contents, object_features, objects_lines_and_rings}
+use Rattle.topojson_types.specs.Topologies.{features_lines_and_rings}
 
 -- ---- each arc that is kept is found again
 

@@ -2,10 +2,10 @@
 use Rattle.std.proofs.Common.{rules, arith, ◌≡◌, ℕ, ◌≤◌, ℤ, true, List, [], ◌∷◌, map, Option, None, Some, refl, sym, ap, ◌∙◌, subst}
 use Rattle.build_meaning.proofs.Names.{length-map, AllByRecursion, all_left, all_right, all_two, all_map, all_weaker, or_empty, arc_at, first_of, last_of, Meet, Closes, map_some, Point, IsPosition, is_some_list, Contents, object_features, IsTransform, TopoFeature, TopoObject, Transform, feature_celled, objects_celled, celled, IsOnGrid, EachCell, CelledIsValid, Refs, option_places, features_places, objects_places, IsPlace, IsFeature, IsObject, IsArc, IsTopology, BuiltIsValidOnGrid, IsValid, NoneIsNew}
 use Rattle.elimination_meaning.proofs.Direction.{map_reverse}
-use Rattle.build_meaning.proofs.Celled.{at_map, objects_lines}
-use Rattle.build_meaning.proofs.ValidPruned.{GivesSome, option_full, option_stay, option_single}
 use Rattle.build_meaning.proofs.BuiltCells.{built_cells}
+use Rattle.build_meaning.proofs.Celled.{at_map, objects_lines}
 use Rattle.build_meaning.proofs.Renumbered.{built_has_no_transform}
+use Rattle.build_meaning.proofs.ValidPruned.{GivesSome, option_full, option_stay, option_single}
 
 -- ---- lines of mapped arcs
 

@@ -1,6 +1,7 @@
 -- Each position of an arc is a position of the layers.
 use Rattle.std.proofs.Common.{ℕ, ◌+◌, Bool, List, [], ◌∷◌, drop, take, arith}
-use Rattle.build_meaning.proofs.Names.{AllByRecursion, all_append, all_of, each_of, all_drop, all_take, Point, IsPosition, Featured, option_points, features_points, Stroke, linework, from_flat, arc_is_piece, arcs_of, IsSound, AreSound, Named, layers_of, pieces_from, split_at, turned, pieces_of, pieces, layers_points, none_is_new}
+use Rattle.build_meaning.proofs.Names.{AllByRecursion, all_append, all_of, each_of, all_drop, all_take, Point, IsPosition, Featured, option_points, features_points, Stroke, linework, from_flat, arc_is_piece, arcs_of, IsSound, AreSound, Named, layers_of, pieces_from, split_at, turned, pieces_of, pieces, layers_points}
+use Rattle.linework.proofs.Positions.{none_is_new}
 use Rattle.cutter.specs.Pieces.{joined}
 
 -- ---- pieces of a line

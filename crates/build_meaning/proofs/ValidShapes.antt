@@ -2,8 +2,8 @@
 -- and MultiPoints stay where they are.
 use Rattle.std.proofs.Common.{◌≡◌, ◌&&◌, ℤ, Bool, true, false, List, [], ◌∷◌, map, Option, None, Some, refl, sym, ap, ◌∙◌, subst, arith}
 use Rattle.build_meaning.proofs.Names.{AllByRecursion, list_all, all_append, all_left, all_right, proper_at, points_at, proper-group, prune-point, prune-points, prune-line, prune-lines, prune-area, prune-areas, prune-group, by_kinds, map_some, with_some, some_of, unless_empty, joined, Point, area_by, prune, Shape, is_some_list, is_proper, shape_points, is_full, is_full_option, places, option_places, and_parts, and_from, TopoShape, full_at, places_at, full-group}
-use Rattle.geometry.specs.declared.shape.Geometry.TheVariants as g
 use Rattle.build_meaning.proofs.Reshaped.{same_made, same_listed}
+use Rattle.geometry.specs.declared.shape.Geometry.TheVariants as g
 
 map_id : {A : Type 0} (xs : List A) → map (λ x. x) xs ≡ xs
 map_id [] = refl

@@ -1,16 +1,14 @@
 -- The layers over all arcs, with those that no kept line uses, are a valid topology.
 use Rattle.std.proofs.Common.{◌≡◌, ℕ, ◌≤◌, ℤ, Bool, true, false, List, [], ◌∷◌, map, length, Option, None, Some, refl, sym, ap, subst, if◌then◌else◌, arith}
-use Rattle.build_meaning.proofs.Names.{length-map, AllByRecursion, all_weaker, all_two, all_map, arc_at, then_some, Point, IsPosition, prune, option_lines_and_rings, Collapsed, Small, Shape, Featured, is_some_list, is_proper_option, option_points, clean, is_short, AllClean, is_cut, Stroke, linework, In, is_full_option, option_places, IsFeature, IsObject, AreDistinct, AreInRange, IsJoined, IsClosed, IsArc, IsTopology, TopoObject, index_in, reduced, EndsStay, NoneIsNew, all_arcs, kept_refs, unless, own_pieces, is_small, IsSound, AreSound, Named, names_of, layers_of, named_lines_and_rings, Kept, features_by, objects_by, split_at, start_in, turned, pieces_of, sub_all, objects_lines_and_rings, Many, feature_by, object_features, untrimmed, TopoFeature}
+use Rattle.build_meaning.proofs.Names.{length-map, AllByRecursion, all_weaker, all_two, all_map, arc_at, then_some, Point, IsPosition, prune, option_lines_and_rings, Collapsed, Small, Shape, Featured, is_some_list, is_proper_option, option_points, clean, is_short, AllClean, is_cut, Stroke, linework, In, is_full_option, option_places, IsFeature, IsObject, AreDistinct, AreInRange, IsJoined, IsClosed, IsArc, IsTopology, TopoObject, index_in, reduced, EndsStay, NoneIsNew, all_arcs, kept_refs, unless, own_pieces, is_small, IsSound, AreSound, Named, names_of, layers_of, named_lines_and_rings, Kept, features_by, objects_by, split_at, start_in, turned, pieces_of, sub_all, objects_lines_and_rings, Many, feature_by, object_features, untrimmed, TopoFeature, Layer, features_lines_and_rings}
 use Rattle.cutter.specs.Pieces.{stitched}
 use Rattle.build_meaning.proofs.LinesAndRings.{option_left}
 use Rattle.build_meaning.proofs.Linework.{StandsIn, plain, clean_line, all_clean, each_stands}
+use Rattle.build_meaning.proofs.Reshaped.{over}
 use Rattle.build_meaning.proofs.ValidEnds.{SameEnds, ends_kept, named_ends, meet_as, close_as}
 use Rattle.build_meaning.proofs.ValidIndexes.{arcs_long, ranged, met, closed}
 use Rattle.build_meaning.proofs.ValidPositions.{arcs_placed}
 use Rattle.build_meaning.proofs.ValidShapes.{places_stay, made_full}
-use Rattle.build_meaning.proofs.Reshaped.{over}
-use Rattle.geojson_types.specs.declared.layer.Layer.{Layer}
-use Rattle.build_meaning.specs.Layers.{features_lines_and_rings}
 use Rattle.topojson_types.specs.Topologies as topology
 
 -- ---- names and objects

@@ -13,7 +13,7 @@ use geojson_types::{Counts, Position};
 use json_cursor::{Element, Mark, Opening, Stop, after_elements, mark_at, opening_at};
 use json_reading::{after_value, skip};
 use std::alloc::Global;
-use unit_scanning::{Units, long_units_at, units_pair_at};
+use unit_scanning::{Units, long_units_in_place, units_pair_at};
 
 /// The position whose second coordinate and further elements stand after the comma, and what follows its bracket.
 #[inline(always)]
@@ -97,12 +97,12 @@ fn pair_at(bytes: &[u8]) -> Option<(Units, Units, &[u8])>
     ensures first { IfSome result (λ p. unsigned_abs p.0.value ≤ input_limit) }
     ensures second { IfSome result (λ p. unsigned_abs p.1.value ≤ input_limit) }
 {
-    let (x, after) = long_units_at(skip(bytes))?;
+    let (x, after) = long_units_in_place(skip(bytes))?;
     let (mark, more) = mark_at(after);
     let Mark::Comma = mark else {
         return None;
     };
-    let (y, rest) = long_units_at(skip(more))?;
+    let (y, rest) = long_units_in_place(skip(more))?;
     Some((x, y, rest))
 }
 

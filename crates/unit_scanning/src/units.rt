@@ -45,6 +45,8 @@ fn rounded(value: u64, places: usize) -> Option<(u64, bool)>
 
 /// The number at the front in whole units, however many digits it has, and what follows it. None where it has an exponent, and where it
 /// isn't read this way for its size.
+#[cold]
+#[inline(never)]
 fn any_units_at(bytes: &[u8]) -> Option<(Units, &[u8])>
     ensures units { IfSome result (λ x. IsUnits bytes.now x.0.value x.0.exact x.1.now) }
     ensures within { IfSome result (λ x. unsigned_abs x.0.value ≤ input_limit) }
@@ -66,10 +68,9 @@ fn any_units_at(bytes: &[u8]) -> Option<(Units, &[u8])>
     Some((units, rest))
 }
 
-/// The number at the front in whole units, however many decimals are written. `units_at` is faster where no more are written than are kept.
-#[cold]
-#[inline(never)]
-pub fn long_units_at(bytes: &[u8]) -> Option<(Units, &[u8])>
+/// The number at the front in whole units, however many decimals are written. It stands in the code of its caller: `long_units_at` is a call.
+#[inline(always)]
+pub fn long_units_in_place(bytes: &[u8]) -> Option<(Units, &[u8])>
     ensures units { IfSome result (λ x. IsUnits bytes.now x.0.value x.0.exact x.1.now) }
     ensures within { IfSome result (λ x. unsigned_abs x.0.value ≤ input_limit) }
 {
@@ -77,6 +78,16 @@ pub fn long_units_at(bytes: &[u8]) -> Option<(Units, &[u8])>
         return Some((units, rest));
     }
     any_units_at(bytes)
+}
+
+/// The number at the front in whole units, however many decimals are written. `units_at` is faster where no more are written than are kept.
+#[cold]
+#[inline(never)]
+pub fn long_units_at(bytes: &[u8]) -> Option<(Units, &[u8])>
+    ensures units { IfSome result (λ x. IsUnits bytes.now x.0.value x.0.exact x.1.now) }
+    ensures within { IfSome result (λ x. unsigned_abs x.0.value ≤ input_limit) }
+{
+    long_units_in_place(bytes)
 }
 
 /// The number at the front in whole units, and what follows it. None where it has an exponent, and where it isn't read this

@@ -1,5 +1,7 @@
 -- Objects whose features have ways: where these lead to protected rings, and where there are none.
 use Rattle.std.proofs.Common.{◌≡◌, ℕ, List, [], ◌∷◌, ◌++◌, map, drop, length, Option, None, Some, inl, inr, refl, sym, ap, ◌∙◌}
+use Rattle.std.specs.List.{AllByRecursion}
+use Rattle.std.proofs.Math.Path.{fun_ext}
 use Rattle.std.proofs.Math.Seq.{drop-nil, drop-append_seam}
 use Rattle.std.proofs.lemmas.List.{length-map, map-append}
 use Rattle.geometry.specs.Lists.{joined, map_some, tail, then_some}
@@ -8,8 +10,10 @@ use Rattle.geometry.specs.Pruning.{prune}
 use Rattle.build_meaning.specs.OuterRings.{marked}
 use Rattle.build_meaning.specs.Protected.{Protection, no_protection, MarkedRefs, sparing, shape_marked, feature_spared, object_spared, objects_spared}
 use Rattle.build_meaning.specs.Simplified.{Refs, object_pruned, objects_pruned}
+use Rattle.build_meaning.proofs.DroppableLines.{map_map}
 use Rattle.build_meaning.proofs.Marks.{left_plain}
 use Rattle.build_meaning.proofs.Spared.{objects_plain}
+use Rattle.owned_values.proofs.Elements.{all_left, all_right}
 use Rattle.topojson_types.specs.declared.feature.TopoFeature.{TopoFeature}
 use Rattle.topojson_types.specs.declared.object.TopoObject.{TopoObject}
 use Rattle.topojson_types.specs.declared.object.TopoObject.TheVariants.{One, Many}
@@ -17,6 +21,20 @@ use Rattle.topojson_types.specs.Topologies.{TopoShape, object_features}
 use Rattle.topo_model.specs.Along.{Ways, first_way, by_ways, ways_after, by_object, feature_along, feature_placed, feature_placed_along, object_along, object_placed, objects_along, objects_placed, AreWays}
 use Rattle.topo_model.specs.Ways.{way_of, ways_of}
 use Rattle.topo_model.proofs.Stepped as stepped
+
+-- ---- lists
+
+pub alike : {A B : Type 0} (f g : A → B) → ((x : A) → f x ≡ g x) → (xs : List A) → map f xs ≡ map g xs
+alike f g same xs = ap (λ h. map h xs) (fun_ext same)
+
+-- what is made of what is made of each element
+pub fused : {A B C : Type 0} (f : B → C) (g : A → B) (h : A → C) → ((x : A) → f (g x) ≡ h x) → (xs : List A) → map f (map g xs) ≡ map h xs
+fused f g h same xs = map_map f g xs ∙ alike (λ x. f (g x)) h same xs
+
+-- what holds of all elements of the parts holds of those of each
+pub each_part : {A B : Type 0} (X : B → Type 0) (f : A → List B) (xs : List A) → AllByRecursion X (joined (map f xs)) → AllByRecursion (λ x. AllByRecursion X (f x)) xs
+each_part X f [] h = tt
+each_part X f (x ∷ xs) h = (all_left X (f x) (joined (map f xs)) h, each_part X f xs (all_right X (f x) (joined (map f xs)) h))
 
 -- ---- the ways that are left
 
@@ -90,13 +108,9 @@ module _ (protects : Protection) (kept : MarkedRefs) where
   feature_is : (f : TopoFeature) → feature_along kept (way_of protects f) f ≡ feature_spared protects kept f
   feature_is f = ap (with_shape f) (shape_is f.shape)
 
-  features_are : (fs : List TopoFeature) → map (λ f. feature_along kept (way_of protects f) f) fs ≡ map (feature_spared protects kept) fs
-  features_are [] = refl
-  features_are (f ∷ fs) = rw (feature_is f, features_are fs) refl
-
   object_is : (o : TopoObject) (more : Ways) → object_along kept (map (way_of protects) (object_features o) ++ more) o ≡ object_spared protects kept o
   object_is (One f) more = ap One (feature_is f)
-  object_is (Many fs) more = ap Many (by_given (feature_along kept) (way_of protects) fs more ∙ features_are fs)
+  object_is (Many fs) more = ap Many (by_given (feature_along kept) (way_of protects) fs more ∙ alike (λ f. feature_along kept (way_of protects f) f) (feature_spared protects kept) feature_is fs)
 
 none_is : (s : Option TopoShape) → map_some (λ x. x.path) (then_some no_protection s) ≡ None
 none_is None = refl
@@ -106,13 +120,9 @@ module _ (kept : MarkedRefs) where
   feature_none : (f : TopoFeature) → feature_along kept None f ≡ feature_spared no_protection kept f
   feature_none f = ap (λ way. feature_along kept way f) (sym (none_is f.shape)) ∙ feature_is no_protection kept f
 
-  features_none : (fs : List TopoFeature) → map (feature_along kept None) fs ≡ map (feature_spared no_protection kept) fs
-  features_none [] = refl
-  features_none (f ∷ fs) = rw (feature_none f, features_none fs) refl
-
   object_none : (o : TopoObject) → object_along kept [] o ≡ object_spared no_protection kept o
   object_none (One f) = ap One (feature_none f)
-  object_none (Many fs) = ap Many (by_none (feature_along kept) fs ∙ features_none fs)
+  object_none (Many fs) = ap Many (by_none (feature_along kept) fs ∙ alike (feature_along kept None) (feature_spared no_protection kept) feature_none fs)
 
 -- of objects whose features have the ways to protected rings these are spared
 pub objects_are : (protects : Protection) (kept : MarkedRefs) (ways : Ways) (os : Objects) → AreWays protects ways os → objects_along kept ways os ≡ objects_spared protects kept os
@@ -134,8 +144,7 @@ feature_plainly place k f = ap (with_shape no_protection (sparing k) f) (plainly
 
 -- objects whose cells stay are the pruned ones
 pub cells_stay : (k : Refs) (os : Objects) → objects_placed (λ p. p) k os ≡ objects_pruned k os
-cells_stay k [] = refl
-cells_stay k (o ∷ os) = rw (object_stays o.1, cells_stay k os) refl
+cells_stay k = alike (λ o. (o.0, object_placed (λ p. p) k o.1)) (λ o. (o.0, object_pruned k o.1)) (λ o. ap (λ p. (o.0, p)) (object_stays o.1))
   where
     object_stays : (o : TopoObject) → object_placed (λ p. p) k o ≡ object_pruned k o
     object_stays (One f) = refl

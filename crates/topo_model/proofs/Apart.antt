@@ -1,15 +1,15 @@
 -- Lines and rings that are taken out of layers one after another.
-use Rattle.std.proofs.Common.{◌≡◌, Bool, true, false, List, [], ◌∷◌, ◌++◌, map, sym, ap, ◌∙◌, append_assoc, append-nil}
+use Rattle.std.proofs.Common.{◌≡◌, Bool, List, [], ◌∷◌, ◌++◌, map, sym, ap, ◌∙◌, append_assoc, append-nil}
 use Rattle.std.proofs.lemmas.List.{map-append}
 use Rattle.geojson_types.specs.Features.{Shape}
-use Rattle.geometry.specs.declared.shape.Geometry.TheVariants as g
 use Rattle.geometry.specs.Lists.{joined}
 use Rattle.geometry.specs.Points.{Point}
-use Rattle.geometry.specs.Pruning.{lines_and_rings}
+use Rattle.geometry.specs.Pruning.{lines_and_rings, lines_and_rings_step}
+use Rattle.geometry.proofs.ByKind.{AtKinds}
 use Rattle.geometry.proofs.Cases.{lines_and_rings_at}
 use Rattle.owned_values.proofs.Lists.{joined_append}
 use Rattle.topojson_types.specs.Topologies.{TopoShape}
-use Rattle.topo_model.specs.Drafts.{TakesApart, no_refs, relined}
+use Rattle.topo_model.specs.Drafts.{TakesApart, no_refs, relined, relined_step}
 use Rattle.topo_model.proofs.RelinedMarks.{relined_at}
 
 -- ---- parts, each with lines of its own
@@ -33,36 +33,12 @@ one_more lines left xs x own before now after made new o more so here e = (
 
 -- ---- shapes
 
+pub lines_at : AtKinds (lines_and_rings {P = Point} {L = List Point}) lines_and_rings_step
+lines_at = lines_and_rings_at Point (List Point)
+
+pub left_at : AtKinds (relined no_refs) (relined_step no_refs)
+left_at = relined_at no_refs
+
 -- one without lines
 pub alone : (s : Shape) (before : List (Bool × List Point)) (t : TopoShape) → lines_and_rings s ≡ [] → relined no_refs s ≡ t → TakesApart (lines_and_rings s) (relined no_refs s) before t before
 alone s before t e same = (sym same, sym (append-nil before) ∙ ap (λ zs. before ++ zs) (sym e))
-
-pub line_lines : (l : List Point) → lines_and_rings {P = Point} (g.Line l) ≡ (false, l) ∷ []
-line_lines = (lines_and_rings_at Point (List Point)).line
-
-pub line_left : (l : List Point) → relined no_refs (g.Line l) ≡ g.Line []
-line_left = (relined_at no_refs).line
-
-pub lines_lines : (ls : List (List Point)) → lines_and_rings {P = Point} (g.Lines ls) ≡ map (λ l. (false, l)) ls
-lines_lines = (lines_and_rings_at Point (List Point)).lines
-
-pub lines_left : (ls : List (List Point)) → relined no_refs (g.Lines ls) ≡ g.Lines (map (no_refs false) ls)
-lines_left = (relined_at no_refs).lines
-
-pub area_lines : (rs : List (List Point)) → lines_and_rings {P = Point} (g.Area rs) ≡ map (λ r. (true, r)) rs
-area_lines = (lines_and_rings_at Point (List Point)).area
-
-pub area_left : (rs : List (List Point)) → relined no_refs (g.Area rs) ≡ g.Area (map (no_refs true) rs)
-area_left = (relined_at no_refs).area
-
-pub areas_lines : (rss : List (List (List Point))) → lines_and_rings {P = Point} (g.Areas rss) ≡ joined (map (map (λ r. (true, r))) rss)
-areas_lines = (lines_and_rings_at Point (List Point)).areas
-
-pub areas_left : (rss : List (List (List Point))) → relined no_refs (g.Areas rss) ≡ g.Areas (map (map (no_refs true)) rss)
-areas_left = (relined_at no_refs).areas
-
-pub group_lines : (ss : List Shape) → lines_and_rings (g.Group ss) ≡ joined (map lines_and_rings ss)
-group_lines = (lines_and_rings_at Point (List Point)).group
-
-pub group_left : (ss : List Shape) → relined no_refs (g.Group ss) ≡ g.Group (map (relined no_refs) ss)
-group_left = (relined_at no_refs).group

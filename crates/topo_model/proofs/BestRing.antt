@@ -4,13 +4,13 @@ use Rattle.std.specs.List.{filter}
 use Rattle.std.proofs.lemmas.Bool.{ltb-true, ltb-false}
 use Rattle.std.proofs.lemmas.List.{drop_all, map-append}
 use Rattle.build_meaning.proofs.DroppableLines.{some_append}
-use Rattle.geometry.specs.declared.shape.Geometry.TheVariants as g
 use Rattle.geometry.specs.Lists.{joined, map_some, some_of}
 use Rattle.geometry.specs.Paths.{Placed, inside_part, of_parts}
 use Rattle.geometry.specs.Points.{Point}
 use Rattle.guarded_meaning.specs.Guards.{is_long}
 use Rattle.owned_values.proofs.Lists.{drop_here}
-use Rattle.build_meaning.specs.OuterRings.{outer_ring, outer_rings}
+use Rattle.geometry.proofs.ByKind.{AtKinds}
+use Rattle.build_meaning.specs.OuterRings.{outer_ring, outer_rings, outer_rings_step}
 use Rattle.build_meaning.specs.Protected.{Protection, greater, greatest, enclosed, greatest_ring, protected_of, protected_rings}
 use Rattle.build_meaning.proofs.Marks.{outer_rings_at}
 use Rattle.topojson_types.specs.declared.feature.TopoFeature.{TopoFeature}
@@ -70,26 +70,8 @@ module _ (arcs : List (List Point)) where
 
 -- ---- outer rings by kind
 
-pub of_point : (p : Point) → outer_rings {P = Point} {L = List ℤ} (g.Point p) ≡ []
-of_point = (outer_rings_at Point (List ℤ)).point
-
-pub of_points : (ps : List Point) → outer_rings {P = Point} {L = List ℤ} (g.MultiPoint ps) ≡ []
-of_points = (outer_rings_at Point (List ℤ)).points
-
-pub of_line : (l : List ℤ) → outer_rings {P = Point} {L = List ℤ} (g.Line l) ≡ []
-of_line = (outer_rings_at Point (List ℤ)).line
-
-pub of_lines : (ls : List (List ℤ)) → outer_rings {P = Point} {L = List ℤ} (g.Lines ls) ≡ []
-of_lines = (outer_rings_at Point (List ℤ)).lines
-
-pub of_area : (rs : List (List ℤ)) → outer_rings {P = Point} {L = List ℤ} (g.Area rs) ≡ outer_ring rs
-of_area = (outer_rings_at Point (List ℤ)).area
-
-pub of_areas : (areas : List (List (List ℤ))) → outer_rings {P = Point} {L = List ℤ} (g.Areas areas) ≡ of_parts 0 (map outer_ring areas)
-of_areas = (outer_rings_at Point (List ℤ)).areas
-
-pub of_group : (ss : List TopoShape) → outer_rings (g.Group ss) ≡ of_parts 0 (map outer_rings ss)
-of_group = (outer_rings_at Point (List ℤ)).group
+pub rings_at : AtKinds (outer_rings {P = Point} {L = List ℤ}) outer_rings_step
+rings_at = outer_rings_at Point (List ℤ)
 
 -- ---- the best of all
 

@@ -2,9 +2,8 @@
 use Rattle.std.proofs.Common.{arith, ◌≡◌, ◌<◌, ◌≤◌, length, slice_get, ℕ, ℤ, Bool, true, false, ◌||◌, List, [], ◌∷◌, map, Option, None, Some, refl, sym, ap, ap₂, ◌∙◌}
 use Rattle.std.specs.List.{list_any}
 use Rattle.std.proofs.Math.Bool.{or-false}
-use Rattle.std.proofs.lemmas.List.Folds.{list_any-append}
 use Rattle.geometry.specs.declared.shape.Geometry.TheVariants as g
-use Rattle.geometry.specs.Lists.{map_some, some_of, with_some, unless_empty}
+use Rattle.geometry.specs.Lists.{joined, map_some, some_of, with_some, unless_empty}
 use Rattle.geometry.specs.Points.{Point}
 use Rattle.geometry.specs.Pruning.{prune, area_by, lines_and_rings, option_lines_and_rings}
 use Rattle.geometry.proofs.Cases.{prune-point, prune-points, prune-line, prune-lines, prune-area, prune-areas, prune-group, lines_and_rings-point, lines_and_rings-points, lines_and_rings-line, lines_and_rings-lines, lines_and_rings-area, lines_and_rings-areas, lines_and_rings-group}
@@ -13,6 +12,7 @@ use Rattle.geojson_types.specs.Features.{is_some_list}
 use Rattle.owned_values.proofs.Elements.{all_weaker}
 use Rattle.build_meaning.specs.Simplified.{Refs, feature_pruned, object_pruned, objects_pruned}
 use Rattle.build_meaning.proofs.Again.{all_hold}
+use Rattle.build_meaning.proofs.DroppableLines.{map_map}
 use Rattle.build_meaning.proofs.Objects.{objects_then, objects_replaced}
 use Rattle.topojson_types.specs.declared.feature.TopoFeature.{TopoFeature}
 use Rattle.topojson_types.specs.declared.object.TopoObject.{TopoObject}
@@ -37,17 +37,17 @@ module _ (n : ℕ) where
   abbrev names : List ℤ → Bool
   names l = names_arc l n
 
-  of_point : (p : Point) → left (less (g.Point p)) ≡ false
+  pub of_point : (p : Point) → left (less (g.Point p)) ≡ false
   of_point p = ap left (prune-point (λ (p : Point). p) with_refs p) ∙ ap (λ bs. any_uses bs n) (lines_and_rings-point Point (List ℤ) p)
 
-  of_points : (ps : List Point) → left (less (g.MultiPoint ps)) ≡ false
+  pub of_points : (ps : List Point) → left (less (g.MultiPoint ps)) ≡ false
   of_points ps = ap left (prune-points (λ (p : Point). p) with_refs ps) ∙ ap (λ bs. any_uses bs n) (lines_and_rings-points Point (List ℤ) (map (λ p. p) ps))
 
   one_line : (l : List ℤ) → left (map_some g.Line (with_refs false l)) ≡ names l
   one_line [] = refl
   one_line (r ∷ refs) = ap (λ bs. any_uses bs n) (lines_and_rings-line Point (List ℤ) (r ∷ refs)) ∙ or-false (names (r ∷ refs))
 
-  of_line : (l : List ℤ) → left (less (g.Line l)) ≡ names l
+  pub of_line : (l : List ℤ) → left (less (g.Line l)) ≡ names l
   of_line l = ap left (prune-line (λ (p : Point). p) with_refs l) ∙ one_line l
 
   some_lines : (closed : Bool) (ls : List (List ℤ)) → list_any names (some_of (with_refs closed) ls) ≡ list_any names ls
@@ -59,7 +59,7 @@ module _ (n : ℕ) where
   all_lines [] = refl
   all_lines (l ∷ ls) = ap (λ bs. any_uses bs n) (lines_and_rings-lines Point (List ℤ) (l ∷ ls)) ∙ of_tagged false n (l ∷ ls)
 
-  of_lines : (ls : List (List ℤ)) → left (less (g.Lines ls)) ≡ list_any names ls
+  pub of_lines : (ls : List (List ℤ)) → left (less (g.Lines ls)) ≡ list_any names ls
   of_lines ls = ap left (prune-lines (λ (p : Point). p) with_refs ls) ∙ all_lines (some_of (with_refs false) ls) ∙ some_lines false ls
 
   one_area : (rs : List (List ℤ)) → left (map_some g.Area (area_by (with_refs true) rs)) ≡ area_uses rs n
@@ -69,7 +69,7 @@ module _ (n : ℕ) where
       ap (λ bs. any_uses bs n) (lines_and_rings-area Point (List ℤ) ((r ∷ refs) ∷ some_of (with_refs true) holes))
       ∙ of_tagged true n ((r ∷ refs) ∷ some_of (with_refs true) holes) ∙ ap (λ b. names (r ∷ refs) || b) (some_lines true holes)
 
-  of_area : (rs : List (List ℤ)) → left (less (g.Area rs)) ≡ area_uses rs n
+  pub of_area : (rs : List (List ℤ)) → left (less (g.Area rs)) ≡ area_uses rs n
   of_area rs = ap left (prune-area (λ (p : Point). p) with_refs rs) ∙ one_area rs
 
   some_areas : (areas : List (List (List ℤ))) → list_any (λ rs. list_any names rs) (some_of (area_by (with_refs true)) areas) ≡ list_any (λ rs. area_uses rs n) areas
@@ -82,7 +82,7 @@ module _ (n : ℕ) where
   all_areas [] = refl
   all_areas (rs ∷ areas) = ap (λ bs. any_uses bs n) (lines_and_rings-areas Point (List ℤ) (rs ∷ areas)) ∙ of_rings n (rs ∷ areas)
 
-  of_areas : (areas : List (List (List ℤ))) → left (less (g.Areas areas)) ≡ list_any (λ rs. area_uses rs n) areas
+  pub of_areas : (areas : List (List (List ℤ))) → left (less (g.Areas areas)) ≡ list_any (λ rs. area_uses rs n) areas
   of_areas areas = ap left (prune-areas (λ (p : Point). p) with_refs areas) ∙ all_areas (some_of (area_by (with_refs true)) areas) ∙ some_areas areas
 
   one_shape : (o : Option TopoShape) (ss : List TopoShape) → list_any (λ s. any_uses (lines_and_rings s) n) (with_some o ss) ≡ (left o || list_any (λ s. any_uses (lines_and_rings s) n) ss)
@@ -93,7 +93,7 @@ module _ (n : ℕ) where
   some_shapes [] = refl
   some_shapes (s ∷ ss) = one_shape (less s) (some_of less ss) ∙ ap (λ b. left (less s) || b) (some_shapes ss)
 
-  of_group : (ss : List TopoShape) → left (less (g.Group ss)) ≡ list_any (λ s. left (less s)) ss
+  pub of_group : (ss : List TopoShape) → left (less (g.Group ss)) ≡ list_any (λ s. left (less s)) ss
   of_group ss =
       ap left (prune-group (λ (p : Point). p) with_refs ss) ∙ ap (λ bs. any_uses bs n) (lines_and_rings-group Point (List ℤ) (some_of less ss))
       ∙ of_joined lines_and_rings n (some_of less ss) ∙ some_shapes ss
@@ -101,16 +101,13 @@ module _ (n : ℕ) where
   -- ---- features and objects
 
   of_features : (fs : List TopoFeature) → any_uses (features_lines_and_rings (map (feature_pruned with_refs) fs)) n ≡ list_any (λ f. shape_uses f.shape n) fs
-  of_features [] = refl
-  of_features (f ∷ fs) =
-      list_any-append (λ b. names_arc b.1 n) (option_lines_and_rings (feature_pruned with_refs f).shape) (features_lines_and_rings (map (feature_pruned with_refs) fs))
-      ∙ ap (λ b. shape_uses f.shape n || b) (of_features fs)
+  of_features fs =
+      ap (λ bss. any_uses (joined bss) n) (map_map (λ (f : TopoFeature). option_lines_and_rings f.shape) (feature_pruned with_refs) fs) ∙ of_joined (λ (f : TopoFeature). option_lines_and_rings (feature_pruned with_refs f).shape) n fs
 
   of_objects : (os : List (List ℕ × TopoObject)) → is_used (objects_pruned with_refs os) n ≡ list_any (λ o. any_uses (features_lines_and_rings (object_features (object_pruned with_refs o.1))) n) os
-  of_objects [] = refl
-  of_objects (o ∷ os) =
-      list_any-append (λ b. names_arc b.1 n) (features_lines_and_rings (object_features (object_pruned with_refs o.1))) (objects_lines_and_rings (objects_pruned with_refs os))
-      ∙ ap (λ b. any_uses (features_lines_and_rings (object_features (object_pruned with_refs o.1))) n || b) (of_objects os)
+  of_objects os =
+      ap (λ bss. any_uses (joined bss) n) (map_map {B = List ℕ × TopoObject} (λ o. features_lines_and_rings (object_features o.1)) (λ o. (o.0, object_pruned with_refs o.1)) os)
+      ∙ of_joined (λ (o : List ℕ × TopoObject). features_lines_and_rings (object_features (object_pruned with_refs o.1))) n os
 
 -- ---- flags
 
@@ -120,26 +117,12 @@ marks p q old new same k = k ∙ also_same p q 0 old (λ n. sym (same n))
 pub marks_none : (q : ℕ → Bool) (old : List Bool) → ((n : ℕ) → q n ≡ false) → old ≡ also_set q 0 old
 marks_none q old none = sym (also_none q 0 old none)
 
-pub at_point : (s : TopoShape) (p : Point) (old : List Bool) → s ≡ g.Point p → old ≡ also_set (shape_uses (Some s)) 0 old
-at_point s p old e = marks_none (shape_uses (Some s)) old (λ n. ap (λ s. left n (less s)) e ∙ of_point n p)
+-- those of a shape, by what is left of it at its kind
+pub at_none : (s t : TopoShape) (old : List Bool) → s ≡ t → ((n : ℕ) → left n (less t) ≡ false) → old ≡ also_set (shape_uses (Some s)) 0 old
+at_none s t old e none = marks_none (shape_uses (Some s)) old (λ n. ap (λ s. left n (less s)) e ∙ none n)
 
-pub at_points : (s : TopoShape) (ps : List Point) (old : List Bool) → s ≡ g.MultiPoint ps → old ≡ also_set (shape_uses (Some s)) 0 old
-at_points s ps old e = marks_none (shape_uses (Some s)) old (λ n. ap (λ s. left n (less s)) e ∙ of_points n ps)
-
-pub at_line : (s : TopoShape) (l : List ℤ) (old new : List Bool) → s ≡ g.Line l → new ≡ also_set (names_arc l) 0 old → new ≡ also_set (shape_uses (Some s)) 0 old
-at_line s l old new e k = marks (names_arc l) (shape_uses (Some s)) old new (λ n. ap (λ s. left n (less s)) e ∙ of_line n l) k
-
-pub at_lines : (s : TopoShape) (ls : List (List ℤ)) (old new : List Bool) → s ≡ g.Lines ls → new ≡ also_set (λ n. list_any (λ l. names_arc l n) ls) 0 old → new ≡ also_set (shape_uses (Some s)) 0 old
-at_lines s ls old new e k = marks (λ n. list_any (λ l. names_arc l n) ls) (shape_uses (Some s)) old new (λ n. ap (λ s. left n (less s)) e ∙ of_lines n ls) k
-
-pub at_area : (s : TopoShape) (rs : List (List ℤ)) (old new : List Bool) → s ≡ g.Area rs → new ≡ also_set (area_uses rs) 0 old → new ≡ also_set (shape_uses (Some s)) 0 old
-at_area s rs old new e k = marks (area_uses rs) (shape_uses (Some s)) old new (λ n. ap (λ s. left n (less s)) e ∙ of_area n rs) k
-
-pub at_areas : (s : TopoShape) (areas : List (List (List ℤ))) (old new : List Bool) → s ≡ g.Areas areas → new ≡ also_set (λ n. list_any (λ rs. area_uses rs n) areas) 0 old → new ≡ also_set (shape_uses (Some s)) 0 old
-at_areas s areas old new e k = marks (λ n. list_any (λ rs. area_uses rs n) areas) (shape_uses (Some s)) old new (λ n. ap (λ s. left n (less s)) e ∙ of_areas n areas) k
-
-pub at_group : (s : TopoShape) (ss : List TopoShape) (old new : List Bool) → s ≡ g.Group ss → new ≡ also_set (λ n. list_any (λ t. shape_uses (Some t) n) ss) 0 old → new ≡ also_set (shape_uses (Some s)) 0 old
-at_group s ss old new e k = marks (λ n. list_any (λ t. shape_uses (Some t) n) ss) (shape_uses (Some s)) old new (λ n. ap (λ s. left n (less s)) e ∙ of_group n ss) k
+pub at_kind : (s t : TopoShape) (p : ℕ → Bool) (old new : List Bool) → s ≡ t → ((n : ℕ) → left n (less t) ≡ p n) → new ≡ also_set p 0 old → new ≡ also_set (shape_uses (Some s)) 0 old
+at_kind s t p old new e same k = marks p (shape_uses (Some s)) old new (λ n. ap (λ s. left n (less s)) e ∙ same n) k
 
 pub no_shape : (o : Option TopoShape) (old : List Bool) → o ≡ None → old ≡ also_set (shape_uses o) 0 old
 no_shape o old e = marks_none (shape_uses o) old (λ n. ap (λ o. shape_uses o n) e)

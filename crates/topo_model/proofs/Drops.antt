@@ -1,5 +1,5 @@
 -- What is dropped of a shape, by its kind, and of features and objects in order.
-use Rattle.std.proofs.Common.{◌≡◌, ℕ, suc, ◌+◌, ◌<◌, ℤ, Bool, true, false, List, [], ◌∷◌, ◌++◌, map, drop, length, get_or, Option, None, Some, inr, refl, sym, ap, ◌∙◌}
+use Rattle.std.proofs.Common.{◌≡◌, ℕ, suc, ◌+◌, ◌<◌, ℤ, Bool, true, false, List, [], ◌∷◌, ◌++◌, map, drop, length, get_or, Option, None, Some, refl, sym, ap, ◌∙◌}
 use Rattle.std.proofs.lemmas.Simd.{map-map}
 use Rattle.geometry.specs.declared.address.Address.{Address}
 use Rattle.geometry.specs.declared.address.Cause.{Cause}
@@ -13,8 +13,7 @@ use Rattle.geometry.proofs.Cases.{drop_causes-line, drop_causes-lines, drop_caus
 use Rattle.junctions.specs.Gathering.{part_address}
 use Rattle.build_meaning.specs.OuterRings.{into_part, ends_here, along, unmarked, rings_marked, marked}
 use Rattle.build_meaning.specs.Protected.{Protection, no_protection, cause_sparing, shape_marked}
-use Rattle.build_meaning.proofs.Marks.{causes_plain, marked_at, marked-line, marked-lines, marked-area, marked-areas, marked-group}
-use Rattle.topojson_types.specs.declared.feature.TopoFeature.{TopoFeature}
+use Rattle.build_meaning.proofs.Marks.{marked_at, marked-line, marked-lines, marked-area, marked-areas, marked-group}
 use Rattle.topojson_types.specs.Topologies.{TopoShape, object_features}
 use Rattle.topo_model.specs.Along.{Ways, AreWays}
 use Rattle.topo_model.specs.Places.{dropped_at}
@@ -22,7 +21,7 @@ use Rattle.topo_model.specs.Rebuilding.{Rebuilding}
 use Rattle.topo_model.proofs.Reported.{first_part, reported_more}
 use Rattle.topo_model.specs.Drops.{draft_cause, shape_drops, features_drops, objects_drops}
 use Rattle.topo_model.specs.Ways.{way_of}
-use Rattle.topo_model.proofs.Along.{Objects, by_given, by_none, objects_by}
+use Rattle.topo_model.proofs.Along.{Objects, alike, by_given, by_none, objects_by}
 
 module _ (arcs : Rebuilding) (way : Option (List ℕ)) where
   abbrev why : Bool → Bool × List ℤ → Option Cause
@@ -64,49 +63,23 @@ abbrev pub protected_drops : Rebuilding → Protection → Option TopoShape → 
 protected_drops arcs protects None = []
 protected_drops arcs protects (Some s) = drop_causes (cause_sparing (draft_cause arcs)) (shape_marked protects s)
 
--- the lines and rings of a shape that may be null that are dropped, where none is protected
-abbrev pub plain_drops : Rebuilding → Option TopoShape → List (Placed Cause)
-plain_drops arcs None = []
-plain_drops arcs (Some s) = drop_causes (draft_cause arcs) s
-
 module _ (arcs : Rebuilding) where
   shape_is : (protects : Protection) (s : Option TopoShape) → shape_drops arcs (map_some (λ x. x.path) (then_some protects s)) s ≡ protected_drops arcs protects s
   shape_is protects None = refl
   shape_is protects (Some s) = refl
 
-  features_are : (protects : Protection) (fs : List TopoFeature) → map (λ f. shape_drops arcs (way_of protects f) f.shape) fs ≡ map (λ f. protected_drops arcs protects f.shape) fs
-  features_are protects [] = refl
-  features_are protects (f ∷ fs) = rw (shape_is protects f.shape, features_are protects fs) refl
-
   shape_none : (s : Option TopoShape) → shape_drops arcs None s ≡ protected_drops arcs no_protection s
   shape_none None = refl
   shape_none (Some s) = refl
 
-  features_none : (fs : List TopoFeature) → map (λ f. shape_drops arcs None f.shape) fs ≡ map (λ f. protected_drops arcs no_protection f.shape) fs
-  features_none [] = refl
-  features_none (f ∷ fs) = rw (shape_none f.shape, features_none fs) refl
-
   pub objects_are : (protects : Protection) (ways : Ways) (os : Objects) → AreWays protects ways os → objects_drops arcs 0 ways os ≡ dropped_of_layers 0 (map (λ o. map (λ f. protected_drops arcs protects f.shape) (object_features o.1)) os)
   objects_are protects ways os are =
       ap (dropped_of_layers 0) (objects_by (λ ways o. features_drops arcs ways (object_features o.1)) (λ o. map (λ f. protected_drops arcs protects f.shape) (object_features o.1)) protects ways os are
-      (λ o more. by_given (λ way f. shape_drops arcs way f.shape) (way_of protects) (object_features o.1) more ∙ features_are protects (object_features o.1))
-      (λ none o. by_none (λ way f. shape_drops arcs way f.shape) (object_features o.1) ∙ features_none (object_features o.1) ∙ ap (λ p. map (λ f. protected_drops arcs p f.shape) (object_features o.1)) (sym none)))
-
-  shape_plain : (s : Option TopoShape) → protected_drops arcs no_protection s ≡ plain_drops arcs s
-  shape_plain None = refl
-  shape_plain (Some s) = causes_plain (cause_sparing (draft_cause arcs)) s
-
-  features_plain : (fs : List TopoFeature) → map (λ f. protected_drops arcs no_protection f.shape) fs ≡ map (λ f. plain_drops arcs f.shape) fs
-  features_plain [] = refl
-  features_plain (f ∷ fs) = rw (shape_plain f.shape, features_plain fs) refl
-
-  all_plain : (os : Objects) → map (λ o. map (λ f. protected_drops arcs no_protection f.shape) (object_features o.1)) os ≡ map (λ o. map (λ f. plain_drops arcs f.shape) (object_features o.1)) os
-  all_plain [] = refl
-  all_plain (o ∷ os) = rw (features_plain (object_features o.1), all_plain os) refl
-
-  -- without ways
-  pub objects_plainly : (os : Objects) → objects_drops arcs 0 [] os ≡ dropped_of_layers 0 (map (λ o. map (λ f. plain_drops arcs f.shape) (object_features o.1)) os)
-  objects_plainly os = objects_are no_protection [] os (inr (refl, refl)) ∙ ap (dropped_of_layers 0) (all_plain os)
+      (λ o more. by_given (λ way f. shape_drops arcs way f.shape) (way_of protects) (object_features o.1) more
+      ∙ alike (λ f. shape_drops arcs (way_of protects f) f.shape) (λ f. protected_drops arcs protects f.shape) (λ f. shape_is protects f.shape) (object_features o.1))
+      (λ none o. by_none (λ way f. shape_drops arcs way f.shape) (object_features o.1)
+      ∙ alike (λ f. shape_drops arcs None f.shape) (λ f. protected_drops arcs no_protection f.shape) (λ f. shape_none f.shape) (object_features o.1)
+      ∙ ap (λ p. map (λ f. protected_drops arcs p f.shape) (object_features o.1)) (sym none)))
 
 -- ---- one more
 

@@ -1,5 +1,4 @@
 pub mod Assembled
-pub mod AssembledSparing
 pub mod AllUsed
 pub mod Along
 pub mod Apart
@@ -10,8 +9,8 @@ pub mod DraftAtZero
 pub mod DraftUses
 pub mod Drops
 pub mod Enclosed
+pub mod InPlaces
 pub mod Full
-pub mod InPlace
 pub mod Kept
 pub mod KeptParts
 pub mod LeftOut
@@ -22,7 +21,6 @@ pub mod Passed
 pub mod Picks
 pub mod Prefix
 pub mod Pruned
-pub mod Relined
 pub mod RelinedMarks
 pub mod Renumbered
 pub mod Reported

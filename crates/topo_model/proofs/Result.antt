@@ -27,7 +27,7 @@ use Rattle.build_meaning.proofs.Marks.{lines_and_rings_back, without_mark}
 use Rattle.build_meaning.proofs.Objects.{objects_then}
 use Rattle.build_meaning.proofs.Spared.{Leaves, objects_left as spared_left}
 use Rattle.build_meaning.proofs.ValidRetained.{retained_length}
-use Rattle.owned_values.proofs.Elements.{all_append, all_two, all_of_map, all_weaker}
+use Rattle.owned_values.proofs.Elements.{all_parts, all_two, all_of_map, all_weaker}
 use Rattle.topojson_types.proofs.Standing.{lines_and_rings_full}
 use Rattle.topojson_types.specs.declared.feature.TopoFeature.{TopoFeature}
 use Rattle.topojson_types.specs.declared.object.TopoObject.{TopoObject}
@@ -42,6 +42,7 @@ use Rattle.topo_model.specs.Drops.{draft_cause, objects_drops}
 use Rattle.topo_model.proofs.Along.{objects_are as objects_along_are}
 use Rattle.topo_model.proofs.Drops.{protected_drops, objects_are as drops_along}
 use Rattle.topo_model.specs.Parts.{contents}
+use Rattle.topo_model.specs.Retaining.{StandsFor}
 use Rattle.topo_model.specs.ArcUses.{AllNameArcs, NamesArcs, as_they_are, renumbered_refs}
 use Rattle.topo_model.proofs.Picks.{places_retained, topology_places}
 
@@ -72,22 +73,24 @@ lines_stay X protects limit arcs os h =
     each (closed, l) x false m e = subst (λ k. X (closed, k)) (kept (small_cause limit arcs closed l) l m e) x
 
 -- each line and ring of a valid topology has an index
+abbrev HasIndex : Bool × List ℤ → Type 0
+HasIndex b = is_some_list b.1 ≡ true
+
 option_full : (s : Option TopoShape) → is_full_option s ≡ true → AllByRecursion (λ b. is_some_list b.1 ≡ true) (option_lines_and_rings s)
 option_full None h = tt
 option_full (Some s) h = lines_and_rings_full s h
 
 features_full : (transform : Option Transform) (fs : List TopoFeature) → AllByRecursion (IsFeature transform) fs → AllByRecursion (λ b. is_some_list b.1 ≡ true) (features_lines_and_rings fs)
-features_full transform [] h = tt
-features_full transform (f ∷ fs) h = all_append (λ b. is_some_list b.1 ≡ true) (option_lines_and_rings f.shape) (features_lines_and_rings fs) (option_full f.shape h.0.0) (features_full transform fs h.1)
+features_full transform fs h = all_parts HasIndex (λ f. option_lines_and_rings f.shape) fs (all_weaker (IsFeature transform) (λ f. AllByRecursion HasIndex (option_lines_and_rings f.shape)) (λ f k. option_full f.shape k.0) fs h)
 
 object_full : (transform : Option Transform) (o : TopoObject) → IsObject transform o → AllByRecursion (λ b. is_some_list b.1 ≡ true) (features_lines_and_rings (object_features o))
 object_full transform (One f) h = features_full transform (f ∷ []) (h.0, tt)
 object_full transform (Many fs) h = features_full transform fs h
 
 objects_full : (transform : Option Transform) (os : Objects) → AllByRecursion (λ o. IsObject transform o.1) os → AllByRecursion (λ b. is_some_list b.1 ≡ true) (objects_lines_and_rings os)
-objects_full transform [] h = tt
-objects_full transform (o ∷ os) h =
-    all_append (λ b. is_some_list b.1 ≡ true) (features_lines_and_rings (object_features o.1)) (objects_lines_and_rings os) (object_full transform o.1 h.0) (objects_full transform os h.1)
+objects_full transform os h =
+    all_parts HasIndex (λ o. features_lines_and_rings (object_features o.1)) os
+    (all_weaker (λ o. IsObject transform o.1) (λ o. AllByRecursion HasIndex (features_lines_and_rings (object_features o.1))) (λ o. object_full transform o.1) os h)
 
 pub objects_renumbered : (renumbering : List ℤ) (u : ℕ → Bool) (os : Objects) → NewIndexesOf renumbering u → AllByRecursion (InRange (length renumbering)) (objects_lines_and_rings os) → objects_pruned (renumbered_refs renumbering) os ≡ objects_pruned (line_renumbered u) os
 objects_renumbered renumbering u os are h =
@@ -131,23 +134,6 @@ flags_long u used flags n is same = grind (arith, answers_length)
 
 pub parts_are : (y : Contents) (os : Objects) (arcs : List (List Point)) (transform : Option Transform) → os ≡ y.objects → arcs ≡ y.arcs → transform ≡ y.transform → contents os arcs transform ≡ y
 parts_are y os arcs transform o a t = grind arith
-
--- what is left of the parts makes what is left of the topology
-pub made_is : (protects : Protection) (kept : List (List ℕ)) (limit : ℕ) (y : Contents) (objects left made : Objects) (arcs stay put : List (List Point)) (transform given : Option Transform) → contents objects arcs transform ≡ y → transform ≡ y.transform
-    → contents left stay transform ≡ spared_by protects kept limit (contents objects arcs transform) → made ≡ left → put ≡ stay → given ≡ y.transform → contents made put given ≡ spared_by protects kept limit y
-made_is protects kept limit y objects left made arcs stay put transform given same t l m p g =
-    ap (λ os. contents os put given) m ∙ ap (λ xs. contents left xs given) p ∙ ap (contents left stay) (g ∙ sym t) ∙ l ∙ ap (spared_by protects kept limit) same
-
--- ---- a draft
-
--- what is left of a draft without the lines and rings that have too few positions is what these steps make of it
-pub finished : (limit : ℕ) (ways : Ways) (os large objects : Objects) (retained stay : List (List Point)) (transform : Option Transform) → large ≡ large_along limit (placed_arcs transform retained) ways os
-    → objects ≡ objects_pruned (line_renumbered (is_used large)) large → stay ≡ keep_from (is_used large) 0 retained
-    → contents objects stay transform ≡ trimmed (contents (large_along limit (placed_arcs transform retained) ways os) retained transform)
-unfolding trimmed
-finished limit ways os large objects retained stay transform l o s =
-    ap (λ os. contents os stay transform) o ∙ ap (λ xs. contents (objects_pruned (line_renumbered (is_used large)) large) xs transform) s
-    ∙ ap (λ (os : Objects). contents (objects_pruned (line_renumbered (is_used os)) os) (keep_from (is_used os) 0 retained) transform) l
 
 -- ---- a topology
 
@@ -204,11 +190,6 @@ module _ (protects : Protection) (kept : List (List ℕ)) (limit : ℕ) (y : Con
   pub places_are : IsTopology y → AllByRecursion (λ a. AllByRecursion (IsPlace y.transform) a) retained
   places_are valid = subst (AllByRecursion (λ a. AllByRecursion (IsPlace y.transform) a)) (sym is) (places_retained y.transform kept y.arcs (topology_places y valid))
 
-  -- without the arcs that are not used it is what is left
-  pub is_spared : trimmed (contents large retained y.transform) ≡ spared_by protects kept limit y
-  unfolding spared_by
-  is_spared = ap trimmed is_whole
-
   taken_of : positions_of (keep_from (is_used large) 0 y.arcs) - positions_of (keep_from (is_used large) 0 retained) ≡ spared_removed_count protects kept limit y
   unfolding spared_removed_count spared_by trimmed
   taken_of = ap (λ (z : Contents). positions_of (keep_from (is_used z.objects) 0 y.arcs) - positions_of (keep_from (is_used z.objects) 0 z.arcs)) is_whole
@@ -225,9 +206,38 @@ module _ (protects : Protection) (kept : List (List ℕ)) (limit : ℕ) (y : Con
       ∙ ap (dropped_of_layers 0) (objects_same protects limit (placed_arcs y.transform retained) y.transform y.objects valid)
       ∙ ap (λ arcs. dropped_of_layers 0 (map (λ o. map (λ f. option_unprotected protects limit (placed_arcs y.transform arcs) f.shape) (object_features o.1)) y.objects)) is
 
-  -- the objects whose features have these ways
-  pub large_is : (ways : Ways) → AreWays protects ways y.objects → large_along limit (placed_arcs y.transform retained) ways y.objects ≡ large
-  large_is ways are = objects_along_are protects (sparing (large_refs limit (placed_arcs y.transform retained))) ways y.objects are
+-- objects whose features have these ways stand for themselves
+pub stands_for_itself : (protects : Protection) (kept : List (List ℕ)) (os now : Objects) (arcs retained : List (List Point)) (transform : Option Transform) (limit : ℕ) (ways : Ways) → AreWays protects ways os → retained ≡ retained_arcs kept arcs
+    → now ≡ os → StandsFor protects kept os now arcs retained transform limit ways
+stands_for_itself protects kept os now arcs retained transform limit ways are picks same =
+    record { picks = picks; large = ap (large_along limit (placed_arcs transform retained) ways) same ∙ objects_along_are protects (sparing (large_refs limit (placed_arcs transform retained))) ways os are }
+
+-- ---- a draft
+
+-- the objects are lent whole, and come back without what is small, which is a topology's
+module _ (limit : ℕ) (ways : Ways) (os first new second : Objects) (n : ℕ) (retained seen : List (List Point)) (transform shown : Option Transform) (many : n ≡ length os) (lent : first ≡ os) (same : seen ≡ retained) (as_shown : shown ≡ transform)
+    (left : new ≡ large_along limit (placed_arcs shown seen) ways first) (again : second ≡ take n (new ++ drop (length new) os)) where
+  abbrev between : Objects
+  between = take n (new ++ drop (length new) os)
+
+  abbrev kept_large : MarkedRefs
+  kept_large = sparing (large_refs limit (placed_arcs transform retained))
+
+  left_is : new ≡ objects_along kept_large ways first
+  left_is = left ∙ ap (λ t. large_along limit (placed_arcs t seen) ways first) as_shown ∙ ap (λ arcs. large_along limit (placed_arcs transform arcs) ways first) same
+
+  pub large_left : second ≡ large_along limit (placed_arcs transform retained) ways os
+  large_left = again ∙ put_along kept_large ways n os first new many lent left_is ∙ ap (objects_along kept_large ways) lent
+
+  pub finished : (protects : Protection) (kept : List (List ℕ)) (of : Objects) (arcs stay : List (List Point)) (last : Objects) → StandsFor protects kept of os arcs retained transform limit ways
+      → last ≡ objects_pruned (line_renumbered (is_used second)) second → stay ≡ keep_from (is_used second) 0 retained
+      → contents (take n (last ++ drop (length last) (take n (new ++ drop (length new) os)))) stay transform ≡ spared_by protects kept limit (contents of arcs transform)
+  unfolding spared_by trimmed
+  finished protects kept of arcs stay last stands l s =
+      let many_left = many ∙ sym (along_long kept_large ways os second large_left) ∙ ap length again in
+      ap (λ os. contents os stay transform) (put_back (line_renumbered (is_used second)) n between second last many_left again l) ∙ ap (λ xs. contents (objects_pruned (line_renumbered (is_used second)) second) xs transform) s
+      ∙ ap (λ (os : Objects). contents (objects_pruned (line_renumbered (is_used os)) os) (keep_from (is_used os) 0 retained) transform) (large_left ∙ stands.large)
+      ∙ ap trimmed (is_whole protects kept limit (contents of arcs transform) retained stands.picks)
 
 -- ---- where the cells of arcs lie
 

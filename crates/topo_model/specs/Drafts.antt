@@ -1,6 +1,6 @@
 -- Layers as a draft of a topology: each line and ring is replaced by the indexes of its arcs, or by none where it has too few positions
 -- from the first.
-use Rattle.std.specs.Prelude.{◌≡◌, ℕ, ℤ, Bool, true, false, List, [], ◌∷◌, ◌++◌, map, if◌then◌else◌}
+use Rattle.std.specs.Prelude.{◌≡◌, ℕ, ℤ, Bool, true, false, List, [], ◌∷◌, ◌++◌, Option, None, Some, map, if◌then◌else◌}
 use Rattle.build_meaning.specs.Layers.{Named}
 use Rattle.geojson_types.specs.Features.{Featured, Shape}
 use Rattle.geometry.specs.declared.shape.Geometry.{fold-Geometry}
@@ -11,7 +11,7 @@ use Rattle.geometry.specs.Points.{Point}
 use Rattle.junctions.specs.Cleaning.{clean, is_short}
 use Rattle.topojson_types.specs.declared.feature.TopoFeature.{TopoFeature}
 use Rattle.topojson_types.specs.declared.object.TopoObject.{TopoObject}
-use Rattle.topojson_types.specs.declared.object.TopoObject.TheVariants.{Many}
+use Rattle.topojson_types.specs.declared.object.TopoObject.TheVariants.{One, Many}
 use Rattle.topojson_types.specs.Topologies.{TopoShape}
 
 -- ---- lines and rings
@@ -81,8 +81,56 @@ spread (true ∷ flags) refs = [] ∷ spread flags refs
 spread (false ∷ flags) [] = [] ∷ spread flags []
 spread (false ∷ flags) (r ∷ refs) = r ∷ spread flags refs
 
--- Where nothing stands for the lines and rings of something, and what remains is what stands for them, and more after, it is put in their
--- places, and the rest remains.
-abbrev pub Fills : {X Y : Type 0} → (X → List (Bool × List Point)) → (RefsOf → X → Y) → Y → List (List ℤ) → Y → List (List ℤ) → Type 0
-Fills {X} lines_of made old remaining new rest = (x : X) (f : RefsOf) (tail : List (List ℤ)) → old ≡ made no_refs x → remaining ≡ refs_of f (lines_of x) ++ tail
-    → (new ≡ made f x) × (rest ≡ tail)
+-- what is made of the arc indexes that remain, and those that remain then
+abbrev pub Fill : Type 0 → Type 0
+Fill Y = List (List ℤ) → Y × List (List ℤ)
+
+-- with something else made of it
+abbrev pub as_made : {X Y : Type 0} → (X → Y) → X × List (List ℤ) → Y × List (List ℤ)
+as_made make p = (make p.0, p.1)
+
+-- one after the other
+abbrev pub in_turn : {Y : Type 0} → List (Fill Y) → Fill (List Y)
+in_turn [] w = ([], w)
+in_turn (f ∷ fs) w = as_made (λ ys. (f w).0 ∷ ys) (in_turn fs (f w).1)
+
+-- the next, none where none remains
+abbrev pub next_refs : Fill (List ℤ)
+next_refs [] = ([], [])
+next_refs (r ∷ rest) = (r, rest)
+
+-- in the place of a line or ring
+abbrev pub line_filled : List ℤ → Fill (List ℤ)
+line_filled old w = next_refs w
+
+abbrev pub lines_filled : List (List ℤ) → Fill (List (List ℤ))
+lines_filled ls = in_turn (map line_filled ls)
+
+-- one level, with how the shapes of a group are filled in their place
+abbrev pub filled_step : Geometry-F Point (List ℤ) (List ℤ) (Fill TopoShape) → Fill TopoShape
+filled_step (Geometry-F.Point p) w = (g.Point p, w)
+filled_step (Geometry-F.MultiPoint ps) w = (g.MultiPoint ps, w)
+filled_step (Geometry-F.Line l) w = as_made g.Line (line_filled l w)
+filled_step (Geometry-F.Lines ls) w = as_made g.Lines (lines_filled ls w)
+filled_step (Geometry-F.Area rs) w = as_made g.Area (lines_filled rs w)
+filled_step (Geometry-F.Areas areas) w = as_made g.Areas (in_turn (map lines_filled areas) w)
+filled_step (Geometry-F.Group fs) w = as_made g.Group (in_turn fs w)
+
+-- the lines and rings of a shape replaced in reading order
+unfoldable pub shape_filled : TopoShape → Fill TopoShape
+shape_filled = fold-Geometry Point (List ℤ) (List ℤ) (Fill TopoShape) filled_step
+
+abbrev pub option_filled : Option TopoShape → Fill (Option TopoShape)
+option_filled None w = (None, w)
+option_filled (Some s) w = as_made (λ t. Some t) (shape_filled s w)
+
+abbrev pub feature_filled : TopoFeature → Fill TopoFeature
+feature_filled f w = as_made (λ s. record { id = f.id; properties = f.properties; shape = s }) (option_filled f.shape w)
+
+-- a collection; a draft has no other object
+abbrev pub object_filled : TopoObject → Fill TopoObject
+object_filled (One f) w = (One f, w)
+object_filled (Many fs) w = as_made (λ gs. Many gs) (in_turn (map feature_filled fs) w)
+
+abbrev pub named_filled : List ℕ × TopoObject → Fill (List ℕ × TopoObject)
+named_filled o w = as_made (λ p. (o.0, p)) (object_filled o.1 w)

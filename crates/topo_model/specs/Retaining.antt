@@ -5,12 +5,13 @@ use Rattle.build_meaning.specs.Layers.{Named, layers_of, names_of}
 use Rattle.geometry.specs.Points.{Point}
 use Rattle.linework.specs.Linework.{linework}
 use Rattle.build_meaning.specs.Assembled.{arcs_of_layers, own_refs}
-use Rattle.build_meaning.specs.Protected.{greatest_ring}
-use Rattle.build_meaning.specs.Simplified.{EachFromFirstToLast, retained_arcs}
+use Rattle.build_meaning.specs.Protected.{Protection, greatest_ring, objects_spared, sparing}
+use Rattle.build_meaning.specs.Simplified.{EachFromFirstToLast, large_refs, retained_arcs}
 use Rattle.topojson_types.specs.declared.object.TopoObject.{TopoObject}
 use Rattle.topojson_types.specs.declared.transform.Transform.{Transform}
+use Rattle.topojson_types.specs.Decoding.{placed_arcs}
 use Rattle.topojson_types.specs.Validity.{AreDistinct, IsTopology}
-use Rattle.topo_model.specs.Along.{Ways}
+use Rattle.topo_model.specs.Along.{Ways, large_along}
 use Rattle.topo_model.specs.Drafts.{objects_drafted}
 use Rattle.topo_model.specs.Parts.{contents}
 use Rattle.topo_model.specs.Ways.{ways_of}
@@ -45,3 +46,20 @@ pub record IsDraft (objects : List (List ℕ × TopoObject)) (retained : List (L
 pub record IsSparedDraft (objects : List (List ℕ × TopoObject)) (retained : List (List Point)) (counts : List ℕ) (ways : Ways) : Type 0 where
   pub draft : IsDraft objects retained counts
   pub ways_are : ways ≡ ways_of (greatest_ring (arcs_of_layers draft.layers)) objects
+
+-- objects over retained cells, whose features have these ways, stand for other objects and arcs in which rings are protected: the same is
+-- left of both without what is small
+pub record StandsFor (protects : Protection) (kept : List (List ℕ)) (of objects : List (List ℕ × TopoObject)) (arcs retained : List (List Point)) (transform : Option Transform) (limit : ℕ) (ways : Ways) : Type 0 where
+  pub picks : retained ≡ retained_arcs kept arcs
+  pub large : large_along limit (placed_arcs transform retained) ways objects ≡ objects_spared protects (sparing (large_refs limit (placed_arcs transform retained))) of
+
+-- they stand for those of some valid topology, each of whose arcs had so many cells
+pub record StandsForTopology (objects : List (List ℕ × TopoObject)) (retained : List (List Point)) (counts : List ℕ) (transform : Option Transform) (limit : ℕ) (ways : Ways) : Type 0 where
+  pub protects : Protection
+  pub kept : List (List ℕ)
+  pub of : List (List ℕ × TopoObject)
+  pub arcs : List (List Point)
+  pub stands : StandsFor protects kept of objects arcs retained transform limit ways
+  pub through : EachFromFirstToLast kept arcs
+  pub counts_are : counts ≡ map length arcs
+  pub valid : IsTopology (contents of arcs transform)

@@ -1,5 +1,5 @@
 // The topology of layers over reduced arcs.
-ghost use Rattle.std.specs.Prelude.{◌≡◌, ◌<◌, ◌≤◌, ◌^◌, ℕ, IfOk, List, None, length, map};
+ghost use Rattle.std.specs.Prelude.{◌≡◌, ◌<◌, ◌≤◌, ◌^◌, ℕ, IfOk, List, length, map};
 ghost use Rattle.arc_table.specs.Arcs.{table_of};
 ghost use Rattle.build_meaning.specs.BuiltLaws.{AreSound};
 ghost use Rattle.build_meaning.specs.Layers.{Named, layers_of, names_of};
@@ -13,12 +13,11 @@ ghost use Rattle.topojson_types.specs.Validity.{AreDistinct};
 ghost use Rattle.topo_model.specs.Retaining.{IsDraft, IsDraftOf};
 
 use crate::filling::filled;
-use crate::finishing::{Finished, finish};
+use crate::finishing::finish;
 use crate::given_numbers::positions_of_all;
 use crate::position_counting::position_counts;
 use crate::taking_apart::take_apart;
 use arc_table::Table;
-use build_meaning::assembled_is_valid;
 use elimination_meaning::{ends_stay, nothing_is_new, zero_law};
 use geojson_types::{Dropped, Layer};
 use json_value::{Items, OwnText};
@@ -26,30 +25,6 @@ use linework::lines_of_outlines;
 use owned_values::Memory;
 use std::alloc::Global;
 use topojson_types::{Cell, TopoObject, Topology};
-
-/// The objects and the arcs of the topology of a draft of layers over reduced arcs, without the arcs that no kept line uses, the lines
-/// and rings that are dropped, in reading order, and how many positions are removed from the arcs that stay.
-fn objects_and_arcs(
-    alloc: Global,
-    objects: Vec<(OwnText, TopoObject)>,
-    retained: Vec<Items<Cell>>,
-    counts: &[usize],
-    ring_limit: u128,
-) -> Result<Finished, Memory>
-    requires draft { IsDraft objects.items retained.items counts.now }
-    requires limit { ring_limit ≤ threshold_limit }
-    ensures assembled { IfOk result (λ r. (ls : Named) (kept : List (List ℕ)) → IsDraftOf ls objects.items → retained.items ≡ retained_arcs kept (arcs_of_layers ls)
-        → assembled kept ring_limit ls ≡ record { objects = r.objects.items; arcs = r.arcs.items; transform = None }) }
-    ensures dropped { IfOk result (λ r. (ls : Named) (kept : List (List ℕ)) → IsDraftOf ls objects.items → retained.items ≡ retained_arcs kept (arcs_of_layers ls)
-        → r.dropped.items ≡ assembled_dropped kept ring_limit ls) }
-    ensures removed_count { IfOk result (λ r. (ls : Named) (kept : List (List ℕ)) → IsDraftOf ls objects.items → retained.items ≡ retained_arcs kept (arcs_of_layers ls)
-        → counts.now ≡ map length (arcs_of_layers ls) → r.removed_count ≡ saturated (assembled_removed_count kept ring_limit ls)) }
-{
-    zero_law();
-    ends_stay();
-    nothing_is_new();
-    finish(alloc, objects, retained, counts, None, ring_limit, &[])
-}
 
 /// The topology of a draft of layers over the arcs of their lines, of each of which only some positions are retained, from its first to its
 /// last. It is given how many positions each arc had. Lines and rings that are then left with too few positions, rings of which twice the area
@@ -72,10 +47,10 @@ pub fn assemble_draft(
         → counts.now ≡ map length (arcs_of_layers ls) → r.2 ≡ saturated (assembled_removed_count kept ring_limit ls)) }
     ensures few { IfOk result (λ r. length r.0.arcs < 2 ^ 63) }
 {
-    assembled_is_valid();
-    let left = objects_and_arcs(alloc, objects, retained, counts, ring_limit)?;
-    let topology = Topology::of(Items::of(left.objects), Items::of(left.arcs), None);
-    Ok((topology, left.dropped, left.removed_count))
+    zero_law();
+    ends_stay();
+    nothing_is_new();
+    finish(alloc, objects, retained, counts, None, ring_limit, &[])
 }
 
 /// The topology of named layers over the arcs of their lines, where of each arc the positions with these numbers are kept: a list

@@ -1,6 +1,5 @@
 // Which arcs a draft uses. One in which each line and ring has an arc index uses those that they name.
 ghost use Rattle.std.specs.Prelude.{◌≡◌, IfOk, Some};
-ghost use Rattle.std.specs.List.{list_any};
 ghost use Rattle.build_meaning.specs.Trimming.{is_used};
 ghost use Rattle.build_meaning.specs.Simplified.{object_pruned, objects_pruned};
 ghost use Rattle.topojson_types.specs.Topologies.{features_lines_and_rings, object_features};
@@ -9,7 +8,7 @@ ghost use Rattle.topo_model.specs.DraftUses.{area_uses, shape_uses, with_refs};
 ghost use Rattle.topo_model.specs.Marks.{also_set};
 ghost use Rattle.topo_model.specs.Uses.{answers};
 
-use crate::marking::{mark_lines, mark_refs, unused_flags};
+use crate::marking::{Lines, MarkArcs, mark_all, unused_flags};
 use geojson_types::Geometry;
 use json_value::{Items, OwnText};
 use owned_values::Memory;
@@ -26,44 +25,36 @@ pub fn draft_arcs(
     ensures { IfOk result (λ used. used.items ≡ answers (is_used (objects_pruned with_refs objects.now)) 0 arcs) }
 {
     let mut used = unused_flags(alloc, arcs)?;
-    mark_objects(objects, &mut used);
+    mark_all::<Objects, (OwnText, TopoObject)>(objects, &mut used);
     Ok(used)
 }
 
-/// Sets the flags of the arcs that what is left of the objects uses.
-fn mark_objects(objects: &[(OwnText, TopoObject)], used: &mut [bool])
-    ensures { used.new ≡ also_set (is_used (objects_pruned with_refs objects.now)) 0 used.old }
-{
-    'objects: for object in objects {
-        mark_object(&object.1, used);
+/// The way to mark those of what is left of an object.
+struct Objects;
+
+impl MarkArcs<(OwnText, TopoObject)> for Objects {
+    ghost uses = { λ o. any_uses (features_lines_and_rings (object_features (object_pruned with_refs o.1))) };
+
+    fn mark(object: &(OwnText, TopoObject), used: &mut [bool]) {
+        match &object.1 {
+            TopoObject::One(feature) => Features::mark(feature, used),
+            TopoObject::Many(features) => {
+                mark_all::<Features, TopoFeature>(features.as_slice(), used);
+            }
+        }
     }
 }
 
-/// Sets the flags of the arcs that what is left of the object uses.
-fn mark_object(object: &TopoObject, used: &mut [bool])
-    ensures { used.new ≡ also_set (any_uses (features_lines_and_rings (object_features (object_pruned with_refs object.now)))) 0 used.old }
-{
-    match object {
-        TopoObject::One(feature) => mark_feature(feature, used),
-        TopoObject::Many(features) => mark_features(features.as_slice(), used),
-    }
-}
+/// The way to mark those of what is left of a feature.
+struct Features;
 
-/// Sets the flags of the arcs that what is left of the features uses.
-fn mark_features(features: &[TopoFeature], used: &mut [bool])
-    ensures { used.new ≡ also_set (λ n. list_any (λ f. shape_uses f.shape n) features.now) 0 used.old }
-{
-    'features: for feature in features {
-        mark_feature(feature, used);
-    }
-}
+impl MarkArcs<TopoFeature> for Features {
+    ghost uses = { λ f. shape_uses f.shape };
 
-/// Sets the flags of the arcs that what is left of the feature uses.
-fn mark_feature(feature: &TopoFeature, used: &mut [bool])
-    ensures { used.new ≡ also_set (shape_uses feature.now.shape) 0 used.old }
-{
-    if let Some(shape) = &feature.shape {
-        mark_shape(shape, used);
+    fn mark(feature: &TopoFeature, used: &mut [bool]) {
+        if let Some(shape) = &feature.shape {
+            mark_shape(shape, used);
+        }
     }
 }
 
@@ -74,10 +65,10 @@ fn mark_shape(shape: &TopoShape, used: &mut [bool])
     match shape {
         Geometry::Point(_) => {}
         Geometry::MultiPoint(_) => {}
-        Geometry::Line(refs) => mark_refs(refs.as_slice(), used),
-        Geometry::Lines(lines) => mark_lines(lines.as_slice(), used),
-        Geometry::Area(rings) => mark_area(rings.as_slice(), used),
-        Geometry::Areas(areas) => mark_areas(areas.as_slice(), used),
+        Geometry::Line(refs) => Lines::mark(refs, used),
+        Geometry::Lines(lines) => mark_all::<Lines, Items<ArcRef>>(lines.as_slice(), used),
+        Geometry::Area(rings) => Areas::mark(rings, used),
+        Geometry::Areas(areas) => mark_all::<Areas, Items<Items<ArcRef>>>(areas.as_slice(), used),
         Geometry::Group(shapes) => {
             'shapes: for shape in shapes.as_slice() {
                 mark_shape(shape, used);
@@ -86,24 +77,20 @@ fn mark_shape(shape: &TopoShape, used: &mut [bool])
     }
 }
 
-/// Sets the flags of the arcs that what is left of the polygons uses.
-fn mark_areas(areas: &[Items<Items<ArcRef>>], used: &mut [bool])
-    ensures { used.new ≡ also_set (λ n. list_any (λ rings. area_uses rings n) areas.now) 0 used.old }
-{
-    'areas: for rings in areas {
-        mark_area(rings.as_slice(), used);
-    }
-}
+/// The way to mark those of what is left of a polygon: none where its outer ring has no arc index.
+struct Areas;
 
-/// Sets the flags of the arcs that what is left of the polygon uses: none where its outer ring has no arc index.
-fn mark_area(rings: &[Items<ArcRef>], used: &mut [bool])
-    ensures { used.new ≡ also_set (area_uses rings.now) 0 used.old }
-{
-    let Some(outer) = rings.first() else {
-        return;
-    };
-    let count = outer.len();
-    if count > 0 {
-        mark_lines(rings, used);
+impl MarkArcs<Items<Items<ArcRef>>> for Areas {
+    ghost uses = { area_uses };
+
+    fn mark(rings: &Items<Items<ArcRef>>, used: &mut [bool]) {
+        let rings = rings.as_slice();
+        let Some(outer) = rings.first() else {
+            return;
+        };
+        let count = outer.len();
+        if count > 0 {
+            mark_all::<Lines, Items<ArcRef>>(rings, used);
+        }
     }
 }

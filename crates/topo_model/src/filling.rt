@@ -1,11 +1,8 @@
 // Arc indexes in the places of the lines and rings that were taken out of layers.
-ghost use Rattle.std.specs.Prelude.{◌≡◌, ◌∷◌, [], ℤ, Bool, List, map, true};
-ghost use Rattle.build_meaning.specs.Layers.{Named, features_lines_and_rings, named_lines_and_rings};
-ghost use Rattle.geometry.specs.Lists.{joined};
-ghost use Rattle.geometry.specs.Pruning.{option_lines_and_rings, lines_and_rings};
+ghost use Rattle.std.specs.Prelude.{◌≡◌, map};
+ghost use Rattle.build_meaning.specs.Layers.{Named, named_lines_and_rings};
 ghost use Rattle.linework.specs.Outlines.{is_short_outline};
-ghost use Rattle.topojson_types.specs.declared.object.TopoObject.TheVariants as kind;
-ghost use Rattle.topo_model.specs.Drafts.{Fills, RefsOf, feature_relined, long_refs, no_refs, objects_drafted, objects_relined, relined, spread};
+ghost use Rattle.topo_model.specs.Drafts.{Fill, RefsOf, feature_filled, in_turn, line_filled, lines_filled, long_refs, named_filled, next_refs, no_refs, object_filled, objects_drafted, objects_relined, shape_filled, spread};
 
 use geojson_types::Geometry;
 use json_value::{Items, OwnText};
@@ -16,7 +13,7 @@ use topojson_types::{ArcRef, TopoFeature, TopoObject, TopoShape};
 
 /// The arc indexes of lines and rings, in reading order, after those that were taken: those that are given, and none for a line with a set flag.
 #[derive(Drop)]
-struct Remaining<'a> {
+pub struct Remaining<'a> {
     refs: Vec<Items<ArcRef>>,
     next: usize,
     short: &'a [bool],
@@ -45,7 +42,7 @@ impl<'a> Remaining<'a> {
 
     /// Takes the next. They are moved out.
     fn take(&mut self, alloc: Global) -> Items<ArcRef>
-        ensures { (first : List ℤ) (rest : List (List ℤ)) → self.old ≡ first ∷ rest → (result ≡ first) × (self.new ≡ rest) }
+        ensures { next_refs self.old ≡ (result, self.new) }
     {
         let none = Items::of(Vec::new(alloc));
         let Some((is_short, later)) = self.short.split_first() else {
@@ -61,42 +58,62 @@ impl<'a> Remaining<'a> {
     }
 }
 
-/// Fills the place of an open line or a ring.
-fn fill_line(alloc: Global, refs: &mut Items<ArcRef>, remaining: &mut Remaining)
-    ensures { (closed : Bool) → Fills (λ l. (closed, l) ∷ []) (λ f l. f closed l) refs.old remaining.old refs.new remaining.new }
-{
-    *refs = remaining.take(alloc);
+/// A way to fill the places of the lines and rings of something, in reading order.
+pub trait FillPlaces<T> {
+    ghost fills: { T → Fill T };
+
+    fn fill(alloc: Global, part: &mut T, remaining: &mut Remaining<'_>)
+        ensures { fills part.old remaining.old ≡ (part.new, remaining.new) };
 }
 
-/// Fills the places of open lines or of rings, in order.
-fn fill_lines(alloc: Global, lines: &mut [Items<ArcRef>], remaining: &mut Remaining)
-    ensures { (closed : Bool) → Fills (λ ls. map (λ l. (closed, l)) ls) (λ f ls. map (f closed) ls) lines.old remaining.old lines.new remaining.new }
+/// Fills the places of these parts, in order.
+fn fill_all<F: FillPlaces<T>, T>(alloc: Global, parts: &mut [T], remaining: &mut Remaining<'_>)
+    ensures { in_turn (map F.fills parts.old) remaining.old ≡ (parts.new, remaining.new) }
 {
-    'lines: for refs in lines.iter_mut() {
-        fill_line(alloc, refs, remaining);
+    'parts: for part in parts.iter_mut() {
+        F::fill(alloc, part, remaining);
     }
 }
 
-/// Fills the places of the rings of polygons, in order.
-fn fill_areas(alloc: Global, areas: &mut [Items<Items<ArcRef>>], remaining: &mut Remaining)
-    ensures { Fills (λ rss. joined (map (map (λ l. (true, l))) rss)) (λ f rss. map (map (f true)) rss) areas.old remaining.old areas.new remaining.new }
-{
-    'areas: for rings in areas.iter_mut() {
-        fill_lines(alloc, rings.as_mut_slice(), remaining);
+/// The way to fill the place of a line or ring.
+struct Lines;
+
+impl FillPlaces<Items<ArcRef>> for Lines {
+    ghost fills = { line_filled };
+
+    fn fill(alloc: Global, refs: &mut Items<ArcRef>, remaining: &mut Remaining<'_>) {
+        *refs = remaining.take(alloc);
     }
 }
 
-/// Fills the places of the lines and rings of a shape.
-fn fill_shape(alloc: Global, shape: &mut TopoShape, remaining: &mut Remaining)
-    ensures { Fills lines_and_rings relined shape.old remaining.old shape.new remaining.new }
+/// The way to fill those of a polygon.
+struct Areas;
+
+impl FillPlaces<Items<Items<ArcRef>>> for Areas {
+    ghost fills = { lines_filled };
+
+    fn fill(alloc: Global, rings: &mut Items<Items<ArcRef>>, remaining: &mut Remaining<'_>) {
+        fill_all::<Lines, Items<ArcRef>>(alloc, rings.as_mut_slice(), remaining);
+    }
+}
+
+/// Fills the places of a shape.
+fn fill_shape(alloc: Global, shape: &mut TopoShape, remaining: &mut Remaining<'_>)
+    ensures { shape_filled shape.old remaining.old ≡ (shape.new, remaining.new) }
 {
     match shape {
         Geometry::Point(_) => {}
         Geometry::MultiPoint(_) => {}
-        Geometry::Line(refs) => fill_line(alloc, refs, remaining),
-        Geometry::Lines(lines) => fill_lines(alloc, lines.as_mut_slice(), remaining),
-        Geometry::Area(rings) => fill_lines(alloc, rings.as_mut_slice(), remaining),
-        Geometry::Areas(areas) => fill_areas(alloc, areas.as_mut_slice(), remaining),
+        Geometry::Line(refs) => Lines::fill(alloc, refs, remaining),
+        Geometry::Lines(lines) => {
+            fill_all::<Lines, Items<ArcRef>>(alloc, lines.as_mut_slice(), remaining);
+        }
+        Geometry::Area(rings) => {
+            fill_all::<Lines, Items<ArcRef>>(alloc, rings.as_mut_slice(), remaining);
+        }
+        Geometry::Areas(areas) => {
+            fill_all::<Areas, Items<Items<ArcRef>>>(alloc, areas.as_mut_slice(), remaining);
+        }
         Geometry::Group(shapes) => {
             'shapes: for shape in shapes.as_mut_slice().iter_mut() {
                 fill_shape(alloc, shape, remaining);
@@ -105,39 +122,38 @@ fn fill_shape(alloc: Global, shape: &mut TopoShape, remaining: &mut Remaining)
     }
 }
 
-/// Fills the places of the lines and rings of a feature.
-fn fill_feature(alloc: Global, feature: &mut TopoFeature, remaining: &mut Remaining)
-    ensures { Fills (λ x. option_lines_and_rings x.shape) feature_relined feature.old remaining.old feature.new remaining.new }
-{
-    if let Some(shape) = feature.shape.as_mut() {
-        fill_shape(alloc, shape, remaining);
+/// The way to fill those of a feature.
+struct Features;
+
+impl FillPlaces<TopoFeature> for Features {
+    ghost fills = { feature_filled };
+
+    fn fill(alloc: Global, feature: &mut TopoFeature, remaining: &mut Remaining<'_>) {
+        if let Some(shape) = feature.shape.as_mut() {
+            fill_shape(alloc, shape, remaining);
+        }
     }
 }
 
-/// Fills the places of the lines and rings of features, in order.
-fn fill_features(alloc: Global, features: &mut [TopoFeature], remaining: &mut Remaining)
-    ensures { Fills features_lines_and_rings (λ f xs. map (feature_relined f) xs) features.old remaining.old features.new remaining.new }
-{
-    'features: for feature in features.iter_mut() {
-        fill_feature(alloc, feature, remaining);
-    }
-}
-
-/// Fills the places of the lines and rings of an object.
-fn fill_object(alloc: Global, object: &mut TopoObject, remaining: &mut Remaining)
-    ensures { Fills features_lines_and_rings (λ f xs. kind.Many (map (feature_relined f) xs)) object.old remaining.old object.new remaining.new }
+/// Fills the places of an object.
+fn fill_object(alloc: Global, object: &mut TopoObject, remaining: &mut Remaining<'_>)
+    ensures { object_filled object.old remaining.old ≡ (object.new, remaining.new) }
 {
     match object {
         TopoObject::One(_) => {}
-        TopoObject::Many(features) => fill_features(alloc, features.as_mut_slice(), remaining),
+        TopoObject::Many(features) => {
+            fill_all::<Features, TopoFeature>(alloc, features.as_mut_slice(), remaining);
+        }
     }
 }
 
-/// Fills the places of the lines and rings of all objects, in order.
-fn fill_objects(alloc: Global, objects: &mut [(OwnText, TopoObject)], remaining: &mut Remaining)
-    ensures { Fills named_lines_and_rings objects_relined objects.old remaining.old objects.new remaining.new }
-{
-    'objects: for object in objects.iter_mut() {
+/// The way to fill those of a named object.
+struct Objects;
+
+impl FillPlaces<(OwnText, TopoObject)> for Objects {
+    ghost fills = { named_filled };
+
+    fn fill(alloc: Global, object: &mut (OwnText, TopoObject), remaining: &mut Remaining<'_>) {
         fill_object(alloc, &mut object.1, remaining);
     }
 }
@@ -155,6 +171,6 @@ pub fn filled(
 {
     let mut objects = objects;
     let mut remaining = Remaining::all(refs, short);
-    fill_objects(alloc, &mut objects, &mut remaining);
+    fill_all::<Objects, (OwnText, TopoObject)>(alloc, &mut objects, &mut remaining);
     objects
 }

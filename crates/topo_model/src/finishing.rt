@@ -1,15 +1,18 @@
-// What is left of a draft of a topology.
-ghost use Rattle.std.specs.Prelude.{◌≡◌, ◌-◌, ◌≤◌, ℕ, Bool, IfOk, OnOk, length, map, sum};
+// The topology that is left of a draft.
+ghost use Rattle.std.specs.Prelude.{◌≡◌, ◌-◌, ◌<◌, ◌≤◌, ◌^◌, ℕ, IfOk, List, OnOk, length, map, sum};
 ghost use Rattle.std.specs.List.{AllByRecursion};
 ghost use Rattle.std.specs.Option.{option_copied};
 ghost use Rattle.topo_model.specs.Uses.{answers};
 ghost use Rattle.build_meaning.specs.Built.{positions_of};
-ghost use Rattle.build_meaning.specs.Trimming.{is_used, keep_from, line_renumbered, trimmed};
+ghost use Rattle.build_meaning.specs.Protected.{Protection, spared_by, spared_removed_count};
+ghost use Rattle.build_meaning.specs.Trimming.{is_used, keep_from, line_renumbered};
 ghost use Rattle.build_meaning.specs.Simplified.{objects_pruned};
 ghost use Rattle.byte_ends.specs.Ends.{saturated};
 ghost use Rattle.geometry.specs.Joins.{AreInRange};
 ghost use Rattle.geometry.specs.Lists.{map_some};
+ghost use Rattle.geometry.specs.Points.{Point};
 ghost use Rattle.geometry.specs.Units.{threshold_limit};
+ghost use Rattle.topojson_types.specs.declared.object.TopoObject.{TopoObject as Object};
 ghost use Rattle.topojson_types.specs.Decoding.{placed_arcs as all_placed};
 ghost use Rattle.topojson_types.specs.Topologies.{objects_lines_and_rings};
 ghost use Rattle.topojson_types.specs.Validity.{IsPlace};
@@ -17,6 +20,7 @@ ghost use Rattle.topo_model.specs.Along.{large_along};
 ghost use Rattle.topo_model.specs.ArcUses.{AllNameArcs, as_they_are};
 ghost use Rattle.topo_model.specs.Drops.{objects_drops};
 ghost use Rattle.topo_model.specs.Parts.{contents};
+ghost use Rattle.topo_model.specs.Retaining.{StandsFor, StandsForTopology};
 
 use crate::choosing::Renumbered;
 use crate::draft_uses::draft_arcs;
@@ -27,11 +31,12 @@ use crate::position_counting::position_sum;
 use crate::pruning::prune_objects;
 use crate::rebuilding::Rebuilding;
 use crate::trimming::{kept_arcs, removed_count, renumbering, used_sum};
+use build_meaning::spared_is_valid;
 use geojson_types::Dropped;
 use json_value::{Items, OwnText};
 use owned_values::Memory;
 use std::alloc::Global;
-use topojson_types::{Cell, TopoObject, Transform};
+use topojson_types::{Cell, TopoObject, Topology, Transform};
 
 /// Leaves out the lines and rings of the objects that are small where the positions of the arcs are those that their cells stand for, and
 /// twice the area of a ring may not be under the limit, but no ring to which the way of its feature leads. They are, in reading order, what
@@ -60,19 +65,6 @@ fn leave_out_dropped(
     }
 }
 
-/// Replaces the arc indexes of the objects, where only the arcs with a set flag are left.
-fn renumber(
-    alloc: Global,
-    objects: &mut [(OwnText, TopoObject)],
-    used: &[bool],
-) -> Result<(), Memory>
-    requires { AllByRecursion (λ b. AreInRange (length used.now) b.1) (objects_lines_and_rings objects.old) }
-    ensures { OnOk result ((u : ℕ → Bool) → used.now ≡ answers u 0 (length used.now) → objects.new ≡ objects_pruned (line_renumbered u) objects.old) }
-{
-    let renumbering = renumbering(alloc, used)?;
-    prune_objects(alloc, &Renumbered::by(&renumbering), objects)
-}
-
 /// The arcs that a line or ring of the objects uses, which have a set flag. The objects have the new indexes, or stay as they are where each
 /// flag is set.
 fn only_used(
@@ -90,7 +82,8 @@ fn only_used(
     if all_set(used) {
         return Ok(arcs);
     }
-    renumber(alloc, objects, used)?;
+    let renumbering = renumbering(alloc, used)?;
+    prune_objects(alloc, &Renumbered::by(&renumbering), objects)?;
     kept_arcs(alloc, arcs, used)
 }
 
@@ -117,57 +110,42 @@ fn without_unused(
     Ok((stay, removed_count(before, after)))
 }
 
-/// What is left of a draft.
-#[derive(Debug, Drop)]
-pub struct Finished {
-    /// Its objects by name, without the lines and rings that are dropped.
-    pub objects: Vec<(OwnText, TopoObject)>,
-    /// The arcs that they use, in order.
-    pub arcs: Vec<Items<Cell>>,
-    /// The lines and rings that are dropped, in reading order, an object in the place of a layer.
-    pub dropped: Vec<Dropped>,
-    /// How many positions of these arcs were not retained.
-    pub removed_count: u64,
-}
-
-/// What is left of objects over arcs of which only the retained cells stay, and which had so many: without the lines and rings that have no
-/// arc index, or are small, but with the rings to which the ways of features lead, and without the arcs that no other line uses. The ways are
-/// those of the features, in reading order, and those that come after the last way have none.
+/// The topology that is left of objects over arcs of which only the retained cells stay, and which had so many: without the lines and rings
+/// that have no arc index, or are small, but with the rings to which the ways of features lead, and without the arcs that no other line uses.
+/// The ways are those of the features, in reading order, and those that come after the last way have none. With it come the lines and rings that
+/// are dropped, in reading order, an object in the place of a layer, and how many positions of these arcs were not retained.
 pub fn finish(
     alloc: Global,
     objects: Vec<(OwnText, TopoObject)>,
     retained: Vec<Items<Cell>>,
     counts: &[usize],
-    transform: Option<&Transform>,
+    transform: Option<Transform>,
     ring_limit: u128,
     ways: &[Option<Vec<usize>>],
-) -> Result<Finished, Memory>
-    requires places { AllByRecursion (λ arc. AllByRecursion (IsPlace (option_copied transform)) arc) retained.items }
+) -> Result<(Topology, Vec<Dropped>, u64), Memory>
+    requires stands { StandsForTopology objects.items retained.items counts.now transform ring_limit (map (map_some (λ v. v.items)) ways.now) }
     requires limit { ring_limit ≤ threshold_limit }
-    requires many { length retained.items ≡ length counts.now }
-    requires indexed { AllNameArcs (length retained.items)
-        (large_along ring_limit (all_placed (option_copied transform) retained.items) (map (map_some (λ v. v.items)) ways.now) objects.items) }
-    ensures left { IfOk result (λ r. contents r.objects.items r.arcs.items (option_copied transform.entry)
-        ≡ trimmed (contents (large_along ring_limit (all_placed (option_copied transform.entry) retained.items) (map (map_some (λ v. v.items)) ways.now) objects.items) retained.items (option_copied transform.entry))) }
-    ensures dropped { IfOk result (λ r. r.dropped.items ≡ objects_drops (record { arcs = all_placed (option_copied transform.entry) retained.items; limit = ring_limit }) 0 (map (map_some (λ v. v.items)) ways.now) objects.items) }
-    ensures removed_count { IfOk result (λ r. r.removed_count
-        ≡ saturated (sum (keep_from (is_used (large_along ring_limit (all_placed (option_copied transform.entry) retained.items) (map (map_some (λ v. v.items)) ways.now) objects.items)) 0 counts.now)
-        - positions_of (keep_from (is_used (large_along ring_limit (all_placed (option_copied transform.entry) retained.items) (map (map_some (λ v. v.items)) ways.now) objects.items)) 0 retained.items))) }
+    ensures topology { IfOk result (λ r. (protects : Protection) (kept : List (List ℕ)) (of : List (List ℕ × Object)) (arcs : List (List Point))
+        → StandsFor protects kept of objects.items arcs retained.items transform ring_limit (map (map_some (λ v. v.items)) ways.now)
+        → r.0 ≡ spared_by protects kept ring_limit (contents of arcs transform)) }
+    ensures dropped { IfOk result (λ r. r.1.items
+        ≡ objects_drops (record { arcs = all_placed transform retained.items; limit = ring_limit }) 0 (map (map_some (λ v. v.items)) ways.now) objects.items) }
+    ensures removed_count { IfOk result (λ r. (protects : Protection) (kept : List (List ℕ)) (of : List (List ℕ × Object)) (arcs : List (List Point))
+        → StandsFor protects kept of objects.items arcs retained.items transform ring_limit (map (map_some (λ v. v.items)) ways.now) → counts.now ≡ map length arcs
+        → r.2 ≡ saturated (spared_removed_count protects kept ring_limit (contents of arcs transform))) }
+    ensures few { IfOk result (λ r. length r.0.arcs < 2 ^ 63) }
 {
+    spared_is_valid();
     let mut objects = objects;
     let dropped = leave_out_dropped(
         alloc,
         objects.as_mut_slice(),
         &retained,
-        transform,
+        transform.as_ref(),
         ring_limit,
         ways,
     )?;
     let (arcs, removed_count) = without_unused(alloc, objects.as_mut_slice(), retained, counts)?;
-    Ok(Finished {
-        objects,
-        arcs,
-        dropped,
-        removed_count,
-    })
+    let topology = Topology::of(Items::of(objects), Items::of(arcs), transform);
+    Ok((topology, dropped, removed_count))
 }

@@ -1,6 +1,5 @@
 // The topology that is left where of each arc of a topology only some cells stay.
 ghost use Rattle.std.specs.Prelude.{◌≡◌, ◌≤◌, ℕ, IfOk, List, length, map};
-ghost use Rattle.std.specs.Option.{option_copied};
 ghost use Rattle.byte_ends.specs.Ends.{saturated};
 ghost use Rattle.geometry.specs.Lists.{map_some};
 ghost use Rattle.geometry.specs.Points.{Point};
@@ -11,43 +10,13 @@ ghost use Rattle.topo_model.specs.Along.{AreWays, Protect};
 ghost use Rattle.topo_model.specs.Parts.{contents};
 ghost use Rattle.topo_model.specs.Retaining.{AreRetainedOf};
 
-use crate::finishing::{Finished, finish};
-use build_meaning::{spared_is_valid, unprotected_is_simplified};
+use crate::finishing::finish;
+use build_meaning::unprotected_is_simplified;
 use geojson_types::Dropped;
 use json_value::{Items, OwnText};
 use owned_values::Memory;
 use std::alloc::Global;
 use topojson_types::{Cell, TopoObject, Topology, Transform};
-
-/// What is left of the objects and the arcs of a topology: without the lines and rings that are small over the cells that are retained and
-/// to which no way leads, and without the arcs that no kept line uses; the lines and rings that are dropped, in reading order, an object in the place of a layer; and
-/// how many positions are removed from the arcs that stay.
-fn left_parts(
-    alloc: Global,
-    objects: Vec<(OwnText, TopoObject)>,
-    retained: Vec<Items<Cell>>,
-    counts: &[usize],
-    transform: Option<&Transform>,
-    ring_limit: u128,
-    ways: &[Option<Vec<usize>>],
-) -> Result<Finished, Memory>
-    requires retained { AreRetainedOf objects.items (option_copied transform) retained.items counts.now }
-    requires limit { ring_limit ≤ threshold_limit }
-    requires ways { Protect (map (map_some (λ v. v.items)) ways.now) objects.items }
-    ensures left { IfOk result (λ r. (protects : Protection) (kept : List (List ℕ)) (arcs : List (List Point))
-        → AreWays protects (map (map_some (λ v. v.items)) ways.now) objects.items → retained.items ≡ retained_arcs kept arcs
-        → contents r.objects.items r.arcs.items (option_copied transform.entry) ≡ spared_by protects kept ring_limit (contents objects.items arcs (option_copied transform.entry))) }
-    ensures dropped { IfOk result (λ r. (protects : Protection) (kept : List (List ℕ)) (arcs : List (List Point))
-        → AreWays protects (map (map_some (λ v. v.items)) ways.now) objects.items → retained.items ≡ retained_arcs kept arcs
-        → r.dropped.items ≡ spared_dropped protects kept ring_limit (contents objects.items arcs (option_copied transform.entry))) }
-    ensures removed_count { IfOk result (λ r. (protects : Protection) (kept : List (List ℕ)) (arcs : List (List Point))
-        → AreWays protects (map (map_some (λ v. v.items)) ways.now) objects.items → retained.items ≡ retained_arcs kept arcs
-        → counts.now ≡ map length arcs → r.removed_count ≡ saturated (spared_removed_count protects kept ring_limit (contents objects.items arcs (option_copied transform.entry)))) }
-{
-    finish(
-        alloc, objects, retained, counts, transform, ring_limit, ways,
-    )
-}
 
 /// What is left of a valid topology with these objects and this transform, of whose arcs these cells are retained, of each from its first
 /// to its last, where of each feature the ring to which its way leads is protected. It is given how many cells each arc had, and the ways of
@@ -76,25 +45,15 @@ pub fn reassemble_sparing(
         → AreWays protects (map (map_some (λ v. v.items)) ways.now) objects → retained.items ≡ retained_arcs kept arcs
         → counts.now ≡ map length arcs → r.2 ≡ saturated (spared_removed_count protects kept ring_limit (contents objects arcs transform))) }
 {
-    spared_is_valid();
-    match left_parts(
+    finish(
         alloc,
         objects.into_inner(),
         retained,
         counts,
-        transform.as_ref(),
+        transform,
         ring_limit,
         ways,
-    ) {
-        Err(fault) => {
-            drop(transform);
-            Err(fault)
-        }
-        Ok(left) => {
-            let topology = Topology::of(Items::of(left.objects), Items::of(left.arcs), transform);
-            Ok((topology, left.dropped, left.removed_count))
-        }
-    }
+    )
 }
 
 /// What is left of a valid topology with these objects and this transform, of whose arcs these cells are retained, of each from its first

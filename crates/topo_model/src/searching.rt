@@ -141,7 +141,7 @@ fn meet_areas(
 }
 
 /// Meets the outer rings of the shape at the end of this way.
-#[tactic(auto, using(crate::proofs::BestRing::of_point, crate::proofs::BestRing::of_points, crate::proofs::BestRing::of_line, crate::proofs::BestRing::of_lines, crate::proofs::BestRing::of_area, crate::proofs::BestRing::of_areas))]
+#[tactic(auto, using(crate::proofs::BestRing::rings_at))]
 fn meet_shape(
     alloc: Global,
     arcs: &[Items<Cell>],

@@ -1,5 +1,5 @@
 // The topology of layers over reduced arcs, where in each feature the ring that encloses most is protected.
-ghost use Rattle.std.specs.Prelude.{◌≡◌, ◌<◌, ◌≤◌, ◌^◌, ℕ, IfOk, List, None, length, map};
+ghost use Rattle.std.specs.Prelude.{◌≡◌, ◌<◌, ◌≤◌, ◌^◌, ℕ, IfOk, List, length, map};
 ghost use Rattle.build_meaning.specs.Layers.{Named};
 ghost use Rattle.build_meaning.specs.Assembled.{arcs_of_layers};
 ghost use Rattle.build_meaning.specs.Protected.{greatest_ring};
@@ -11,41 +11,13 @@ ghost use Rattle.geometry.specs.Units.{threshold_limit};
 ghost use Rattle.topo_model.specs.Retaining.{IsDraftOf, IsSparedDraft};
 ghost use Rattle.topo_model.specs.Ways.{ways_of};
 
-use crate::finishing::{Finished, finish};
-use build_meaning::assembled_sparing_is_valid;
+use crate::finishing::finish;
 use elimination_meaning::{ends_stay, nothing_is_new, zero_law};
 use geojson_types::Dropped;
 use json_value::{Items, OwnText};
 use owned_values::Memory;
 use std::alloc::Global;
 use topojson_types::{Cell, TopoObject, Topology};
-
-/// The objects and the arcs of the topology of a draft of layers over reduced arcs, where these are the ways to the rings of its features that
-/// enclose most; the lines and rings that are dropped, in reading order, and how many positions are removed from the arcs that stay.
-fn objects_and_arcs(
-    alloc: Global,
-    objects: Vec<(OwnText, TopoObject)>,
-    retained: Vec<Items<Cell>>,
-    counts: &[usize],
-    ring_limit: u128,
-    ways: &[Option<Vec<usize>>],
-) -> Result<Finished, Memory>
-    requires draft { IsSparedDraft objects.items retained.items counts.now (map (map_some (λ v. v.items)) ways.now) }
-    requires limit { ring_limit ≤ threshold_limit }
-    ensures assembled { IfOk result (λ r. (ls : Named) (kept : List (List ℕ)) → IsDraftOf ls objects.items → (map (map_some (λ v. v.items)) ways.now) ≡ ways_of (greatest_ring (arcs_of_layers ls)) objects.items
-        → retained.items ≡ retained_arcs kept (arcs_of_layers ls)
-        → assembled_sparing kept ring_limit ls ≡ record { objects = r.objects.items; arcs = r.arcs.items; transform = None }) }
-    ensures dropped { IfOk result (λ r. (ls : Named) (kept : List (List ℕ)) → IsDraftOf ls objects.items → (map (map_some (λ v. v.items)) ways.now) ≡ ways_of (greatest_ring (arcs_of_layers ls)) objects.items
-        → retained.items ≡ retained_arcs kept (arcs_of_layers ls) → r.dropped.items ≡ assembled_sparing_dropped kept ring_limit ls) }
-    ensures removed_count { IfOk result (λ r. (ls : Named) (kept : List (List ℕ)) → IsDraftOf ls objects.items → (map (map_some (λ v. v.items)) ways.now) ≡ ways_of (greatest_ring (arcs_of_layers ls)) objects.items
-        → retained.items ≡ retained_arcs kept (arcs_of_layers ls)
-        → counts.now ≡ map length (arcs_of_layers ls) → r.removed_count ≡ saturated (assembled_sparing_removed_count kept ring_limit ls)) }
-{
-    zero_law();
-    ends_stay();
-    nothing_is_new();
-    finish(alloc, objects, retained, counts, None, ring_limit, ways)
-}
 
 /// As `assemble_draft`, where these are the ways to the rings of the draft's features that enclose most, over arcs of which none is reduced.
 /// Each is left, whatever is left of it and however little it encloses.
@@ -68,8 +40,8 @@ pub fn assemble_draft_sparing(
         → counts.now ≡ map length (arcs_of_layers ls) → r.2 ≡ saturated (assembled_sparing_removed_count kept ring_limit ls)) }
     ensures few { IfOk result (λ r. length r.0.arcs < 2 ^ 63) }
 {
-    assembled_sparing_is_valid();
-    let left = objects_and_arcs(alloc, objects, retained, counts, ring_limit, ways)?;
-    let topology = Topology::of(Items::of(left.objects), Items::of(left.arcs), None);
-    Ok((topology, left.dropped, left.removed_count))
+    zero_law();
+    ends_stay();
+    nothing_is_new();
+    finish(alloc, objects, retained, counts, None, ring_limit, ways)
 }

@@ -74,7 +74,7 @@ fn apart_areas(
 }
 
 /// The shape without its lines and rings, which are taken out.
-#[tactic(auto, using(crate::proofs::Apart::line_lines, crate::proofs::Apart::line_left, crate::proofs::Apart::lines_lines, crate::proofs::Apart::lines_left, crate::proofs::Apart::area_lines, crate::proofs::Apart::area_left, crate::proofs::Apart::areas_lines, crate::proofs::Apart::areas_left, crate::proofs::Apart::group_lines, crate::proofs::Apart::group_left))]
+#[tactic(auto, using(crate::proofs::Apart::lines_at, crate::proofs::Apart::left_at))]
 fn apart_shape(
     alloc: Global,
     shape: Shape,

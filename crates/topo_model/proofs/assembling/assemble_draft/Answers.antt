@@ -1,23 +1,26 @@
-use Rattle.std.proofs.Common.{sym, ap, ◌∙◌, subst, arith, length, ◌<◌, ◌^◌}
-use Rattle.topojson_types.specs.Validity.{IsTopology}
-use Rattle.build_meaning.proofs.Assembled.{contents}
+use Rattle.std.proofs.Common.{[], ap, ◌∙◌}
+use Rattle.std.proofs.lemmas.Result.{IfOk-weaker}
+use Rattle.build_meaning.specs.Built.{untrimmed}
+use Rattle.build_meaning.specs.Protected.{no_protection}
+use Rattle.byte_ends.specs.Ends.{saturated}
+use Rattle.topo_model.proofs.Assembled.{counts_of, drops_are, is_assembled, removed_count_is, stands, stands_for_topology}
 use Rattle.topo_model.proofs.assembling.assemble_draft.Goals as goal
 
-pub of-topology-requires : goal.of-topology-requires
-of-topology-requires c =
+pub finish-requires-clause-stands : goal.finish-requires-clause-stands
+finish-requires-clause-stands c =
     let d = c.requires.draft in
     let r = d.retained_are in
-    record {
-      valid = rw (c.of.ensures, c.of-2.ensures) (subst IsTopology (c.in_ok-left.ensures.assembled d.layers r.kept d.of_layers r.picks)
-          (c.assembled_is_valid.ensures r.kept c.args.ring_limit d.layers d.of_layers.sound d.of_layers.names r.through));
-    }
+    stands_for_topology c.zero_law.ensures r.kept c.args.ring_limit d.layers c.args.objects.items d.of_layers c.args.retained.items r.picks c.ends_stay.ensures c.nothing_is_new.ensures c.args.counts.now no_protection [] r.through
+    d.counts_are (stands c.zero_law.ensures r.kept c.args.ring_limit d.layers c.args.objects.items d.of_layers c.args.retained.items r.picks)
 
-pub returns-clause-topology : goal.returns-clause-topology
-returns-clause-topology c ls kept of picks =
-    c.of-topology.ensures ∙ ap (λ os. contents os c.of-2.result) c.of.ensures ∙ ap (contents c.in_ok-left.left.objects.items) c.of-2.ensures ∙ sym (c.in_ok-left.ensures.assembled ls kept of picks)
-
-pub returns-clause-few : goal.returns-clause-few
-returns-clause-few c =
-    let v = c.in_ok-left.left.arcs in
-    let less : length v.items < 2 ^ 63 = omega (arith, v.ok.0, v.ok.1, v.small) in
-    subst (λ z. length z < 2 ^ 63) (sym (ap (λ z. z.arcs) c.of-topology.ensures ∙ c.of-2.ensures)) less
+pub returns : goal.returns
+returns c = record {
+  topology = IfOk-weaker c.finish.result _ _
+      (λ r h ls kept of picks. h no_protection kept (untrimmed 0 0 ls).objects (untrimmed 0 0 ls).arcs (stands c.zero_law.ensures kept c.args.ring_limit ls c.args.objects.items of c.args.retained.items picks)
+      ∙ is_assembled kept c.args.ring_limit ls) c.finish.ensures.topology;
+  dropped = IfOk-weaker c.finish.result _ _ (λ r h ls kept of picks. h ∙ drops_are c.zero_law.ensures kept c.args.ring_limit ls c.args.objects.items of c.args.retained.items picks) c.finish.ensures.dropped;
+  removed_count = IfOk-weaker c.finish.result _ _
+      (λ r h ls kept of picks counted. h no_protection kept (untrimmed 0 0 ls).objects (untrimmed 0 0 ls).arcs (stands c.zero_law.ensures kept c.args.ring_limit ls c.args.objects.items of c.args.retained.items picks)
+      (counts_of c.zero_law.ensures kept c.args.ring_limit ls c.args.objects.items of c.args.retained.items picks c.args.counts.now counted) ∙ ap saturated (removed_count_is kept c.args.ring_limit ls)) c.finish.ensures.removed_count;
+  few = c.finish.ensures.few;
+}

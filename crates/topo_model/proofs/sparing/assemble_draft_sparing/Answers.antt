@@ -1,23 +1,35 @@
-use Rattle.std.proofs.Common.{sym, ap, ◌∙◌, subst, arith, length, ◌<◌, ◌^◌}
-use Rattle.topojson_types.specs.Validity.{IsTopology}
-use Rattle.build_meaning.proofs.Assembled.{contents}
+use Rattle.std.proofs.Common.{map, ◌∙◌}
+use Rattle.std.proofs.lemmas.Result.{IfOk-weaker}
+use Rattle.build_meaning.specs.Assembled.{arcs_of_layers}
+use Rattle.build_meaning.specs.Built.{untrimmed}
+use Rattle.build_meaning.specs.Protected.{greatest_ring}
+use Rattle.build_meaning.specs.ProtectedLayers.{assembled_sparing, assembled_sparing_removed_count}
+use Rattle.geometry.specs.Lists.{map_some}
+use Rattle.topo_model.specs.Along.{Ways}
+use Rattle.topo_model.proofs.Assembled.{counts_of, spared_drops_are, spared_stands, stands_for_topology}
 use Rattle.topo_model.proofs.sparing.assemble_draft_sparing.Goals as goal
 
-pub of-topology-requires : goal.of-topology-requires
-of-topology-requires c =
+pub finish-requires-clause-stands : goal.finish-requires-clause-stands
+finish-requires-clause-stands c =
     let d = c.requires.draft.draft in
     let r = d.retained_are in
+    let ways : Ways = map (map_some (λ v. v.items)) c.args.ways.now in
+    stands_for_topology c.zero_law.ensures r.kept c.args.ring_limit d.layers c.args.objects.items d.of_layers c.args.retained.items r.picks c.ends_stay.ensures c.nothing_is_new.ensures c.args.counts.now
+    (greatest_ring (arcs_of_layers d.layers)) ways r.through d.counts_are (spared_stands c.zero_law.ensures r.kept c.args.ring_limit d.layers c.args.objects.items d.of_layers c.args.retained.items r.picks ways c.requires.draft.ways_are)
+
+pub returns : goal.returns
+unfolding assembled_sparing assembled_sparing_removed_count
+returns c =
+    let ways : Ways = map (map_some (λ v. v.items)) c.args.ways.now in
     record {
-      valid = rw (c.of.ensures, c.of-2.ensures) (subst IsTopology (c.in_ok-left.ensures.assembled d.layers r.kept d.of_layers c.requires.draft.ways_are r.picks)
-          (c.assembled_sparing_is_valid.ensures r.kept c.args.ring_limit d.layers d.of_layers.sound d.of_layers.names r.through));
+      topology = IfOk-weaker c.finish.result _ _
+          (λ r h ls kept of lead picks. h (greatest_ring (arcs_of_layers ls)) kept (untrimmed 0 0 ls).objects (untrimmed 0 0 ls).arcs
+          (spared_stands c.zero_law.ensures kept c.args.ring_limit ls c.args.objects.items of c.args.retained.items picks ways lead)) c.finish.ensures.topology;
+      dropped = IfOk-weaker c.finish.result _ _
+          (λ r h ls kept of lead picks. h ∙ spared_drops_are c.zero_law.ensures kept c.args.ring_limit ls c.args.objects.items of c.args.retained.items picks ways lead) c.finish.ensures.dropped;
+      removed_count = IfOk-weaker c.finish.result _ _
+          (λ r h ls kept of lead picks counted. h (greatest_ring (arcs_of_layers ls)) kept (untrimmed 0 0 ls).objects (untrimmed 0 0 ls).arcs
+          (spared_stands c.zero_law.ensures kept c.args.ring_limit ls c.args.objects.items of c.args.retained.items picks ways lead)
+          (counts_of c.zero_law.ensures kept c.args.ring_limit ls c.args.objects.items of c.args.retained.items picks c.args.counts.now counted)) c.finish.ensures.removed_count;
+      few = c.finish.ensures.few;
     }
-
-pub returns-clause-topology : goal.returns-clause-topology
-returns-clause-topology c ls kept of lead picks =
-    c.of-topology.ensures ∙ ap (λ os. contents os c.of-2.result) c.of.ensures ∙ ap (contents c.in_ok-left.left.objects.items) c.of-2.ensures ∙ sym (c.in_ok-left.ensures.assembled ls kept of lead picks)
-
-pub returns-clause-few : goal.returns-clause-few
-returns-clause-few c =
-    let v = c.in_ok-left.left.arcs in
-    let less : length v.items < 2 ^ 63 = omega (arith, v.ok.0, v.ok.1, v.small) in
-    subst (λ z. length z < 2 ^ 63) (sym (ap (λ z. z.arcs) c.of-topology.ensures ∙ c.of-2.ensures)) less

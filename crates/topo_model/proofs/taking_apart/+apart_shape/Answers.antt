@@ -1,12 +1,9 @@
-use Rattle.std.proofs.Common.{List, map, ap, sym, ◌∙◌}
+use Rattle.std.proofs.Common.{map, ap, sym, ◌∙◌}
 use Rattle.geometry.specs.declared.shape.Geometry.TheVariants as g
 use Rattle.geometry.specs.Lists.{joined}
-use Rattle.geometry.specs.Points.{Point}
 use Rattle.geometry.specs.Pruning.{lines_and_rings}
-use Rattle.geometry.proofs.Cases.{lines_and_rings_at}
 use Rattle.topo_model.specs.Drafts.{no_refs, relined}
-use Rattle.topo_model.proofs.Apart.{alone, begun, joined_more, one_more}
-use Rattle.topo_model.proofs.RelinedMarks.{relined_at}
+use Rattle.topo_model.proofs.Apart.{alone, begun, joined_more, left_at, lines_at, one_more}
 use Rattle.topo_model.proofs.taking_apart.+apart_shape.Goals as goal
 
 pub shapes-init : goal.shapes-init
@@ -19,10 +16,10 @@ shapes-preserved t c =
 
 pub returns-in-Point : goal.returns-in-Point
 returns-in-Point t c =
-    alone c.args.shape c.args.outlines.now.items (g.Point c.of.result) (ap lines_and_rings c.in-Point.is ∙ (lines_and_rings_at Point (List Point)).point c.in-Point.position)
-    (ap (relined no_refs) c.in-Point.is ∙ (relined_at no_refs).point c.in-Point.position ∙ ap g.Point (sym c.of.ensures))
+    alone c.args.shape c.args.outlines.now.items (g.Point c.of.result) (ap lines_and_rings c.in-Point.is ∙ lines_at.point c.in-Point.position)
+    (ap (relined no_refs) c.in-Point.is ∙ left_at.point c.in-Point.position ∙ ap g.Point (sym c.of.ensures))
 
 pub returns-in_ok-cells-in-MultiPoint : goal.returns-in_ok-cells-in-MultiPoint
 returns-in_ok-cells-in-MultiPoint t c =
-    alone c.args.shape c.args.outlines.now.items (g.MultiPoint c.in_ok-cells-in-MultiPoint.field-0) (ap lines_and_rings c.in-MultiPoint.is ∙ (lines_and_rings_at Point (List Point)).points c.in-MultiPoint.positions)
-    (ap (relined no_refs) c.in-MultiPoint.is ∙ (relined_at no_refs).points c.in-MultiPoint.positions ∙ ap g.MultiPoint (sym (c.in_ok-cells-in-MultiPoint.ensures ∙ c.as_slice.ensures)))
+    alone c.args.shape c.args.outlines.now.items (g.MultiPoint c.in_ok-cells-in-MultiPoint.field-0) (ap lines_and_rings c.in-MultiPoint.is ∙ lines_at.points c.in-MultiPoint.positions)
+    (ap (relined no_refs) c.in-MultiPoint.is ∙ left_at.points c.in-MultiPoint.positions ∙ ap g.MultiPoint (sym (c.in_ok-cells-in-MultiPoint.ensures ∙ c.as_slice.ensures)))

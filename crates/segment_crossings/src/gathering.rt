@@ -16,7 +16,7 @@ use std::alloc::Global;
 /// At most so many segments, each of which begins where the last one ends, stay together.
 const MOST_TOGETHER: usize = 16;
 
-/// None of them is more than so many times as long as the first, and the first not as one of them.
+/// None of them is more than about so many times as long as the first, and the first not as one of them.
 const MOST_TIMES: u64 = 8;
 
 /// Where segments are crowded, those lie on one plane that are shorter than two to this many times the shortest.
@@ -74,31 +74,27 @@ fn span_of(line: &Line) -> u64 {
     across.max(up)
 }
 
-/// Two segments are about as long: with a long one a short one would lie in too great a box.
-fn are_alike(line: &Line, other: &Line) -> bool {
-    let span = span_of(line);
-    let other_span = span_of(other);
-    span / MOST_TIMES <= other_span && other_span / MOST_TIMES <= span
-}
-
-/// The segment of this rank begins where the one before it ends, and is about as long as the first.
-fn goes_on(lines: &[Line], first: usize, rank: usize) -> bool
-    requires first { first < rank }
+/// The segment of this rank begins where the one before it ends, and goes so far: with a long one a short one would lie in too great a box.
+fn goes_on(lines: &[Line], rank: usize, least: u64, most: u64) -> bool
+    requires first { 0 < rank }
     requires rank { rank < length lines.now }
 {
     let line = read_line(lines, rank);
-    is_same(line.from, read_line(lines, rank - 1).to) && are_alike(line, read_line(lines, first))
+    let span = span_of(line);
+    is_same(line.from, read_line(lines, rank - 1).to) && (least <= span && span <= most)
 }
 
-/// Where the segments end that stay together with the one of this rank, from there on.
+/// Where the segments end that stay together with the one of this rank, from there on: all are about as long as it.
 pub fn end_together(lines: &[Line], first: usize) -> usize
     requires { first < length lines.now }
     ensures more { first < result }
     ensures within { result ≤ length lines.now }
 {
+    let span = span_of(read_line(lines, first));
+    let longest = span.saturating_add(1).saturating_mul(MOST_TIMES) - 1;
     let most = first.saturating_add(MOST_TOGETHER).min(lines.len());
     let mut end = first + 1;
-    while end < most && goes_on(lines, first, end) {
+    while end < most && goes_on(lines, end, span / MOST_TIMES, longest) {
         end += 1;
     }
     end

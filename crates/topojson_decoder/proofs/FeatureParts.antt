@@ -1,5 +1,5 @@
 -- A feature by its members.
-use Rattle.std.proofs.Common.{◌≡◌, ℕ, true, false, List, [], ◌∷◌, ◌++◌, Option, Some, None, Result, Ok, Err, refl, ap, sym, subst, ◌∙◌}
+use Rattle.std.proofs.Common.{◌≡◌, ◌⊎◌, inl, inr, ℕ, true, false, List, [], ◌∷◌, ◌++◌, Option, Some, None, Result, Ok, Err, refl, ap, sym, subst, ◌∙◌}
 use Rattle.std.specs.Prelude.{bytes_eq, codes}
 use Rattle.std.specs.Borrow.{Bor}
 use Rattle.json_value.specs.declared.json.Json.{Json}
@@ -10,7 +10,6 @@ use Rattle.json_reading.specs.declared.fault.Fault.{Fault}
 use Rattle.geojson_types.specs.declared.counts.Counts.{Counts}
 use Rattle.geojson_types.specs.declared.id.Id.{Id}
 use Rattle.geometry.specs.Points.{Point}
-use Rattle.json_cursor.specs.Held.{FindsValue}
 use Rattle.topojson_types.specs.declared.feature.TopoFeature.{TopoFeature}
 use Rattle.topojson_types.specs.declared.transform.Transform.{Transform}
 use Rattle.topojson_types.specs.Topologies.{TopoShape}
@@ -140,25 +139,21 @@ module _ {A : Type 0} (k : Keeping) where
       kept_fault e h = fault_kept (found_in read vs) e (sym (found_kept (with_fault lookup_fault (only vs))) ∙ sym h)
 
 -- nothing is lost of the whole
-whole_read : {A : Type 0} (r : Result (Option A) TopoFault) → r ≡ of_read Whole r
-whole_read (Ok x) = ap Ok (sym (whole_option x))
-whole_read (Err e) = refl
+all_of : {A : Type 0} (r : Result (Option A) TopoFault) → r ≡ of_read Whole r
+all_of (Ok x) = ap Ok (sym (whole_option x))
+all_of (Err e) = refl
 
-pub meets_whole : {A : Type 0} (read : Option Json → Result (Option A) TopoFault) (d : ℕ) (bytes : List ℕ) (answer : Result (Result (Option A) TopoFault × Bor (List ℕ)) Fault)
-    → FindsValue (IsFound read) d bytes answer → FindsValue (IsFound (λ v. of_read Whole (read v))) d bytes answer
-meets_whole read d bytes (Ok x) h = (h.0, h.1, h.2 ∙ whole_read (read (Some h.0)))
-meets_whole read d bytes (Err fault) h = h
+pub whole_read : {A : Type 0} (k : Keeping) → k ≡ Whole → (r : Result (Option A) TopoFault) → r ≡ of_read k r
+whole_read k h r = rw h (all_of r)
 
 -- and where geometries alone are kept there is as much of them as where nothing is
-shapes_read : {A : Type 0} (r : Result (Option A) TopoFault) → of_read Blank r ≡ of_read Shapes r
-shapes_read (Ok None) = refl
-shapes_read (Ok (Some x)) = refl
-shapes_read (Err e) = refl
-
-pub meets_shapes : {A : Type 0} (read : Option Json → Result (Option A) TopoFault) (d : ℕ) (bytes : List ℕ) (answer : Result (Result (Option A) TopoFault × Bor (List ℕ)) Fault)
-    → FindsValue (IsFound (λ v. of_read Blank (read v))) d bytes answer → FindsValue (IsFound (λ v. of_read Shapes (read v))) d bytes answer
-meets_shapes read d bytes (Ok x) h = (h.0, h.1, h.2 ∙ shapes_read (read (Some h.0)))
-meets_shapes read d bytes (Err fault) h = h
+pub blank_read : {A : Type 0} (k : Keeping) → (k ≡ Shapes) ⊎ (k ≡ Blank) → (r : Result (Option A) TopoFault) → of_read Blank r ≡ of_read k r
+blank_read Whole (inl h) r = absurd cc
+blank_read Whole (inr h) r = absurd cc
+blank_read Shapes h (Ok None) = refl
+blank_read Shapes h (Ok (Some x)) = refl
+blank_read Shapes h (Err e) = refl
+blank_read Blank h r = refl
 
 -- and of the kind of a value it is known whether it is faulty
 blank_identifier_in : (x : Json-F Json) → blank_identifier (kind_in x) ≡ of_read Blank (identifier_in x)

@@ -13,7 +13,7 @@ use Rattle.json_cursor.proofs.Steps.{found_stops}
 use Rattle.geojson_types.specs.declared.counts.Counts.{Counts}
 use Rattle.topojson_meaning.specs.Reader.{Reader}
 use Rattle.topojson_meaning.specs.declared.fault.TopoFault.{TopoFault}
-use Rattle.json_cursor.specs.Answers.{Answers, Reads, Stops}
+use Rattle.json_cursor.specs.Answers.{Reads, Stops}
 use Rattle.json_cursor.specs.declared.stop.Stop.{Stop}
 use Rattle.json_cursor.specs.declared.stop.Stop.TheVariants as stop
 use Rattle.json_cursor.specs.Arrays.{prefix_value}
@@ -124,9 +124,3 @@ module _ {B : Type 0} (read : Json → Reader B) (inner : Reader B) (prefix : Op
 
   pub object_reads : (x : B) (new : Counts) → inner old ≡ Ok (x, new) → Reads read prefix x rest old new
   object_reads x new h = record { value = v; prefix_is = is; means = law ∙ h }
-
--- ---- why a reader stopped
-
-pub stopped : {B : Type 0} (read : Json → Reader B) (prefix : Option (Json × List ℕ)) (old new : Counts) (answer : Result (B × Bor (List ℕ)) (Stop TopoFault)) (why : Stop TopoFault) → answer ≡ Err why
-    → Answers (λ x. x) read prefix old new answer → Stops read prefix old why
-stopped read prefix old new answer why is h = subst (Answers (λ x. x) read prefix old new) is h

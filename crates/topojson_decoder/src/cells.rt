@@ -76,8 +76,8 @@ fn grid_number(number: Option<Units>) -> Option<i64>
     Some(number.value)
 }
 
-/// The cell of the grid that lies so far from another, and at a position.
-#[inline(always)]
+/// The cell of the grid that lies so far from another, and at a position. It isn't put in its place, so that what reads a cell is.
+#[inline(never)]
 #[tactic(auto, unfolding(topojson_meaning::specs::Arcs::grid_cell, topojson_types::specs::Transforms::placed))]
 fn grid_cell(transform: &Transform, before: Cell, difference: Cell) -> Result<Cell, TopoFault>
     ensures { result ≡ spec.grid_cell transform.now (moved before difference) }

@@ -8,7 +8,7 @@ ghost use Rattle.json_reading.specs.Strings.{simple};
 ghost use Rattle.topojson_meaning.specs.Answers.{Finds};
 ghost use Rattle.topojson_meaning.specs.Features.{identifier as identifier_in, members_if};
 ghost use Rattle.topojson_meaning.specs.declared.fault.TopoFault.{TopoFault as Refusal};
-ghost use Rattle.topojson_decoder.specs.Features.{IsFeature, IsFound, IsMemberAt, blank_identifier, blank_members, feature, found_in as found_among, kept_identifier, kept_members, member_name};
+ghost use Rattle.topojson_decoder.specs.Features.{IsFeature, IsFound, IsMemberAt, blank_identifier, blank_members, feature, found_in as found_among, member_name};
 ghost use Rattle.topojson_decoder.specs.Members.{GoesOnWith, IsOccurrence, Judges};
 ghost use Rattle.topojson_decoder.specs.declared.geometry_parts.Start.{Start as Begun};
 
@@ -126,36 +126,6 @@ fn whole_id_at<'a>(
     Ok((Ok(Some(Id::Number(number))), rest))
 }
 
-/// Whether the identifier has a fault that the value at the front is, and what follows it: none is kept.
-#[inline(always)]
-fn blank_id_at<'a>(
-    alloc: Global,
-    depth_left: u32,
-    bytes: &'a [u8],
-) -> Result<(Result<Option<Id>, TopoFault>, &'a [u8]), Fault>
-    ensures { FindsValue (IsFound (kept_identifier Keeping.Blank)) depth_left bytes.now result }
-{
-    let rest = after_value(alloc, depth_left, bytes)?;
-    Ok((blank_id(kind_at(bytes)), rest))
-}
-
-/// The identifier that is kept of the value at the front, or its fault, and what follows it.
-#[inline(always)]
-fn id_at<'a>(
-    alloc: Global,
-    depth_left: u32,
-    keeping: Keeping,
-    bytes: &'a [u8],
-) -> Result<(Result<Option<Id>, TopoFault>, &'a [u8]), Fault>
-    ensures { FindsValue (IsFound (kept_identifier keeping)) depth_left bytes.now result }
-{
-    match keeping {
-        Keeping::Whole => whole_id_at(alloc, depth_left, bytes),
-        Keeping::Shapes => blank_id_at(alloc, depth_left, bytes),
-        Keeping::Blank => blank_id_at(alloc, depth_left, bytes),
-    }
-}
-
 /// The properties that the value at the front is, or their fault, and what follows it.
 #[inline(always)]
 fn whole_properties_at<'a>(
@@ -169,36 +139,6 @@ fn whole_properties_at<'a>(
     match read {
         None => Ok((Err(TopoFault::WrongKind), rest)),
         Some(properties) => Ok((Ok(properties), rest)),
-    }
-}
-
-/// Whether the properties have a fault that the value at the front is, and what follows it: none are kept.
-#[inline(always)]
-fn blank_properties_at<'a>(
-    alloc: Global,
-    depth_left: u32,
-    bytes: &'a [u8],
-) -> Result<(Result<Option<Properties>, TopoFault>, &'a [u8]), Fault>
-    ensures { FindsValue (IsFound (kept_members Keeping.Blank)) depth_left bytes.now result }
-{
-    let rest = after_value(alloc, depth_left, bytes)?;
-    Ok((blank_properties(kind_at(bytes)), rest))
-}
-
-/// The properties that are kept of the value at the front, or their fault, and what follows it.
-#[inline(always)]
-fn properties_at<'a>(
-    alloc: Global,
-    depth_left: u32,
-    keeping: Keeping,
-    bytes: &'a [u8],
-) -> Result<(Result<Option<Properties>, TopoFault>, &'a [u8]), Fault>
-    ensures { FindsValue (IsFound (kept_members keeping)) depth_left bytes.now result }
-{
-    match keeping {
-        Keeping::Whole => whole_properties_at(alloc, depth_left, bytes),
-        Keeping::Shapes => blank_properties_at(alloc, depth_left, bytes),
-        Keeping::Blank => blank_properties_at(alloc, depth_left, bytes),
     }
 }
 
@@ -226,9 +166,18 @@ impl<'a> FeatureParts<'a> {
     ) -> Result<&'a [u8], Fault>
         ensures { GoesOnWith (IsFeature start.entry depth_left) depth_left (codes "id") self.old self.new bytes.now result }
     {
-        let (id, rest) = id_at(alloc, depth_left, start.keeping, bytes)?;
-        self.id.see(id);
-        Ok(rest)
+        match start.keeping {
+            Keeping::Whole => {
+                let (id, rest) = whole_id_at(alloc, depth_left, bytes)?;
+                self.id.see(id);
+                Ok(rest)
+            }
+            Keeping::Shapes | Keeping::Blank => {
+                let rest = after_value(alloc, depth_left, bytes)?;
+                self.id.see(blank_id(kind_at(bytes)));
+                Ok(rest)
+            }
+        }
     }
 
     /// Goes on with the value at the front of a member `properties`, and gives what follows it.
@@ -242,9 +191,18 @@ impl<'a> FeatureParts<'a> {
     ) -> Result<&'a [u8], Fault>
         ensures { GoesOnWith (IsFeature start.entry depth_left) depth_left (codes "properties") self.old self.new bytes.now result }
     {
-        let (properties, rest) = properties_at(alloc, depth_left, start.keeping, bytes)?;
-        self.properties.see(properties);
-        Ok(rest)
+        match start.keeping {
+            Keeping::Whole => {
+                let (properties, rest) = whole_properties_at(alloc, depth_left, bytes)?;
+                self.properties.see(properties);
+                Ok(rest)
+            }
+            Keeping::Shapes | Keeping::Blank => {
+                let rest = after_value(alloc, depth_left, bytes)?;
+                self.properties.see(blank_properties(kind_at(bytes)));
+                Ok(rest)
+            }
+        }
     }
 
     /// Goes on with the value at the front of a member of this name, and gives what follows it.

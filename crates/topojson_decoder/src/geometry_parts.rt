@@ -11,7 +11,7 @@ ghost use Rattle.topojson_decoder.specs.Geometries as spec;
 ghost use Rattle.topojson_decoder.specs.Members.{BeginsAt, GoesOnWith, IsOccurrence, Judges};
 ghost use Rattle.topojson_decoder.specs.declared.geometry_parts.Start.{Start as Begun};
 
-use crate::held::held;
+use crate::held::held_stop;
 use crate::index::is_name;
 use crate::keeping::Keeping;
 use crate::occurrence::Occurrence;
@@ -202,11 +202,19 @@ impl Read {
         ensures { ReadsPart start.entry (Some kind) depth_left self.old self.new bytes.now result }
     {
         self.counts = start.counts;
-        let answer = typed_at(alloc, depth_left, start, kind, bytes, &mut self.counts);
-        let (shape, rest) = held(alloc, depth_left, bytes, answer)?;
-        self.by = Some(kind);
-        self.shape = shape;
-        Ok(rest)
+        match typed_at(alloc, depth_left, start, kind, bytes, &mut self.counts) {
+            Ok((shape, rest)) => {
+                self.by = Some(kind);
+                self.shape = Ok(shape);
+                Ok(rest)
+            }
+            Err(stop) => {
+                let (shape, rest) = held_stop::<Option<TopoShape>>(alloc, depth_left, bytes, stop)?;
+                self.by = Some(kind);
+                self.shape = shape;
+                Ok(rest)
+            }
+        }
     }
 
     /// Goes on with the value at the front, which is read by this type, if it is known, and gives what follows it.

@@ -130,17 +130,21 @@ fn begin_whole(bytes: &[u8]) -> bool {
     true
 }
 
-/// The arcs at the front, which are read by the transform that was seen, and what follows them. They are leaped over where it has a fault, and
-/// where it may still come.
+/// The arcs at the front, which are read by the transform that was seen, and what follows them. They are leaped over where it has a fault, where
+/// it may still come, and where arcs were seen before, as these are refused whatever they hold.
 fn arcs_member<'a>(
     alloc: Global,
     depth_left: u32,
     transform: &Occurrence<Result<Option<Transform>, TopoFault>>,
+    seen: &Occurrence<FoundArcs<'a>>,
     bytes: &'a [u8],
     start: By,
 ) -> Result<(FoundArcs<'a>, &'a [u8]), Fault>
     ensures { FindsArcs start (transform_by transform.now) depth_left bytes.now result }
 {
+    let Occurrence::Never = seen else {
+        return passed_at(alloc, depth_left, bytes);
+    };
     match transform {
         Occurrence::Again => passed_at(alloc, depth_left, bytes),
         Occurrence::Never => {
@@ -197,7 +201,14 @@ impl<'a> Index<'a> {
             return Ok(rest);
         }
         if is_name(name, "arcs") {
-            let (arcs, rest) = arcs_member(alloc, depth_left, &self.transform, bytes, start)?;
+            let (arcs, rest) = arcs_member(
+                alloc,
+                depth_left,
+                &self.transform,
+                &self.arcs,
+                bytes,
+                start,
+            )?;
             self.arcs.see(arcs);
             return Ok(rest);
         }

@@ -19,13 +19,7 @@ fn clamped(x: i64) -> i64
     ensures over { (k : ℤ) → unsigned_abs k ≤ position_limit → k ≤ℤ x → k ≤ℤ result }
     ensures under { (k : ℤ) → unsigned_abs k ≤ position_limit → x ≤ℤ k → result ≤ℤ k }
 {
-    if x > LIMIT {
-        LIMIT
-    } else if x < -LIMIT {
-        -LIMIT
-    } else {
-        x
-    }
+    x.clamp(-LIMIT, LIMIT)
 }
 
 /// The first coordinate of the corner of a box that lies the farthest to the left, seen along the way from one position to another.

@@ -25,7 +25,8 @@ use Rattle.geojson_types.specs.Features.{Shape, Featured}
 use Rattle.geojson_types.specs.Numbers.{IdHasNumbers, PropertiesHaveNumbers, FeatureHasNumbers}
 use Rattle.geojson_types.specs.Places.{shape_points, option_points}
 use Rattle.geojson_types.specs.Texts.{IdHasTexts, PropertiesHaveTexts, FeatureHasTexts}
-use Rattle.topojson_writer.specs.FeatureValues.{Member, coordinate_value, position_value, positions_value, lines_value, polygons_value, type_member, with_coordinates, shape_value, geometry_value, properties_value, id_members, feature_value, features_value}
+use Rattle.topojson_writer.specs.FeatureValues.{Member, coordinate_value, position_value, positions_value, lines_value, polygons_value, type_member, with_coordinates, shape_value, geometry_value, properties_value, feature_value, features_value}
+use Rattle.topojson_types.specs.Values.{id_members}
 use Rattle.topojson_writer.specs.Numbered.{IsNumbered, features_of}
 use Rattle.topojson_writer.proofs.ShapeParts.{shape_value_at}
 

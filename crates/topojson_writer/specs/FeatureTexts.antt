@@ -1,5 +1,5 @@
 -- The parts of a text that is written for a geometry or a feature.
-use Rattle.std.specs.Prelude.{ℕ, List, [], ◌++◌, map, codes, Option, Some, None}
+use Rattle.std.specs.Prelude.{ℕ, List, ◌++◌, map, codes, Option}
 use Rattle.json_value.specs.declared.json.Json.{Json}
 use Rattle.json_value.specs.declared.json.Json.TheVariants as j
 use Rattle.json_value.specs.Text.{json_text}
@@ -9,7 +9,9 @@ use Rattle.geometry.specs.declared.shape.Geometry.TheViews.{out-Geometry}
 use Rattle.geojson_types.specs.declared.id.Id.{Id}
 use Rattle.geojson_types.specs.Features.{Shape}
 use Rattle.geometry.specs.Points.{Point}
-use Rattle.topojson_writer.specs.FeatureValues.{Member, position_value, positions_value, lines_value, polygons_value, shape_value, properties_value, id_value}
+use Rattle.topojson_types.specs.Values.{id_members}
+use Rattle.topojson_writer.specs.FeatureValues.{Member, position_value, positions_value, lines_value, polygons_value, shape_value, properties_value}
+use Rattle.topojson_writer.specs.Texts.{members_text}
 
 -- up to the coordinates or the geometries, on one level of a geometry
 abbrev pub head_in : {P L R S : Type 0} → Geometry-F P L R S → List ℕ
@@ -39,15 +41,10 @@ contents_in (Geometry-F.Group shapes) = j.Array (map shape_value shapes)
 unfoldable pub contents_value : Shape → Json
 contents_value shape = contents_in (out-Geometry Point (List Point) (List Point) shape)
 
--- the member "id" after a comma, if there is an identifier
-abbrev pub id_text : Option Id → List ℕ
-id_text None = []
-id_text (Some id) = codes ",\"id\":" ++ json_text (id_value id)
-
 -- a feature up to its geometry
 abbrev pub feature_head : Option Id → Option (List Member) → List ℕ
 feature_head id members =
-    codes "{\"type\":\"Feature\"" ++ (id_text id ++ (codes ",\"properties\":" ++ (json_text (properties_value members) ++ codes ",\"geometry\":")))
+    codes "{\"type\":\"Feature\"" ++ (members_text (id_members id) ++ (codes ",\"properties\":" ++ (json_text (properties_value members) ++ codes ",\"geometry\":")))
 
 -- a collection up to its features
 abbrev pub collection_head : List ℕ

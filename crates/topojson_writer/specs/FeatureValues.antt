@@ -5,13 +5,12 @@ use Rattle.json_value.specs.declared.json.Json.{Json}
 use Rattle.json_value.specs.declared.json.Json.TheVariants as j
 use Rattle.geometry.specs.declared.shape.Geometry.{fold-Geometry}
 use Rattle.geometry.specs.declared.shape.Geometry.TheOpen.{Geometry-F}
-use Rattle.geojson_types.specs.declared.id.Id.{Id}
-use Rattle.geojson_types.specs.declared.id.Id.TheVariants.{Text, Number}
 use Rattle.geojson_types.specs.declared.layer.FeatureSet.{FeatureSet}
 use Rattle.geojson_types.specs.declared.layer.FeatureSet.TheVariants.{One, Many}
 use Rattle.geojson_types.specs.Features.{Shape, Featured}
 use Rattle.geometry.specs.Points.{Point}
 use Rattle.geometry.specs.Units.{unit_places}
+use Rattle.topojson_types.specs.Values.{id_members}
 
 -- a member of an object: its name and its value
 abbrev pub Member : Type 0
@@ -76,16 +75,6 @@ geometry_value (Some shape) = shape_value shape
 abbrev pub properties_value : Option (List Member) → Json
 properties_value None = j.Null
 properties_value (Some members) = j.Object members
-
--- an identifier: a text, or a number by its text
-abbrev pub id_value : Id → Json
-id_value (Text text) = j.Text text
-id_value (Number number) = j.Number number
-
--- the member "id", if there is an identifier
-abbrev pub id_members : Option Id → List Member
-id_members None = []
-id_members (Some id) = (codes "id", id_value id) ∷ []
 
 -- a Feature
 unfoldable pub feature_value : Featured → Json

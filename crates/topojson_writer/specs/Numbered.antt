@@ -7,7 +7,8 @@ use Rattle.geojson_types.specs.declared.layer.FeatureSet.TheVariants.{One, Many}
 use Rattle.geojson_types.specs.Features.{Featured}
 use Rattle.geojson_types.specs.Places.{option_points}
 use Rattle.geometry.specs.Points.{IsPosition}
-use Rattle.topojson_writer.specs.FeatureValues.{Member, id_members, properties_value}
+use Rattle.topojson_types.specs.Values.{id_members}
+use Rattle.topojson_writer.specs.FeatureValues.{Member, properties_value}
 
 -- the numbers of each member's value are numbers
 abbrev pub HaveNumbers : List Member → Type 0

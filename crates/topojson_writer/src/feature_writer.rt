@@ -4,36 +4,14 @@ ghost use Rattle.std.specs.Option.{option_copied};
 ghost use Rattle.byte_ends.specs.Writes.{Writes};
 ghost use Rattle.json_writer.specs.Standing.{Start};
 ghost use Rattle.json_value.specs.Text.{json_text};
-ghost use Rattle.topojson_writer.specs.FeatureTexts.{collection_head, feature_head, id_text};
-ghost use Rattle.topojson_writer.specs.FeatureValues.{id_value, properties_value, geometry_value, feature_value, collection_value, features_value};
+ghost use Rattle.topojson_writer.specs.FeatureTexts.{collection_head, feature_head};
+ghost use Rattle.topojson_writer.specs.FeatureValues.{properties_value, geometry_value, feature_value, collection_value, features_value};
 
+use crate::object_writer::put_id;
 use crate::shape_writer::put_shape;
 use byte_ends::{Drain, Sink, WriteFault};
 use geojson_types::{Feature, FeatureSet, Id, Properties};
-use json_writer::{Buffered, Out, PutValue, put_array, put_properties, put_text};
-
-/// Puts an identifier: a text, or a number by its text.
-#[tactic(auto, using(json_value::proofs::Texts::texts))]
-fn put_id<O: Out>(id: &Id, out: &mut O)
-    ensures text { O.text out.new ≡ O.text out.old ++ json_text (id_value id.now) }
-    ensures kept { (start : Start) → O.good out.old start → O.good out.new start }
-{
-    match id {
-        Id::Text(text) => put_text(text.as_str(), out),
-        Id::Number(number) => out.put(number.as_bytes()),
-    }
-}
-
-/// Puts the member `id` after a comma, if there is an identifier.
-fn put_id_member<O: Out>(id: Option<&Id>, out: &mut O)
-    ensures text { O.text out.new ≡ O.text out.old ++ id_text (option_copied id.entry) }
-    ensures kept { (start : Start) → O.good out.old start → O.good out.new start }
-{
-    if let Some(id) = id {
-        out.put(b",\"id\":");
-        put_id(id, out);
-    }
-}
+use json_writer::{Buffered, Out, PutValue, put_array, put_properties};
 
 /// Puts properties, or null.
 #[tactic(auto, using(json_value::proofs::Texts::texts))]
@@ -65,7 +43,7 @@ pub fn put_feature_head<O: Out>(id: Option<&Id>, properties: Option<&Properties>
     ensures kept { (start : Start) → O.good out.old start → O.good out.new start }
 {
     out.put(b"{\"type\":\"Feature\"");
-    put_id_member(id, out);
+    put_id(id, out);
     out.put(b",\"properties\":");
     put_properties_option(properties, out);
     out.put(b",\"geometry\":");

@@ -1,5 +1,6 @@
 // Geometry objects with their identifiers and properties as they are written (TopoJSON 1.0, section 2.2).
 ghost use Rattle.std.specs.Prelude.{◌≡◌, ◌++◌};
+ghost use Rattle.std.specs.Option.{option_copied};
 ghost use Rattle.json_value.specs.Text.{json_text};
 ghost use Rattle.json_writer.specs.Standing.{Start};
 ghost use Rattle.topojson_types.specs.Values.{geometrical_option, id_value, id_members, properties_members, feature_value};
@@ -25,8 +26,8 @@ fn put_id_value<O: Out>(id: &Id, out: &mut O)
 
 /// Puts the member `id` after a comma, if there is an identifier.
 #[tactic(auto, using(crate::proofs::Features::parts))]
-fn put_id<O: Out>(id: &Option<Id>, out: &mut O)
-    ensures text { O.text out.new ≡ O.text out.old ++ members_text (id_members id.now) }
+pub fn put_id<O: Out>(id: Option<&Id>, out: &mut O)
+    ensures text { O.text out.new ≡ O.text out.old ++ members_text (id_members (option_copied id.entry)) }
     ensures kept { (start : Start) → O.good out.old start → O.good out.new start }
 {
     if let Some(id) = id {
@@ -76,7 +77,7 @@ pub fn put_feature<C: PutValue<Cell>, O: Out>(feature: &TopoFeature, out: &mut O
     ensures kept { (start : Start) → O.good out.old start → O.good out.new start }
 {
     out.put(option_type_start::<C>(&feature.shape));
-    put_id(&feature.id, out);
+    put_id(feature.id.as_ref(), out);
     put_properties_option(&feature.properties, out);
     put_option_parts::<C, O>(&feature.shape, out);
     out.put(b"}");

@@ -1,6 +1,5 @@
 pub mod Names
 mod Rows
-mod TransformRows
 pub mod ArcsBack
 pub mod FeaturesBack
 pub mod LinesBack

@@ -1,144 +1,195 @@
 -- Worked rows of the definition: small values and the topologies or faults that they are.
-use Rattle.std.proofs.Common.{◌≡◌, ℕ, false, List, [], ◌∷◌, map, Some, None, Ok, Err, refl}
-use Rattle.std.specs.Prelude.{codes, pos, negsuc}
-use Rattle.topojson_meaning.proofs.Names.{Point, same, scaled_of, array_of, object_of, text_of, number_of, Json, no_counts, Counts, TopoObject, One, number_text, units, elements_position, position, arc_cells, arc, arc_list, feature, geometry_type, type_of, object_type, some_elements, index, indexes_after, indexes, line_in, ring_in, ring, polygon_in, Members, named, need, members, elements, single, object, objects_after, objects, gather, arcs_in, arcs_shape, part, typed_shape, contents, value_contents, topology, transform_if, TopoFault, NotTopology, Missing, Duplicate, WrongKind, UnknownType, ShortArc, IndexRange, Unjoined, OpenRing, Range}
+use Rattle.std.proofs.Common.{◌≡◌, ℕ, false, List, [], ◌∷◌, map, Option, Some, None, Result, Ok, Err, refl}
+use Rattle.std.specs.Prelude.{ℤ, codes, ◌*◌, ◌-◌, ◌^◌, pos, negsuc}
+use Rattle.topojson_meaning.proofs.Names.{Point, same, scaled_of, array_of, object_of, text_of, number_of, Json, no_counts, Counts, Contents, TopoObject, One, transform_value, to_units, stands_for, place_on, is_within, Transform, number_text, units, elements_position, position, grid_number, grid_cell, elements_cell, cell, cells_after, elements_place, place, arc_cells, arc, arc_list, feature, geometry_type, type_of, object_type, some_elements, index, indexes_after, indexes, line_in, ring_in, ring, polygon_in, Members, named, need, members, elements, single, object, objects_after, objects, gather, arcs_in, arcs_shape, part, typed_shape, contents, value_contents, topology, texts, transform_number, transform_pair, transform_members, transform_if, TopoFault, NotTopology, Missing, Duplicate, WrongKind, UnknownType, ShortArc, IndexRange, Unjoined, OpenRing, GridNumber, Range}
 use Rattle.json_value.specs.declared.json.Json.TheVariants as j
 use Rattle.geometry.specs.declared.shape.Geometry.TheVariants as g
 use Rattle.topojson_types.specs.Decoding.{decoded_line}
 use Rattle.geometry.specs.Joins as joins
 
-abbrev typed : List ℕ → List ℕ × Json
-typed name = (codes "type", j.Text name)
+-- ---- values
 
--- a topology with these members after its type
-abbrev topology_with : Members → Json
-topology_with ms = j.Object (typed (codes "Topology") ∷ ms)
+abbrev typed : List ℕ → Members → Json
+typed name ms = j.Object ((codes "type", j.Text name) ∷ ms)
 
--- ---- faults of the members
+-- an array of two numbers
+abbrev pair : List ℕ → List ℕ → Json
+pair x y = j.Array (j.Number x ∷ (j.Number y ∷ []))
 
-row_array : topology (j.Array []) ≡ Err NotTopology
-unfolding topology value_contents object_of
-row_array = simp (j.outs-Array)
+-- an array of one array
+abbrev nested : List Json → Json
+nested vs = j.Array (j.Array vs ∷ [])
 
--- {"type":"FeatureCollection","features":[]}
-row_features : topology (j.Object (typed (codes "FeatureCollection") ∷ ((codes "features", j.Array []) ∷ []))) ≡ Err NotTopology
-unfolding topology value_contents contents transform_if object_of text_of need named
-row_features = simp (j.outs-Object, j.outs-Text)
+-- a topology with these objects and arcs
+abbrev topology_of : Members → Json → Json
+topology_of os arcs = typed (codes "Topology") ((codes "objects", j.Object os) ∷ ((codes "arcs", arcs) ∷ []))
 
--- {"type":"Topology","objects":{}}
-row_no_arcs : topology (topology_with ((codes "objects", j.Object []) ∷ [])) ≡ Err Missing
-unfolding topology value_contents contents transform_if object_of text_of need named
-row_no_arcs = simp (j.outs-Object, j.outs-Text)
+abbrev null_object : List ℕ × Json
+null_object = (codes "a", j.Object ((codes "type", j.Null) ∷ []))
 
--- {"type":"Topology","objects":{"a":{"type":null},"a":{"type":null}},"arcs":[]}
-abbrev null_object : Json
-null_object = j.Object ((codes "type", j.Null) ∷ [])
+-- ---- faults of the members and of arcs
 
-row_names : topology (topology_with ((codes "objects", j.Object ((codes "a", null_object) ∷ ((codes "a", null_object) ∷ []))) ∷ ((codes "arcs", j.Array []) ∷ []))) ≡ Err Duplicate
-unfolding topology value_contents contents transform_if object_of text_of need named arc_list elements array_of gather objects objects_after members object object_type type_of single feature typed_shape
-row_names = simp (j.outs-Object, j.outs-Text, j.outs-Array, j.outs-Null)
+abbrev faults : List (Json × TopoFault)
+faults =
+    (j.Array [], NotTopology)
+    ∷ (typed (codes "FeatureCollection") ((codes "features", j.Array []) ∷ []), NotTopology)
+    ∷ (typed (codes "Topology") ((codes "objects", j.Object []) ∷ []), Missing)
+    -- the transform is looked at before the arcs, which are absent here
+    ∷ (typed (codes "Topology") ((codes "transform", j.Array []) ∷ []), WrongKind)
+    ∷ (topology_of (null_object ∷ null_object ∷ []) (j.Array []), Duplicate)
+    -- an arc of one position, and one that goes too far
+    ∷ (topology_of [] (nested (pair (codes "0") (codes "0") ∷ [])), ShortArc)
+    ∷ (topology_of [] (nested (pair (codes "0") (codes "0") ∷ pair (codes "400000000") (codes "0") ∷ [])), Range)
+    -- both numbers of a position are looked at before either is taken in units
+    ∷ (topology_of [] (nested (j.Array (j.Number (codes "1e99") ∷ j.Text (codes "y") ∷ []) ∷ [])), WrongKind)
+    ∷ []
 
--- ---- arcs
-
--- {"type":"Topology","objects":{},"arcs":[[[0,0]]]}
-row_short_arc : topology (topology_with ((codes "objects", j.Object []) ∷ ((codes "arcs", j.Array (j.Array (j.Array (j.Number (codes "0") ∷ (j.Number (codes "0") ∷ [])) ∷ []) ∷ [])) ∷ []))) ≡ Err ShortArc
-unfolding topology value_contents contents transform_if object_of text_of need named arc_list arc arc_cells position elements_position units number_text number_of scaled_of elements array_of gather
-row_short_arc = simp (j.outs-Object, j.outs-Text, j.outs-Array, j.outs-Number)
-
--- {"type":"Topology","objects":{},"arcs":[[[0,0],[400000000,0]]]}
-row_far : topology (topology_with ((codes "objects", j.Object []) ∷ ((codes "arcs", j.Array (j.Array (j.Array (j.Number (codes "0") ∷ (j.Number (codes "0") ∷ [])) ∷ (j.Array (j.Number (codes "400000000") ∷ (j.Number (codes "0") ∷ [])) ∷ [])) ∷ [])) ∷ []))) ≡ Err Range
-unfolding topology value_contents contents transform_if object_of text_of need named arc_list arc arc_cells position elements_position units number_text number_of scaled_of elements array_of gather
-row_far = simp (j.outs-Object, j.outs-Text, j.outs-Array, j.outs-Number)
-
--- both numbers of a position are looked at before either is taken in units
-row_kinds_first : (c : Counts) → position (j.Array (j.Number (codes "1e99") ∷ (j.Text (codes "y") ∷ []))) c ≡ Err WrongKind
-unfolding position elements_position units number_text number_of scaled_of elements array_of
-row_kinds_first c = simp (j.outs-Text, j.outs-Array, j.outs-Number)
+row_faults : map (λ r. topology r.0) faults ≡ map (λ r. Err r.1) faults
+unfolding topology value_contents contents transform_if object_of text_of need named arc_list arc arc_cells position elements_position units number_text number_of scaled_of elements array_of gather objects objects_after members object object_type type_of single feature typed_shape
+row_faults = simp (j.outs-Object, j.outs-Text, j.outs-Array, j.outs-Number, j.outs-Null)
 
 -- ---- objects over the arcs [[[0,0],[1,0]],[[2,0],[3,0]]]
 
+abbrev at : ℤ → ℤ → Point
+at x y = record { x = x; y = y }
+
 abbrev at_x : ℕ → Point
-at_x x = record { x = pos x; y = pos 0 }
+at_x x = at (pos x) (pos 0)
 
 abbrev two_arcs : List (List Point)
 two_arcs = (at_x 0 ∷ (at_x 1000000000 ∷ [])) ∷ ((at_x 2000000000 ∷ (at_x 3000000000 ∷ [])) ∷ [])
 
-abbrev position_json : List ℕ → Json
-position_json x = j.Array (j.Number x ∷ (j.Number (codes "0") ∷ []))
-
 abbrev two_arcs_json : Json
-two_arcs_json = j.Array (j.Array (position_json (codes "0") ∷ (position_json (codes "1") ∷ [])) ∷ (j.Array (position_json (codes "2") ∷ (position_json (codes "3") ∷ [])) ∷ []))
+two_arcs_json = j.Array (j.Array (pair (codes "0") (codes "0") ∷ (pair (codes "1") (codes "0") ∷ [])) ∷ (j.Array (pair (codes "2") (codes "0") ∷ (pair (codes "3") (codes "0") ∷ [])) ∷ []))
 
 two_arcs_read : (c : Counts) → arc_list None two_arcs_json c ≡ Ok (two_arcs, c)
 unfolding arc_list arc arc_cells position elements_position units number_text number_of scaled_of elements array_of gather
 two_arcs_read c = simp (j.outs-Array, j.outs-Number)
 
--- the topology with these arcs whose object `a` is this
+-- the topology of one object, and of one with neither identifier nor properties
 abbrev with_object : Json → Json
-with_object x = topology_with ((codes "objects", j.Object ((codes "a", x) ∷ [])) ∷ ((codes "arcs", two_arcs_json) ∷ []))
+with_object x = topology_of ((codes "a", x) ∷ []) two_arcs_json
 
-object_fault : (x : Json) (e : TopoFault) → object None two_arcs x no_counts ≡ Err e → topology (with_object x) ≡ Err e
-unfolding topology value_contents contents transform_if object_of text_of need named objects objects_after members
-object_fault x e h = simp (j.outs-Object, j.outs-Text, two_arcs_read no_counts, h)
-
-object_taken : (x : Json) (o : TopoObject) (c : Counts) → object None two_arcs x no_counts ≡ Ok (o, c) → topology (with_object x) ≡ Ok (record { objects = (codes "a", o) ∷ []; arcs = two_arcs; transform = None }, c)
-unfolding topology value_contents contents transform_if object_of text_of need named objects objects_after members
-object_taken x o c h = simp (j.outs-Object, j.outs-Text, two_arcs_read no_counts, h)
-
--- {"type":"Curve"}
-abbrev curve : Json
-curve = j.Object (typed (codes "Curve") ∷ [])
-
-row_curve : topology (with_object curve) ≡ Err UnknownType
-unfolding object members object_of object_type need named type_of geometry_type
-row_curve = object_fault curve UnknownType (simp (j.outs-Object, j.outs-Text))
-
--- a LineString of these elements
 abbrev line_string : List Json → Json
-line_string vs = j.Object (typed (codes "LineString") ∷ ((codes "arcs", j.Array vs) ∷ []))
+line_string vs = with_object (typed (codes "LineString") ((codes "arcs", j.Array vs) ∷ []))
 
--- the elements of a LineString, and the fault of the topology: an arc that does not meet the one before is reported before the next element
--- is looked at
-abbrev line_faults : List (List Json × TopoFault)
-line_faults =
-    (j.Number (codes "0.5") ∷ [], WrongKind)
-    ∷ (j.Number (codes "2") ∷ [], IndexRange)
-    ∷ (j.Number (codes "-3") ∷ [], IndexRange)
-    ∷ (j.Number (codes "9223372036854775807") ∷ [], IndexRange)
-    ∷ (j.Number (codes "-9223372036854775808") ∷ [], IndexRange)
-    ∷ (j.Number (codes "1e30") ∷ [], IndexRange)
-    ∷ (j.Number (codes "9223372036854775807.5") ∷ [], IndexRange)
-    ∷ (j.Number (codes "0") ∷ j.Number (codes "1") ∷ [], Unjoined)
-    ∷ (j.Number (codes "0") ∷ j.Number (codes "1") ∷ j.Text (codes "x") ∷ [], Unjoined)
-    ∷ (j.Number (codes "0") ∷ j.Text (codes "x") ∷ j.Number (codes "1") ∷ [], WrongKind)
+abbrev Read : Type 0
+Read = Result (Contents × Counts) TopoFault
+
+abbrev taken : TopoObject → ℕ → Read
+taken o empty = Ok (record { objects = (codes "a", o) ∷ []; arcs = two_arcs; transform = None }, record { rounded = 0; extra = 0; empty = empty })
+
+-- an arc that doesn't meet the one before is reported before the next element is looked at
+abbrev objects_read : List (Json × Read)
+objects_read =
+    (with_object (typed (codes "Curve") []), Err UnknownType)
+    ∷ (line_string (j.Number (codes "0.5") ∷ []), Err WrongKind)
+    ∷ (line_string (j.Number (codes "2") ∷ []), Err IndexRange)
+    ∷ (line_string (j.Number (codes "-3") ∷ []), Err IndexRange)
+    ∷ (line_string (j.Number (codes "9223372036854775807") ∷ []), Err IndexRange)
+    ∷ (line_string (j.Number (codes "-9223372036854775808") ∷ []), Err IndexRange)
+    ∷ (line_string (j.Number (codes "1e30") ∷ []), Err IndexRange)
+    ∷ (line_string (j.Number (codes "9223372036854775807.5") ∷ []), Err IndexRange)
+    ∷ (line_string (j.Number (codes "0") ∷ j.Number (codes "1") ∷ []), Err Unjoined)
+    ∷ (line_string (j.Number (codes "0") ∷ j.Number (codes "1") ∷ j.Text (codes "x") ∷ []), Err Unjoined)
+    ∷ (line_string (j.Number (codes "0") ∷ j.Text (codes "x") ∷ j.Number (codes "1") ∷ []), Err WrongKind)
+    ∷ (with_object (typed (codes "Polygon") ((codes "arcs", nested (j.Number (codes "0") ∷ [])) ∷ [])), Err OpenRing)
+    ∷ (line_string [], taken (One (record { id = None; properties = None; shape = None })) 1)
+    ∷ (line_string (j.Number (codes "-2") ∷ []), taken (One (record { id = None; properties = None; shape = Some (g.Line (negsuc 1 ∷ [])) })) 0)
     ∷ []
 
-row_line_faults : map (λ r. topology (with_object (line_string r.0))) line_faults ≡ map (λ r. Err r.1) line_faults
-unfolding topology value_contents contents transform_if object_of text_of need named objects objects_after members object object_type type_of geometry_type single feature typed_shape part arcs_shape some_elements array_of arcs_in line_in indexes indexes_after index number_text number_of scaled_of joins.number_of same
-row_line_faults = simp (j.outs-Object, j.outs-Text, j.outs-Array, j.outs-Number, two_arcs_read no_counts)
+row_objects : map (λ r. topology r.0) objects_read ≡ map (λ r. r.1) objects_read
+unfolding topology value_contents contents transform_if object_of text_of need named objects objects_after members object object_type type_of geometry_type single feature typed_shape part arcs_shape some_elements array_of arcs_in line_in polygon_in ring ring_in indexes indexes_after index number_text number_of scaled_of joins.number_of same
+row_objects = simp (j.outs-Object, j.outs-Text, j.outs-Array, j.outs-Number, two_arcs_read no_counts)
 
--- {"type":"Polygon","arcs":[[0]]}
-abbrev open_ring : Json
-open_ring = j.Object (typed (codes "Polygon") ∷ ((codes "arcs", j.Array (j.Array (j.Number (codes "0") ∷ []) ∷ [])) ∷ []))
-
-row_open_ring : topology (with_object open_ring) ≡ Err OpenRing
-unfolding object members object_of object_type need named type_of geometry_type single feature typed_shape part arcs_shape some_elements array_of arcs_in polygon_in ring ring_in indexes indexes_after index number_text number_of scaled_of joins.number_of same
-row_open_ring = object_fault open_ring OpenRing (simp (j.outs-Object, j.outs-Text, j.outs-Array, j.outs-Number))
-
--- {"type":"LineString","arcs":[]}
-row_empty_line : topology (with_object (line_string []))
-    ≡ Ok (record { objects = (codes "a", One (record { id = None; properties = None; shape = None })) ∷ []; arcs = two_arcs; transform = None }, record { rounded = 0; extra = 0; empty = 1 })
-unfolding object members object_of object_type need named type_of geometry_type single feature typed_shape part arcs_shape some_elements array_of
-row_empty_line = object_taken (line_string []) (One (record { id = None; properties = None; shape = None })) (record { rounded = 0; extra = 0; empty = 1 }) (simp (j.outs-Object, j.outs-Text, j.outs-Array))
-
--- {"type":"LineString","arcs":[-2]}
-abbrev reversed_line : TopoObject
-reversed_line = One (record { id = None; properties = None; shape = Some (g.Line (negsuc 1 ∷ [])) })
-
-row_reversed : topology (with_object (line_string (j.Number (codes "-2") ∷ []))) ≡ Ok (record { objects = (codes "a", reversed_line) ∷ []; arcs = two_arcs; transform = None }, no_counts)
-unfolding object members object_of object_type need named type_of geometry_type single feature typed_shape part arcs_shape some_elements array_of arcs_in line_in indexes indexes_after index number_text number_of scaled_of joins.number_of
-row_reversed = object_taken (line_string (j.Number (codes "-2") ∷ [])) reversed_line no_counts (simp (j.outs-Object, j.outs-Text, j.outs-Array, j.outs-Number))
-
--- it decodes to [[3,0],[2,0]]
+-- the last of them decodes to [[3,0],[2,0]]
 decoded_reversed : decoded_line two_arcs false (negsuc 1 ∷ []) ≡ at_x 3000000000 ∷ (at_x 2000000000 ∷ [])
 decoded_reversed = refl
+
+-- ---- transforms
+
+row_values : map transform_value (codes "0.1" ∷ codes "300000000" ∷ codes "300000001" ∷ []) ≡ Some (pos (10 ^ 19)) ∷ Some (pos (3 * 10 ^ 28)) ∷ None ∷ []
+unfolding transform_value scaled_of
+row_values = refl
+
+-- this scale, and a translate of zeros
+abbrev scale_json : List ℕ → List ℕ → Json
+scale_json x y = j.Object ((codes "scale", pair x y) ∷ ((codes "translate", pair (codes "0") (codes "0")) ∷ []))
+
+abbrev scaling : List ℕ → List ℕ → Transform
+scaling x y = record { scale = (x, y); translate = (codes "0", codes "0") }
+
+abbrev third : List ℕ
+third = codes "0.333333334"
+
+-- one arc of two cells whose y is 0
+abbrev along : List ℕ → List ℕ → Json
+along x y = nested (pair x (codes "0") ∷ pair y (codes "0") ∷ [])
+
+-- the greatest cell of the grid and then the least
+abbrev widest : List Point
+widest = at (pos (2 ^ 31)) (pos 0) ∷ (at (negsuc (2 ^ 31 - 1)) (pos 0) ∷ [])
+
+abbrev line_cells : List Point
+line_cells = at (pos 0) (pos 0) ∷ (at (pos 1) (pos 3) ∷ (at (pos 3) (pos 0) ∷ []))
+
+-- `transform` and `arcs` of a topology without objects, and what they are, or the fault
+abbrev transforms : List ((Json × Json) × Result (Option Transform × List (List Point)) TopoFault)
+transforms =
+    ((j.Null, j.Array []), Ok (None, []))
+    ∷ ((scale_json (codes "1") (codes "1"), j.Array []), Ok (Some (scaling (codes "1") (codes "1")), []))
+    ∷ ((scale_json (codes "0.1") (codes "0.1"), j.Array []), Ok (Some (scaling (codes "0.1") (codes "0.1")), []))
+    ∷ ((scale_json (codes "300000000") (codes "1"), j.Array []), Ok (Some (scaling (codes "300000000") (codes "1")), []))
+    ∷ ((scale_json (codes "300000001") (codes "1"), j.Array []), Err Range)
+    ∷ ((j.Object ((codes "translate", pair (codes "0") (codes "0")) ∷ []), j.Array []), Err Missing)
+    -- both pairs are looked at before any of the four numbers is taken
+    ∷ ((j.Object ((codes "scale", pair (codes "300000001") (codes "1")) ∷ ((codes "translate", j.Array (j.Number (codes "0") ∷ [])) ∷ [])), j.Array []), Err WrongKind)
+    -- half a cell; a second cell past the grid; the greatest cell and then the least; a difference past its limit
+    ∷ ((scale_json (codes "1") (codes "1"), along (codes "0") (codes "0.5")), Err GridNumber)
+    ∷ ((scale_json (codes "0.1") (codes "0.1"), along (codes "2147483648") (codes "1")), Err GridNumber)
+    ∷ ((scale_json (codes "0.1") (codes "0.1"), along (codes "2147483648") (codes "-4294967296")), Ok (Some (scaling (codes "0.1") (codes "0.1")), widest ∷ []))
+    ∷ ((scale_json (codes "0.1") (codes "0.1"), along (codes "2147483648") (codes "-4294967297")), Err GridNumber)
+    ∷ ((scale_json third third, nested (pair (codes "0") (codes "0") ∷ pair (codes "1") (codes "3") ∷ pair (codes "2") (codes "-3") ∷ [])), Ok (Some (scaling third third), line_cells ∷ []))
+    ∷ []
+
+abbrev bare : Result (Option Transform × List (List Point)) TopoFault → Read
+bare (Ok x) = Ok (record { objects = []; arcs = x.1; transform = x.0 }, no_counts)
+bare (Err e) = Err e
+
+row_transforms : map (λ r. topology (typed (codes "Topology") ((codes "transform", r.0.0) ∷ ((codes "objects", j.Object []) ∷ ((codes "arcs", r.0.1) ∷ []))))) transforms ≡ map (λ r. bare r.1) transforms
+unfolding topology value_contents contents object_of text_of need named objects objects_after members transform_if transform_members texts transform_pair transform_number arc_list arc arc_cells cells_after cell elements_cell grid_number grid_cell elements array_of number_text number_of scaled_of is_within place_on stands_for to_units transform_value gather
+row_transforms = simp (j.outs-Object, j.outs-Text, j.outs-Array, j.outs-Number, j.outs-Null)
+
+-- ---- places, which are no differences
+
+abbrev places : List ((Transform × Json) × Result Point TopoFault)
+places =
+    -- the place [0,0] is taken, and [1,0] lies too far
+    ((record { scale = (codes "1", codes "1"); translate = (codes "300000000", codes "0") }, pair (codes "0") (codes "0")), Ok (at_x 0))
+    ∷ ((record { scale = (codes "1", codes "1"); translate = (codes "300000000", codes "0") }, pair (codes "1") (codes "0")), Err Range)
+    ∷ ((scaling (codes "0.1") (codes "0.1"), pair (codes "2147483649") (codes "0")), Err GridNumber)
+    ∷ ((scaling third third, pair (codes "3") (codes "3")), Ok (at (pos 3) (pos 3)))
+    ∷ []
+
+abbrev uncounted : Counts → Result Point TopoFault → Result (Point × Counts) TopoFault
+uncounted c (Ok p) = Ok (p, c)
+uncounted c (Err e) = Err e
+
+row_places : (c : Counts) → map (λ r. place (Some r.0.0) r.0.1 c) places ≡ map (λ r. uncounted c r.1) places
+unfolding place elements_place elements_cell grid_number grid_cell elements array_of number_text number_of scaled_of is_within place_on stands_for to_units transform_value
+row_places c = simp (j.outs-Array, j.outs-Number)
+
+-- ---- where cells lie: those above, and some on the grid that was written in units of 10^-7, and on one of two scales
+
+abbrev lying : List (Transform × List Point × List Point)
+lying =
+    (scaling (codes "0.1") (codes "0.1"), widest, at (pos 214748364800000000) (pos 0) ∷ (at (negsuc 214748364799999999) (pos 0) ∷ []))
+    ∷ (scaling third third, line_cells, at (pos 0) (pos 0) ∷ (at (pos 333333334) (pos 1000000002) ∷ (at (pos 1000000002) (pos 0) ∷ [])))
+    ∷ (scaling third third, at (pos 3) (pos 3) ∷ [], at (pos 1000000002) (pos 1000000002) ∷ [])
+    ∷ (scaling (codes "0.3333334") (codes "0.3333334"), line_cells, at (pos 0) (pos 0) ∷ (at (pos 333333400) (pos 1000000200) ∷ (at (pos 1000000200) (pos 0) ∷ [])))
+    ∷ (record { scale = (codes "10", codes "0.000000001"); translate = (codes "0", codes "5") }, at (pos 0) (pos 0) ∷ (at (pos 1) (pos 0) ∷ []), at (pos 0) (pos 5000000000) ∷ (at (pos 10000000000) (pos 5000000000) ∷ []))
+    ∷ []
+
+row_lying : map (λ r. map (place_on r.0) r.1) lying ≡ map (λ r. r.2) lying
+unfolding place_on stands_for to_units transform_value scaled_of
+row_lying = refl

@@ -164,16 +164,16 @@ unfolding chars_at
 chars_takes zero bs x e = cc
 chars_takes (suc n) bs x e = after_takes (chars_at n) (chars_takes n) bs (after_plain bs) x (plain-split bs) e
 
--- after the first quotation mark: characters and a quotation mark
-abbrev pub TakesString : List ℕ → List ℕ → Type 0
-TakesString b t = (s : List ℕ) × SpellsChars s t × (b ≡ s ++ 34 ∷ [])
+-- after the first quotation mark: characters and a quotation mark, and the text fits
+abbrev pub TakesString : (List ℕ → Bool) → List ℕ → List ℕ → Type 0
+TakesString fits b t = (s : List ℕ) × SpellsChars s t × (b ≡ s ++ 34 ∷ []) × (fits t ≡ true)
 
 module _ (fits : List ℕ → Bool) where
-  text_takes : (t bs : List ℕ) (x : List ℕ × List ℕ) → if_text fits t bs ≡ Some x → (t ≡ x.0) × (bs ≡ x.1)
+  text_takes : (t bs : List ℕ) (x : List ℕ × List ℕ) → if_text fits t bs ≡ Some x → (t ≡ x.0) × (bs ≡ x.1) × (fits x.0 ≡ true)
   text_takes t bs x e = unfold if_text in grind (arith, chosen (fits t) (Some (t, bs)) None _ e, pair_is t bs x)
 
-  pub string_takes : IsSound TakesString (string_at fits)
+  pub string_takes : IsSound (TakesString fits) (string_at fits)
   string_takes bs x e = unfold string_at in option_and_then_some _ _ _ e (λ y f g.
       let p = text_takes y.0 y.1 x g in
       let r = chars_takes (length bs) bs y f in
-      (r.0 ++ 34 ∷ [], (r.0, subst (λ t. SpellsChars r.0 t) p.0 r.1, refl), r.2 ∙ rw append_assoc (ap (λ z. r.0 ++ (34 ∷ z)) p.1)))
+      (r.0 ++ 34 ∷ [], (r.0, subst (λ t. SpellsChars r.0 t) p.0 r.1, refl, p.2), r.2 ∙ rw append_assoc (ap (λ z. r.0 ++ (34 ∷ z)) p.1)))

@@ -1,3 +1,4 @@
+pub mod ByKind
 pub mod Depths
 pub mod Escapes
 mod Examples
@@ -11,6 +12,7 @@ pub mod NumbersOf
 pub mod Parts
 pub mod PlainLanes
 pub mod Runs
+pub mod Spelled
 pub mod SpelledNumbers
 pub mod SpelledTexts
 pub mod Texts

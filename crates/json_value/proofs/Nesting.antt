@@ -3,7 +3,9 @@ use Rattle.std.proofs.Common.{◌≡◌, ℕ, zero, suc, ◌≤◌, List, [], �
 use Rattle.json_value.specs.declared.json.Json.{Json}
 use Rattle.json_value.specs.declared.json.Json.TheVariants as j
 use Rattle.json_value.specs.Depth.{depth, greatest}
-use Rattle.json_value.proofs.Depths.{depth-null, depth-bool, depth-text, depth-number, depth-array, depth-object}
+use Rattle.json_value.proofs.Depths.{depth-array, depth-object}
+use Rattle.json_value.proofs.Inherits.{depth_inherits}
+use Rattle.json_value.proofs.Spelled.{spelled_has}
 use Rattle.json_value.specs.Grammar.{Spells, SpellsMember, SpellsElements, SpellsMembers, spells_null, spells_true, spells_false, spells_text, spells_number, spells_empty_array, spells_array, spells_empty_object, spells_object, spells_member, elements_last, elements_more, members_last, members_more, SpellsText, Reads}
 
 -- a number above another has one before it
@@ -12,28 +14,8 @@ above d zero h = absurd (omega arith)
 above d (suc e) h = (e, refl, omega arith)
 
 -- the value nests no deeper than the number says
-mutual
-  pub no_deeper : {d : ℕ} {t : List ℕ} {v : Json} → Spells d t v → depth v ≤ d
-  no_deeper spells_null = rw depth-null (omega arith)
-  no_deeper spells_true = rw depth-bool (omega arith)
-  no_deeper spells_false = rw depth-bool (omega arith)
-  no_deeper (spells_text s {t} h) = rw (depth-text t) (omega arith)
-  no_deeper (spells_number {d} {t} n) = rw (depth-number t) (omega arith)
-  no_deeper (spells_empty_array w h) = rw (depth-array []) (omega arith)
-  no_deeper (spells_array t {vs} s) = let below = elements_no_deeper s in rw (depth-array vs) (omega arith)
-  no_deeper (spells_empty_object w h) = rw (depth-object []) (omega arith)
-  no_deeper (spells_object t {ms} s) = let below = members_no_deeper s in rw (depth-object ms) (omega arith)
-
-  pub member_no_deeper : {d : ℕ} {t : List ℕ} {m : List ℕ × Json} → SpellsMember d t m → depth m.1 ≤ d
-  member_no_deeper (spells_member s w u t h hw hu v) = no_deeper v
-
-  pub elements_no_deeper : {d : ℕ} {t : List ℕ} {vs : List Json} → SpellsElements d t vs → greatest (map depth vs) ≤ d
-  elements_no_deeper (elements_last w t u hw s hu) = let one = no_deeper s in omega arith
-  elements_no_deeper (elements_more w t u ts hw s hu more) = let one = no_deeper s in let rest = elements_no_deeper more in omega arith
-
-  pub members_no_deeper : {d : ℕ} {t : List ℕ} {ms : List (List ℕ × Json)} → SpellsMembers d t ms → greatest (map (λ m. depth m.1) ms) ≤ d
-  members_no_deeper (members_last w t u hw s hu) = let one = member_no_deeper s in omega arith
-  members_no_deeper (members_more w t u ts hw s hu more) = let one = member_no_deeper s in let rest = members_no_deeper more in omega arith
+pub no_deeper : {d : ℕ} {t : List ℕ} {v : Json} → Spells d t v → depth v ≤ d
+no_deeper s = spelled_has (λ t. Unit {0}) (λ p r x h f. (tt, tt)) depth_inherits (λ t n. tt) (λ s t h f. tt) s tt
 
 -- each number that is no less than the depth of the value will do
 mutual

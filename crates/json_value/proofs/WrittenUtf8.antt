@@ -2,26 +2,23 @@
 use Rattle.std.proofs.Common.{◌≡◌, ℕ, ◌<◌, Bool, true, false, inl, inr, List, [], ◌∷◌, ◌++◌, map, if◌then◌else◌, refl, sym, subst, append_assoc, arith}
 use Rattle.std.specs.Prelude.{IsUtf8, codes}
 use Rattle.std.specs.Str.{IsAscii}
-use Rattle.std.specs.List.{flat_map, AllByRecursion}
+use Rattle.std.specs.List.{AllByRecursion}
 use Rattle.std.proofs.lemmas.Bool.Decides.{nat_tests}
 use Rattle.std.proofs.lemmas.Str.{IsUtf8-append, IsUtf8-from_ascii}
 use Rattle.std.proofs.lemmas.Str.Ascii.{IsAscii-nil}
 use Rattle.decimal_text.proofs.NumberBytes.{ascii_cons}
 use Rattle.owned_values.specs.Commas.{comma_unless, with_commas, comma_separated}
-use Rattle.json_value.specs.declared.json.Json.{Json, roll-Json, ind-Json, map-Json}
-use Rattle.json_value.specs.declared.json.Json.TheOpen.{Json-F}
+use Rattle.json_value.specs.declared.json.Json.{Json}
 use Rattle.json_value.specs.declared.json.Json.TheVariants as j
 use Rattle.json_value.specs.Grammar.{is_plain}
-use Rattle.json_value.specs.Numbers.{numbers_of}
 use Rattle.json_value.specs.Text.{json_text, hex_digit, escaped_byte, escaped, quoted}
-use Rattle.json_value.specs.WellFormed.{texts_of, HasTexts, IsWellFormed}
-use Rattle.json_value.proofs.NumbersOf.{numbers-number, numbers-array, numbers-object}
+use Rattle.json_value.specs.WellFormed.{IsWellFormed}
+use Rattle.json_value.proofs.Inherits.{Inherits, inherited}
 use Rattle.json_value.proofs.Runs.{plain_stays, plain_decides}
 use Rattle.json_value.proofs.Texts.{text-null, text-bool, text-number, text-text, text-array, text-object, one_member}
-use Rattle.json_value.proofs.TextsOf.{texts-text, texts-array, texts-object}
 use Rattle.json_value.proofs.Utf8.{ascii_split, ascii_one as one_utf8}
 use Rattle.json_value.proofs.Utf8Parts.{AreUtf8, formed_utf8, ascii, word}
-use Rattle.json_value.proofs.Written.{all_split}
+use Rattle.owned_values.proofs.Elements.{all_map, all_weaker}
 
 -- ---- strings
 
@@ -72,63 +69,30 @@ bracketed : (x y : ℕ) (ts : List (List ℕ)) → x < 128 → y < 128 → AllBy
 bracketed x y ts p q h =
     IsUtf8-append (x ∷ comma_separated ts) (y ∷ []) (IsUtf8-append (x ∷ []) (comma_separated ts) (one_utf8 x p) (commas_utf8 true ts h)) (one_utf8 y q)
 
--- ---- each value, by induction
+-- ---- each value
 
-abbrev Claim : Json → Type 0
-Claim v = AllByRecursion (λ z. IsUtf8 z) (numbers_of v) → HasTexts v → IsUtf8 (json_text v)
+member_utf8 : (m : List ℕ × Json) → IsUtf8 m.0 × IsUtf8 (json_text m.1) → IsUtf8 (one_member m)
+member_utf8 m h = IsUtf8-append (quoted m.0 ++ 58 ∷ []) (json_text m.1) (IsUtf8-append (quoted m.0) (58 ∷ []) (quoted_utf8 m.0 h.0) (one_utf8 58 (omega arith))) h.1
 
-abbrev Such : Type 0
-Such = (v : Json) × Claim v
+bool_utf8 : (n : ℕ) (b : Bool) → IsUtf8 (json_text (j.Bool b))
+bool_utf8 n true = rw (text-bool true) (word (codes "true") refl)
+bool_utf8 n false = rw (text-bool false) (word (codes "false") refl)
 
-abbrev inner : List ℕ × Such → List ℕ × Json
-inner m = (m.0, m.1.0)
-
-elements_utf8 : (ys : List Such) → AllByRecursion (λ z. IsUtf8 z) (flat_map numbers_of (map (λ e. e.0) ys)) → AllByRecursion IsUtf8 (flat_map texts_of (map (λ e. e.0) ys))
-    → AllByRecursion IsUtf8 (map json_text (map (λ e. e.0) ys))
-elements_utf8 [] n h = tt
-elements_utf8 (y ∷ ys) n h = grind (arith, elements_utf8 ys, all_split (λ z. IsUtf8 z) (numbers_of y.0) _ n, all_split IsUtf8 (texts_of y.0) _ h)
-
-member_utf8 : (m : List ℕ × Such) → AllByRecursion (λ z. IsUtf8 z) (numbers_of m.1.0) → IsUtf8 m.0 → HasTexts m.1.0 → IsUtf8 (one_member (inner m))
-member_utf8 m n name h = IsUtf8-append (quoted m.0 ++ 58 ∷ []) (json_text m.1.0) (IsUtf8-append (quoted m.0) (58 ∷ []) (quoted_utf8 m.0 name) (one_utf8 58 (omega arith))) (m.1.1 n h)
-
-members_utf8 : (ys : List (List ℕ × Such)) → AllByRecursion (λ z. IsUtf8 z) (flat_map (λ m. numbers_of m.1) (map inner ys)) → AllByRecursion IsUtf8 (flat_map (λ m. m.0 ∷ texts_of m.1) (map inner ys))
-    → AllByRecursion IsUtf8 (map one_member (map inner ys))
-members_utf8 [] n h = tt
-members_utf8 (y ∷ ys) n h =
-    grind (arith, members_utf8 ys, all_split (λ z. IsUtf8 z) (numbers_of y.1.0) _ n, all_split IsUtf8 (y.0 ∷ texts_of y.1.0) _ h, member_utf8 y)
-
-word_utf8 : (b : Bool) → Claim (j.Bool b)
-word_utf8 true n h = rw (text-bool true) (word (codes "true") refl)
-word_utf8 false n h = rw (text-bool false) (word (codes "false") refl)
-
-null_utf8 : Claim j.Null
-null_utf8 n h = rw text-null (word (codes "null") refl)
-
-number_claim : (t : List ℕ) → Claim (j.Number t)
-number_claim t n h = let p = rw (numbers-number t) at n in rw (text-number t) p.0
-
-text_claim : (t : List ℕ) → Claim (j.Text t)
-text_claim t n h = let p = rw (texts-text t) at h in rw (text-text t) (quoted_utf8 t p.0)
-
-array_claim : (ys : List Such) → Claim (j.Array (map (λ e. e.0) ys))
-array_claim ys n h = grind (arith, text-array, bracketed 91 93, elements_utf8 ys, numbers-array, texts-array)
-
-object_claim : (ys : List (List ℕ × Such)) → Claim (j.Object (map inner ys))
-object_claim ys n h = grind (arith, text-object, bracketed 123 125, one_member, members_utf8 ys, numbers-object, texts-object)
-
-step : (x : Json-F Json) (y : Json-F Such) → map-Json Such Json (λ e. e.0) y ≡ x → Claim (roll-Json x)
-step x Json-F.Null e = subst (λ z. Claim (roll-Json z)) e (subst Claim (sym j.rolls-Null) null_utf8)
-step x (Json-F.Bool b) e = subst (λ z. Claim (roll-Json z)) e (subst Claim (sym (j.rolls-Bool b)) (word_utf8 b))
-step x (Json-F.Number t) e = subst (λ z. Claim (roll-Json z)) e (subst Claim (sym (j.rolls-Number t)) (number_claim t))
-step x (Json-F.Text t) e = subst (λ z. Claim (roll-Json z)) e (subst Claim (sym (j.rolls-Text t)) (text_claim t))
-step x (Json-F.Array ys) e = subst (λ z. Claim (roll-Json z)) e (subst Claim (sym (j.rolls-Array (map (λ e. e.0) ys))) (array_claim ys))
-step x (Json-F.Object ys) e = subst (λ z. Claim (roll-Json z)) e (subst Claim (sym (j.rolls-Object (map inner ys))) (object_claim ys))
-
-any_value : (v : Json) → Claim v
-any_value = ind-Json Claim step
+written_inherits : Inherits (λ t. IsUtf8 t) (λ t. IsUtf8 t) (λ n v. IsUtf8 (json_text v))
+written_inherits = record {
+  word = word;
+  null = λ n. rw text-null (word (codes "null") refl);
+  bool = bool_utf8;
+  number = λ n t h. rw (text-number t) h;
+  text = λ n t h. rw (text-text t) (quoted_utf8 t h);
+  array = λ n vs h. rw (text-array vs) (bracketed 91 93 (map json_text vs) (omega arith) (omega arith) (all_map (λ t. IsUtf8 t) json_text vs h));
+  object = λ n ms h. rw (text-object ms) (bracketed 123 125 (map one_member ms) (omega arith) (omega arith)
+      (all_map (λ t. IsUtf8 t) one_member ms (all_weaker (λ m. IsUtf8 m.0 × IsUtf8 (json_text m.1)) (λ m. IsUtf8 (one_member m)) member_utf8 ms h)));
+  deeper = λ n k v le h. h;
+}
 
 pub parts_written_utf8 : (v : Json) → AreUtf8 v → IsUtf8 (json_text v)
-parts_written_utf8 v h = any_value v h.numbers h.texts
+parts_written_utf8 v h = inherited written_inherits v h.numbers h.texts
 
 pub written_utf8 : (v : Json) → IsWellFormed v → IsUtf8 (json_text v)
 written_utf8 v h = parts_written_utf8 v (formed_utf8 v h)

@@ -30,21 +30,12 @@ taken (Err d) f y e = absurd cc
 abbrev pub okay : {C E A : Type 0} → A × C → Result (A × C) E
 okay x = Ok x
 
-abbrev value_or : {C E A : Type 0} → A → Result (A × C) E → A
-value_or a (Ok x) = x.0
-value_or a (Err e) = a
-
--- equal successes give the same
+-- equal successes give the same, and have equal counts
 pub first_is : {C E A : Type 0} {a b : A} {c d : C} → okay {C = C} {E = E} (a, c) ≡ okay (b, d) → a ≡ b
-first_is {a = a} h = ap (value_or a) h
+first_is {C} {E} {A} {a} {b} {c} {d} h = let same : ◌≡◌ {A = A × C} (a, c) (b, d) = cc in ap (λ p. p.0) same
 
-abbrev counts_or : {C E A : Type 0} → C → Result (A × C) E → C
-counts_or c (Ok x) = x.1
-counts_or c (Err e) = c
-
--- equal successes have equal counts
 pub second_is : {C E A : Type 0} {a b : A} {c d : C} → okay {C = C} {E = E} (a, c) ≡ okay (b, d) → c ≡ d
-second_is {c = c} h = ap (counts_or c) h
+second_is {C} {E} {A} {a} {b} {c} {d} h = let same : ◌≡◌ {A = A × C} (a, c) (b, d) = cc in ap (λ p. p.1) same
 
 -- ---- readers
 

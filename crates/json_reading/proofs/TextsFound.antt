@@ -12,7 +12,8 @@ use Rattle.json_value.specs.Reading.{skip, after_word, ended, document, text_at}
 use Rattle.json_reading.proofs.Words.{skip-space, skip_all, after_word_again}
 use Rattle.json_reading.proofs.Ending.{Ends-only}
 use Rattle.json_reading.proofs.NumbersFound.{number_no_word}
-use Rattle.json_reading.proofs.ValuesFound.{skip_value, found, after_space, before_space}
+use Rattle.json_reading.proofs.ValuesFound.{skip_value, found}
+use Rattle.json_value.proofs.Spelled.{after_space, before_space}
 use Rattle.json_value.proofs.Utf8.{ascii_split, text_utf8}
 
 value_no_mark : {d : ℕ} {t : List ℕ} {v : Json} → Spells d t v → (rest : List ℕ) → after_word mark (t ++ rest) ≡ None
@@ -30,7 +31,7 @@ module _ (fits : List ℕ → Bool) (Fit : List ℕ → Type 0) (text : (s t : L
   document_again : (d : ℕ) (b : List ℕ) (v : Json) → Fit b → SpellsText d b v → document fits d b ≡ Some v
   document_again d b v f r = unfold document ended in
       let t = r.1 in let u = r.2 in
-      let here : Fit t = after_space fits Fit text split r.0 t r.3 (before_space fits Fit text split (r.0 ++ t) u r.5 (subst Fit r.6 f)) in
+      let here : Fit t = after_space Fit split r.0 t r.3 (before_space Fit split (r.0 ++ t) u r.5 (subst Fit r.6 f)) in
       let prefix : skip b ≡ t ++ u = rw (r.6, append_assoc) (skip-space r.0 (t ++ u) r.3 ∙ skip_value r.4 u) in
       rw (prefix, found fits Fit text split r.4 here u (Ends-only u r.5), skip_all u r.5) refl
 

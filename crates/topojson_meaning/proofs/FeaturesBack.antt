@@ -13,15 +13,6 @@ use Rattle.topojson_meaning.proofs.ValidKept.{IsLineOrRing}
 
 -- ---- members
 
--- a name that isn't `id` isn't found there
-past_id : (name : List ℕ) (i : Option Id) (ms : Members) → bytes_eq (codes "id") name ≡ false → named name (id_members i ++ ms) ≡ named name ms
-unfolding named
-past_id name i ms h = grind arith
-
-past_properties : (name : List ℕ) (ps : Option Members) (ms : Members) → bytes_eq (codes "properties") name ≡ false → named name (properties_members ps ++ ms) ≡ named name ms
-unfolding named
-past_properties name ps ms h = grind arith
-
 -- the members of a feature whose shape is made of these
 abbrev pub feature_members : Option Id → Option Members → Json → Members → Members
 feature_members i ps t parts = (codes "type", t) ∷ (id_members i ++ (properties_members ps ++ parts))
@@ -38,23 +29,9 @@ pub record Found (i : Option Id) (ps : Option Members) (t : Json) (parts : Membe
 abbrev AreParts : Members → Type 0
 AreParts parts = (named (codes "type") parts ≡ []) × (named (codes "id") parts ≡ []) × (named (codes "properties") parts ≡ [])
 
-module _ (i : Option Id) (ps : Option Members) (t : Json) (parts : Members) where
-  past_both : (name : List ℕ) → bytes_eq (codes "type") name ≡ false → bytes_eq (codes "id") name ≡ false → bytes_eq (codes "properties") name ≡ false
-      → named name (feature_members i ps t parts) ≡ named name parts
-  unfolding named
-  past_both name e f k = rw e (past_id name i (properties_members ps ++ parts) f ∙ past_properties name ps parts k)
-
-  type_found : named (codes "type") parts ≡ [] → need (codes "type") (feature_members i ps t parts) ≡ Ok t
-  unfolding need named
-  type_found e = ap (λ ts. with_fault lookup_fault (there (only (t ∷ ts)))) (past_id (codes "type") i (properties_members ps ++ parts) refl ∙ past_properties (codes "type") ps parts refl ∙ e)
-
-  id_found : named (codes "id") parts ≡ [] → find (codes "id") (feature_members i ps t parts) ≡ Ok (map_some id_value i)
-  unfolding named
-  id_found e = grind (arith, past_properties)
-
-  found : AreParts parts → Found i ps t parts
-  unfolding need named
-  found h = grind (arith, type_found, id_found, past_id, past_both)
+found : (i : Option Id) (ps : Option Members) (t : Json) (parts : Members) → AreParts parts → Found i ps t parts
+unfolding need named
+found i ps t parts h = grind (arith, i, ps)
 
 -- ---- identifiers and properties
 

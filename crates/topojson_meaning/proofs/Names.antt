@@ -20,7 +20,7 @@ pub use Rattle.json_value.proofs.KindsOf.{object_of-object, text_of-text, array_
 pub use Rattle.json_value.proofs.Parts.{given, need_part, gather_map, need_map, pure_map, find_part}
 pub use Rattle.json_value.proofs.Yields.{Yields, pure_then, each_of_yields}
 unfoldable pub use Rattle.json_value.specs.Kinds.{array_of, object_of, text_of, number_of}
-pub use Rattle.json_value.specs.declared.json.Json.{Json, roll-Json, ind-Json, map-Json}
+pub use Rattle.json_value.specs.declared.json.Json.{Json, roll-Json, map-Json}
 pub use Rattle.json_value.specs.declared.json.Json.TheFolds.{para-Json, para-roll-Json}
 pub use Rattle.json_value.specs.declared.json.Json.TheOpen.{Json-F}
 pub use Rattle.json_value.specs.declared.json.Json.TheViews.{out-Json}

@@ -87,51 +87,6 @@ module _ (transform : Option Transform) (arcs : List (List Point)) (long : AllBy
       → Gives (part transform arcs type v) (Some s) → Parts transform arcs s
   made s type name v is known e reads = record { type = type; name = name; value = v; is = is; known = known; reads = reads; single = λ _. e }
 
-  at_point : (p : Point) → Back (g.Point p)
-  unfolding geometry_type part places_shape places_in elements_place
-  at_point p h =
-      let back = elements_place_back transform p (subst (AllByRecursion (IsPlace transform)) (places_at.point p) h.1).0 in
-      made (g.Point p) (Places of_places.Point) (codes "Point") (cell_value transform p) ((geometrical_at (cell_value transform)).point p) refl refl
-      (elements_back (places_in transform of_places.Point) (number_value (cell_places transform)) (p.x ∷ (p.y ∷ [])) (g.Point p) refl (λ c. rw (back c) refl))
-
-  at_points : (ps : List Point) → Back (g.MultiPoint ps)
-  unfolding geometry_type part places_shape places_in
-  at_points ps h =
-      let f : is_some_list ps ≡ true = sym (full_at.points ps) ∙ h.0 in
-      let back = each_place_back transform ps (subst (AllByRecursion (IsPlace transform)) (places_at.points ps) h.1) in
-      made (g.MultiPoint ps) (Places of_places.MultiPoint) (codes "MultiPoint") (j.Array (map (cell_value transform) ps)) ((geometrical_at (cell_value transform)).points ps) refl refl
-      (elements_back (places_in transform of_places.MultiPoint) (cell_value transform) ps (g.MultiPoint ps) f (λ c. rw (back c, made_of_some g.MultiPoint ps f) refl))
-
-  at_line : (refs : List ℤ) → Back (g.Line refs)
-  unfolding geometry_type part arcs_shape arcs_in
-  at_line refs h =
-      let back = line_in_back transform arcs long few refs (subst (AllByRecursion (IsLineOrRing arcs)) (lines_and_rings-line Point (List ℤ) refs) h.2).0 in
-      made (g.Line refs) (Arcs of_arcs.LineString) (codes "LineString") (line_value refs) ((geometrical_at (cell_value transform)).line refs) refl refl
-      (elements_back (arcs_in arcs of_arcs.LineString) whole_value refs (g.Line refs) (sym (full_at.line refs) ∙ h.0) (λ c. rw (back c) refl))
-
-  at_lines : (ls : List (List ℤ)) → Back (g.Lines ls)
-  unfolding geometry_type part arcs_shape arcs_in
-  at_lines ls h =
-      let f = and_parts (is_some_list ls) (list_all is_some_list ls) (sym (full_at.lines ls) ∙ h.0) in
-      let back = lines_back transform arcs long few ls (full_lines arcs false ls f.1 (subst (AllByRecursion (IsLineOrRing arcs)) (lines_and_rings-lines Point (List ℤ) ls) h.2)) in
-      made (g.Lines ls) (Arcs of_arcs.MultiLineString) (codes "MultiLineString") (lines_value ls) ((geometrical_at (cell_value transform)).lines ls) refl refl
-      (elements_back (arcs_in arcs of_arcs.MultiLineString) line_value ls (g.Lines ls) f.0 (λ c. rw (back c, made_of_some g.Lines ls f.0) refl))
-
-  at_area : (rs : List (List ℤ)) → Back (g.Area rs)
-  unfolding geometry_type part arcs_shape arcs_in
-  at_area rs h =
-      let k = full_area arcs rs (sym (full_at.area rs) ∙ h.0) (subst (AllByRecursion (IsLineOrRing arcs)) (lines_and_rings-area Point (List ℤ) rs) h.2) in
-      made (g.Area rs) (Arcs of_arcs.Polygon) (codes "Polygon") (lines_value rs) ((geometrical_at (cell_value transform)).area rs) refl refl
-      (elements_back (arcs_in arcs of_arcs.Polygon) line_value rs (g.Area rs) k.0 (λ c. rw (polygon_in_back transform arcs long few rs k c) refl))
-
-  at_areas : (areas : List (List (List ℤ))) → Back (g.Areas areas)
-  unfolding geometry_type part arcs_shape arcs_in
-  at_areas areas h =
-      let f = and_parts (is_some_list areas) (list_all (λ rs. is_some_list rs && list_all is_some_list rs) areas) (sym (full_at.areas areas) ∙ h.0) in
-      let back = polygons_back transform arcs long few areas (full_areas arcs areas f.1 (subst (AllByRecursion (IsLineOrRing arcs)) (lines_and_rings-areas Point (List ℤ) areas) h.2)) in
-      made (g.Areas areas) (Arcs of_arcs.MultiPolygon) (codes "MultiPolygon") (j.Array (map lines_value areas)) ((geometrical_at (cell_value transform)).areas areas) refl refl
-      (elements_back (arcs_in arcs of_arcs.MultiPolygon) lines_value areas (g.Areas areas) f.0 (λ c. rw (back c, made_of_some g.Areas areas f.0) refl))
-
   each_parts : (ss : List TopoShape) → AllByRecursion Back ss → list_all is_full ss ≡ true → AllByRecursion (IsPlace transform) (joined (map places ss)) → AllByRecursion (IsLineOrRing arcs) (joined (map lines_and_rings ss))
       → AllByRecursion (Parts transform arcs) ss
   each_parts [] all f h k = tt
@@ -141,17 +96,42 @@ module _ (transform : Option Transform) (arcs : List (List Point)) (long : AllBy
   unfolding part
   group_back ss all c = rw (shapes_array transform arcs (map (λ s. inner_value (geometrical (cell_value transform) s)) ss), kept_gives (Parts transform arcs) (λ s. inner_value (geometrical (cell_value transform) s)) (shape transform arcs) inner_back ss all c) refl
 
-  at_group : (ss : List TopoShape) → AllByRecursion Back ss → Back (g.Group ss)
-  unfolding geometry_type
-  at_group ss all h = record {
-    type = Collection;
-    name = codes "GeometryCollection";
-    value = j.Array (map (λ s. inner_value (geometrical (cell_value transform) s)) ss);
-    is = geometrical-group (cell_value transform) ss;
-    known = refl;
-    reads = group_back ss (each_parts ss all (sym (full-group ss) ∙ h.0) (subst (AllByRecursion (IsPlace transform)) (places_at.group ss) h.1) (subst (AllByRecursion (IsLineOrRing arcs)) (lines_and_rings-group Point (List ℤ) ss) h.2));
-    single = λ e. let f : false ≡ true = sym (single_at.group ss) ∙ e in absurd cc;
-  }
-
   pub shape_parts : (s : TopoShape) → Fine transform arcs s → Parts transform arcs s
-  shape_parts = by_kinds Back (record { point = at_point; points = at_points; line = at_line; lines = at_lines; area = at_area; areas = at_areas; group = at_group })
+  unfolding geometry_type part places_shape places_in arcs_shape arcs_in elements_place
+  shape_parts = by_kinds Back (record {
+    point = λ p h. let back = elements_place_back transform p (subst (AllByRecursion (IsPlace transform)) (places_at.point p) h.1).0 in
+        made (g.Point p) (Places of_places.Point) (codes "Point") (cell_value transform p) ((geometrical_at (cell_value transform)).point p) refl refl
+        (elements_back (places_in transform of_places.Point) (number_value (cell_places transform)) (p.x ∷ (p.y ∷ [])) (g.Point p) refl (λ c. rw (back c) refl));
+    points = λ ps h.
+        let f : is_some_list ps ≡ true = sym (full_at.points ps) ∙ h.0 in
+        let back = each_place_back transform ps (subst (AllByRecursion (IsPlace transform)) (places_at.points ps) h.1) in
+        made (g.MultiPoint ps) (Places of_places.MultiPoint) (codes "MultiPoint") (j.Array (map (cell_value transform) ps)) ((geometrical_at (cell_value transform)).points ps) refl refl
+        (elements_back (places_in transform of_places.MultiPoint) (cell_value transform) ps (g.MultiPoint ps) f (λ c. rw (back c, made_of_some g.MultiPoint ps f) refl));
+    line = λ refs h.
+        let back = line_in_back transform arcs long few refs (subst (AllByRecursion (IsLineOrRing arcs)) (lines_and_rings-line Point (List ℤ) refs) h.2).0 in
+        made (g.Line refs) (Arcs of_arcs.LineString) (codes "LineString") (line_value refs) ((geometrical_at (cell_value transform)).line refs) refl refl
+        (elements_back (arcs_in arcs of_arcs.LineString) whole_value refs (g.Line refs) (sym (full_at.line refs) ∙ h.0) (λ c. rw (back c) refl));
+    lines = λ ls h.
+        let f = and_parts (is_some_list ls) (list_all is_some_list ls) (sym (full_at.lines ls) ∙ h.0) in
+        let back = lines_back transform arcs long few ls (full_lines arcs false ls f.1 (subst (AllByRecursion (IsLineOrRing arcs)) (lines_and_rings-lines Point (List ℤ) ls) h.2)) in
+        made (g.Lines ls) (Arcs of_arcs.MultiLineString) (codes "MultiLineString") (lines_value ls) ((geometrical_at (cell_value transform)).lines ls) refl refl
+        (elements_back (arcs_in arcs of_arcs.MultiLineString) line_value ls (g.Lines ls) f.0 (λ c. rw (back c, made_of_some g.Lines ls f.0) refl));
+    area = λ rs h.
+        let k = full_area arcs rs (sym (full_at.area rs) ∙ h.0) (subst (AllByRecursion (IsLineOrRing arcs)) (lines_and_rings-area Point (List ℤ) rs) h.2) in
+        made (g.Area rs) (Arcs of_arcs.Polygon) (codes "Polygon") (lines_value rs) ((geometrical_at (cell_value transform)).area rs) refl refl
+        (elements_back (arcs_in arcs of_arcs.Polygon) line_value rs (g.Area rs) k.0 (λ c. rw (polygon_in_back transform arcs long few rs k c) refl));
+    areas = λ areas h.
+        let f = and_parts (is_some_list areas) (list_all (λ rs. is_some_list rs && list_all is_some_list rs) areas) (sym (full_at.areas areas) ∙ h.0) in
+        let back = polygons_back transform arcs long few areas (full_areas arcs areas f.1 (subst (AllByRecursion (IsLineOrRing arcs)) (lines_and_rings-areas Point (List ℤ) areas) h.2)) in
+        made (g.Areas areas) (Arcs of_arcs.MultiPolygon) (codes "MultiPolygon") (j.Array (map lines_value areas)) ((geometrical_at (cell_value transform)).areas areas) refl refl
+        (elements_back (arcs_in arcs of_arcs.MultiPolygon) lines_value areas (g.Areas areas) f.0 (λ c. rw (back c, made_of_some g.Areas areas f.0) refl));
+    group = λ ss all h. record {
+      type = Collection;
+      name = codes "GeometryCollection";
+      value = j.Array (map (λ s. inner_value (geometrical (cell_value transform) s)) ss);
+      is = geometrical-group (cell_value transform) ss;
+      known = refl;
+      reads = group_back ss (each_parts ss all (sym (full-group ss) ∙ h.0) (subst (AllByRecursion (IsPlace transform)) (places_at.group ss) h.1) (subst (AllByRecursion (IsLineOrRing arcs)) (lines_and_rings-group Point (List ℤ) ss) h.2));
+      single = λ e. let f : false ≡ true = sym (single_at.group ss) ∙ e in absurd cc;
+    };
+  })

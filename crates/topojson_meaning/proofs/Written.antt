@@ -22,7 +22,10 @@ use Rattle.topojson_types.proofs.Parts.{parts_all}
 use Rattle.topojson_types.proofs.Boxes.{AreCorners, corners_are}
 use Rattle.topojson_meaning.specs.Bounds.{objects_features, feature_nesting, FeatureHasNumbers}
 use Rattle.topojson_meaning.proofs.ShapeKinds.{geometrical-group, written_members}
+use Rattle.topojson_meaning.proofs.FeaturesBack.{FineFeature}
 use Rattle.topojson_meaning.proofs.LinesBack.{magnitude}
+use Rattle.topojson_meaning.proofs.TopologiesBack.{features_fine}
+use Rattle.topojson_meaning.proofs.ValidKept.{IsLineOrRing}
 
 nest_at : AtKinds (nesting {P = Point} {L = List ℤ}) nesting_step
 nest_at = nesting_at Point (List ℤ)
@@ -301,40 +304,23 @@ corners_spelled : (b : Option Corners) → AreCorners b → SpelledCorners numbe
 corners_spelled None h = tt
 corners_spelled (Some b) h = (place_spelled None b.0 h.0, place_spelled None b.1 h.1)
 
--- what is known of the lines and the Points of a feature
-abbrev Stands : Contents → TopoFeature → Type 0
-Stands t f = IsFeature t.transform f × AllByRecursion (λ b. AreInRange (length t.arcs) b.1) (option_lines_and_rings f.shape)
-
-object_stands : (t : Contents) (o : TopoObject) → IsObject t.transform o → AllByRecursion (λ b. AreInRange (length t.arcs) b.1) (features_lines_and_rings (object_features o)) → AllByRecursion (Stands t) (object_features o)
-object_stands t (One f) h k = ((h.0, all_left (λ b. AreInRange (length t.arcs) b.1) (option_lines_and_rings f.shape) [] k), tt)
-object_stands t (Many fs) h k =
-    all_two (IsFeature t.transform) (λ f. AllByRecursion (λ b. AreInRange (length t.arcs) b.1) (option_lines_and_rings f.shape)) (Stands t) (λ f a b. (a, b)) fs h
-    (parts_all (λ b. AreInRange (length t.arcs) b.1) (λ (f : TopoFeature). option_lines_and_rings f.shape) fs k)
-
-features_stand : (t : Contents) → IsTopology t → AllByRecursion (Stands t) (objects_features t.objects)
-features_stand t h =
-    all_parts (Stands t) (λ (o : List ℕ × TopoObject). object_features o.1) t.objects
-    (all_two (λ o. IsObject t.transform o.1) (λ o. AllByRecursion (λ b. AreInRange (length t.arcs) b.1) (features_lines_and_rings (object_features o.1))) (λ o. AllByRecursion (Stands t) (object_features o.1))
-    (λ o a b. object_stands t o.1 a b) t.objects h.objects
-    (parts_all (λ b. AreInRange (length t.arcs) b.1) (λ (o : List ℕ × TopoObject). features_lines_and_rings (object_features o.1)) t.objects h.ranged))
-
-feature_numbers : (t : Contents) (n : ℕ) → 0 < n → length t.arcs < 2 ^ 63 → (f : TopoFeature) → Stands t f × FeatureHasNumbers f → option_nesting f.shape ≤ n → FeatureHas numbers_inherit n f
+feature_numbers : (t : Contents) (n : ℕ) → 0 < n → length t.arcs < 2 ^ 63 → (f : TopoFeature) → FineFeature t.transform t.arcs f × FeatureHasNumbers f → option_nesting f.shape ≤ n → FeatureHas numbers_inherit n f
 feature_numbers t n some few f h le = record {
   some = some;
   nests = le;
   id = id_has numbers_inherit f.id (λ t e. tt) (λ t e. subst IdHasNumbers e h.1.0);
   properties = λ k m. properties_have numbers_inherit f.properties k (λ ms e. subst PropertiesHaveNumbers e h.1.1);
   cells = places_spelled t.transform (option_places f.shape) h.0.0.1;
-  lines = all_weaker (λ b. AreInRange (length t.arcs) b.1) (SpelledLine numbers_inherit) (refs_spelled (length t.arcs) few) (option_lines_and_rings f.shape) h.0.1;
+  lines = all_weaker (IsLineOrRing t.arcs) (SpelledLine numbers_inherit) (λ b k. refs_spelled (length t.arcs) few b k.0) (option_lines_and_rings f.shape) h.0.1;
 }
 
 pub topology_numbers : ValueHasNumbers
 unfolding deepest
 topology_numbers t h m =
-    let known = all_two (Stands t) FeatureHasNumbers (λ f. Stands t f × FeatureHasNumbers f) (λ f a b. (a, b)) (objects_features t.objects) (features_stand t h.0) m in
+    let known = all_two (FineFeature t.transform t.arcs) FeatureHasNumbers (λ f. FineFeature t.transform t.arcs f × FeatureHasNumbers f) (λ f a b. (a, b)) (objects_features t.objects) (features_fine t h.0) m in
     topology_has numbers_inherit (deepest t) t (record {
       names = all_of (λ (o : List ℕ × TopoObject). Unit {0}) t.objects (λ o k. tt);
-      features = all_two (λ f. Stands t f × FeatureHasNumbers f) (λ f. option_nesting f.shape ≤ deepest t) (FeatureHas numbers_inherit (deepest t)) (feature_numbers t (deepest t) (omega arith) h.1) (objects_features t.objects) known (nest t);
+      features = all_two (λ f. FineFeature t.transform t.arcs f × FeatureHasNumbers f) (λ f. option_nesting f.shape ≤ deepest t) (FeatureHas numbers_inherit (deepest t)) (feature_numbers t (deepest t) (omega arith) h.1) (objects_features t.objects) known (nest t);
       transform = transform_numbers numbers_inherit transform_text t.transform h.0.transform;
       corners = corners_spelled (bounds t) (corners_are t h.0);
       arcs = all_weaker (IsArc t.transform) (λ cs. AllByRecursion (SpelledCell numbers_inherit) (written_cells t.transform cs)) (arc_spelled t.transform) t.arcs h.0.arcs;

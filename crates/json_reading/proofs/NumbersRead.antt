@@ -24,10 +24,7 @@ SomeDigits bs rest = (b : ℕ) × (t : List ℕ) × (is_digit b ≡ true) × All
 some_takes : (bs rest : List ℕ) → after_some_digits bs ≡ Some rest → SomeDigits bs rest
 unfolding after_some_digits
 some_takes [] rest e = cc
-some_takes (b ∷ bs) rest e = elim (chosen (is_digit b) (Some (after_digits bs)) None _ e) [
-  | inl h ↦ (let r = digits_takes bs in let same : after_digits bs ≡ rest = (let f = h.1 in cc) in (b, r.0, h.0, r.1, ap (λ xs. b ∷ xs) r.2 ∙ ap (λ xs. b ∷ (r.0 ++ xs)) same))
-  | inr h ↦ (let wrong = h.1 in cc)
-]
+some_takes (b ∷ bs) rest e = grind (arith, digits_takes bs)
 
 abbrev Part : (List ℕ → Type 0) → List ℕ → List ℕ → Type 0
 Part R bs rest = (t : List ℕ) × R t × (bs ≡ t ++ rest)

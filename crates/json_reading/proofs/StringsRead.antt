@@ -25,10 +25,7 @@ plain-split (b ∷ bs) = grind (arith, plain-split bs)
 plain_spelled : (bs s t : List ℕ) → SpellsChars s t → SpellsChars (plain_prefix bs ++ s) (plain_prefix bs ++ t)
 unfolding plain_prefix
 plain_spelled [] s t h = h
-plain_spelled (b ∷ bs) s t h = elim (chosen (is_plain b) (b ∷ plain_prefix bs) [] _ refl) [
-  | inl k ↦ subst (λ z. SpellsChars (z ++ s) (z ++ t)) k.1 (chars_plain b k.0 (plain_spelled bs s t h))
-  | inr k ↦ subst (λ z. SpellsChars (z ++ s) (z ++ t)) k.1 h
-]
+plain_spelled (b ∷ bs) s t h = grind (arith, plain_decides b, chars_plain, plain_spelled bs s t h)
 
 -- what the code cuts off
 pub plain_front : (bs : List ℕ) → take (prefix_len is_plain bs) bs ≡ plain_prefix bs

@@ -12,7 +12,7 @@ use Rattle.json_value.proofs.NumbersOf.{all_flat, numbers-null, numbers-bool, nu
 use Rattle.json_value.proofs.Utf8Parts.{AreUtf8, null_utf8, number_value_utf8, text_value_utf8, array_utf8, object_utf8, is_ascii, word}
 use Rattle.json_value.specs.WellFormed.{texts_of}
 use Rattle.json_value.proofs.ByKind.{by_kinds}
-use Rattle.json_value.proofs.TextsOf.{texts-bool, texts-number, texts-text, texts-array, texts-object}
+use Rattle.json_value.proofs.TextsOf.{texts-bool, texts-text, texts-array, texts-object}
 use Rattle.owned_values.proofs.Elements.{all_map, all_weaker, all_left, all_right}
 
 -- `X n v` is what is said of a value `v`, with how deep it may nest, `Number` what its numbers have to be, and `Text` its texts and names.

@@ -1,5 +1,5 @@
 -- A value that UTF-8 bytes spell is well formed: its texts and names are UTF-8 too.
-use Rattle.std.proofs.Common.{ℕ, inl, inr, List, [], ◌∷◌, ◌++◌, refl, subst}
+use Rattle.std.proofs.Common.{ℕ, inl, inr, List, [], ◌++◌, refl, subst}
 use Rattle.std.specs.Prelude.{IsUtf8}
 use Rattle.std.proofs.lemmas.Str.{IsUtf8-past_char}
 use Rattle.std.proofs.Math.Utf8.{encode}

@@ -1,11 +1,10 @@
 -- The features and objects that are written are read back.
-use Rattle.std.proofs.Common.{◌≡◌, ℕ, ◌<◌, true, false, List, [], ◌∷◌, ◌++◌, length, Option, Some, None, Ok, refl, sym, ap, ◌∙◌, subst, arith}
+use Rattle.std.proofs.Common.{◌≡◌, ℕ, ◌<◌, true, false, List, [], ◌∷◌, ◌++◌, length, Option, Some, None, Ok, refl, sym, ap, subst, arith}
 use Rattle.std.specs.Prelude.{codes, ◌^◌, bytes_eq}
-use Rattle.topojson_meaning.proofs.Names.{AllByRecursion, map_some, Point, option_lines_and_rings, Json, Id, TopoShape, IsPlace, IsArc, IsFeature, is_full_option, option_places, is_single_option, TopoFeature, Transform, identifier, identifier_in, members_if, members_in, feature, feature_element, part_name, is_collection, type_in, type_of, object_type, lookup_fault, named, find, need, with_fault, typed_shape, GeometryType}
+use Rattle.topojson_meaning.proofs.Names.{AllByRecursion, map_some, Point, option_lines_and_rings, Json, Id, TopoShape, IsPlace, IsArc, IsFeature, is_full_option, option_places, is_single_option, TopoFeature, Transform, identifier, identifier_in, members_if, members_in, feature, feature_element, part_name, is_collection, type_in, type_of, object_type, named, find, need, typed_shape, GeometryType}
 use Rattle.json_value.specs.declared.json.Json.TheVariants as j
 use Rattle.geojson_types.specs.declared.id.Id.TheVariants as id
 use Rattle.topojson_types.specs.Values.{Members, Geometrical, id_value, id_members, properties_members, typed, cell_value, geometrical, geometrical_option, feature_value}
-use Rattle.json_value.specs.Members.{only, there}
 use Rattle.topojson_meaning.proofs.ArcsBack.{object_members}
 use Rattle.topojson_meaning.proofs.ShapesBack.{Parts, named_type, shape_parts, typed_back}
 use Rattle.topojson_meaning.proofs.Steps.{Gives, pure_gives}

@@ -2,7 +2,7 @@
 -- numbers, and texts UTF-8.
 use Rattle.std.proofs.Common.{◌≡◌, ℕ, List, Option, Some, None, Ok, subst, arith}
 use Rattle.std.specs.Prelude.{IsUtf8}
-use Rattle.topojson_meaning.proofs.Names.{AllByRecursion, all_parts, all_weaker, Json, Json-F, out-Json, IdHasNumbers, PropertiesHaveNumbers, IdHasTexts, PropertiesHaveTexts, Id, Contents, object_features, TopoFeature, TopoObject, identifier_in, members_if, Members, NumbersStay, TextsStay, FeatureHasTexts}
+use Rattle.topojson_meaning.proofs.Names.{AllByRecursion, all_parts, all_weaker, Json, Json-F, out-Json, IdHasNumbers, PropertiesHaveNumbers, IdHasTexts, PropertiesHaveTexts, Id, Contents, object_features, TopoFeature, identifier_in, members_if, Members, NumbersStay, TextsStay}
 use Rattle.json_value.specs.declared.json.Json.TheVariants as j
 use Rattle.json_value.specs.Numbers.{HasNumbers}
 use Rattle.json_value.specs.WellFormed.{HasTexts}

@@ -51,7 +51,7 @@ objects_fine : (t : Contents) → IsTopology t → AllByRecursion (λ o. FineObj
 objects_fine t valid =
     let closed = all_two (IsJoined t.arcs) (IsClosed t.arcs) (λ b. IsJoined t.arcs b × IsClosed t.arcs b) (λ b j k. (j, k)) (objects_lines_and_rings t.objects) valid.joined valid.closed in
     fine_objects t.transform t.arcs t.objects valid.objects (all_two (λ b. AreInRange (length t.arcs) b.1) (λ b. IsJoined t.arcs b × IsClosed t.arcs b) (IsLineOrRing t.arcs)
-        (λ b r k. (r, k.0, k.1)) (objects_lines_and_rings t.objects) valid.ranged closed)
+    (λ b r k. (r, k.0, k.1)) (objects_lines_and_rings t.objects) valid.ranged closed)
 
 object_fine : (transform : Option Transform) (arcs : List (List Point)) (o : TopoObject) → FineObject transform arcs o → AllByRecursion (FineFeature transform arcs) (object_features o)
 object_fine transform arcs (One f) h = (h.0, tt)

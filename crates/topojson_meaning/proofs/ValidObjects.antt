@@ -1,7 +1,7 @@
 -- The features and objects that are read keep the rules, their names differ, and what holds of all parts of a value holds of them.
-use Rattle.std.proofs.Common.{◌≡◌, ◌≢◌, ℕ, false, List, [], ◌∷◌, map, Option, Some, Ok, arith}
+use Rattle.std.proofs.Common.{◌≡◌, ◌≢◌, ℕ, false, List, [], ◌∷◌, map, Option, Some, Ok}
 use Rattle.std.specs.Prelude.{codes, bytes_eq}
-use Rattle.topojson_meaning.proofs.Names.{or_parts, AllByRecursion, all_weaker, all_parts, Point, find_part, given, each_of_yields, array_of, object_of, Json, Id, TopoShape, AreDistinct, object_features, TopoFeature, TopoObject, One, Many, Transform, identifier, members_if, feature, feature_element, is_collection, object_type, Members, lookup_fault, find, need_as, elements, members, features, collection, single, object, is_met, new_name, objects_after, objects, give, typed_shape, WrongKind, GeometryType}
+use Rattle.topojson_meaning.proofs.Names.{or_parts, AllByRecursion, all_weaker, Point, find_part, given, each_of_yields, array_of, object_of, Json, Id, TopoShape, AreDistinct, object_features, TopoFeature, TopoObject, One, Many, Transform, identifier, members_if, feature, feature_element, is_collection, object_type, Members, lookup_fault, find, need_as, elements, members, features, collection, single, object, is_met, new_name, objects_after, objects, give, typed_shape, WrongKind, GeometryType}
 use Rattle.json_value.specs.Members as members_by
 use Rattle.topojson_meaning.proofs.ValidKept.{IsShape, IsSingle}
 use Rattle.topojson_meaning.proofs.ValidMembers.{need_as_yields}

@@ -1,5 +1,5 @@
 -- A topology that is read is valid, and what holds of all parts of the value holds of its names, identifiers and properties.
-use Rattle.std.proofs.Common.{◌≡◌, ℕ, ℤ, Bool, List, [], map, Option, Ok, arith}
+use Rattle.std.proofs.Common.{◌≡◌, ℕ, ℤ, Bool, List, [], Option, Ok, arith}
 use Rattle.std.specs.Prelude.{codes}
 use Rattle.topojson_meaning.proofs.Names.{AllByRecursion, all_map, all_joined, all_weaker, all_of, Point, option_lines_and_rings, object_of, text_of, Json, Id, no_counts, TopoShape, Contents, object_features, features_lines_and_rings, objects_lines_and_rings, option_places, IsPlace, IsArc, IsTransformed, IsTopology, TopoFeature, TopoObject, Transform, arc_list, ReadsValid, Members, find, need, need_as, objects, or_fail, topology_type, contents, value_contents, topology, transform_if, NotTopology, WrongKind}
 use Rattle.topojson_meaning.proofs.ValidArcs.{arc_list_yields}

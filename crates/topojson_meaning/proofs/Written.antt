@@ -2,7 +2,7 @@
 -- over its definition.
 use Rattle.std.proofs.Common.{◌≡◌, ℕ, zero, suc, ◌<◌, ◌≤◌, ℤ, ◌-ℤ◌, Bool, true, false, List, [], ◌∷◌, ◌++◌, length, map, Option, Some, None, refl, subst, arith}
 use Rattle.std.specs.Prelude.{codes, ◌^◌, unsigned_abs}
-use Rattle.topojson_meaning.proofs.Names.{ints, AllByRecursion, all_append, all_left, all_right, all_of, all_of_map, all_weaker, all_two, all_parts, lines_and_rings-line, lines_and_rings-lines, lines_and_rings-area, lines_and_rings-areas, lines_and_rings-group, by_kinds, joined, Point, IsWithin, lines_and_rings, option_lines_and_rings, unit_places, units_text-number, units_text, scaled_of, Json, IdHasNumbers, PropertiesHaveNumbers, IdHasTexts, PropertiesHaveTexts, Id, geometrical_at, places_at, Corners, bounds, deltas_from, TopoShape, Contents, object_features, features_lines_and_rings, transform_value, IsTransformNumber, grid_limit, origin, places, option_places, IsPlace, IsTransformed, IsArc, IsFeature, IsObject, IsTopology, AreInRange, TopoFeature, TopoObject, One, Many, Transform, FeaturesHaveNumbers, ValueHasNumbers, ValueNests, FeatureHasTexts, ContentsHaveTexts}
+use Rattle.topojson_meaning.proofs.Names.{ints, AllByRecursion, all_append, all_left, all_right, all_of, all_of_map, all_weaker, all_two, lines_and_rings-line, lines_and_rings-lines, lines_and_rings-area, lines_and_rings-areas, lines_and_rings-group, by_kinds, joined, Point, IsWithin, lines_and_rings, option_lines_and_rings, unit_places, units_text-number, units_text, scaled_of, Json, IdHasNumbers, PropertiesHaveNumbers, IdHasTexts, PropertiesHaveTexts, Id, geometrical_at, places_at, Corners, bounds, deltas_from, TopoShape, Contents, object_features, transform_value, IsTransformNumber, grid_limit, origin, places, option_places, IsPlace, IsTransformed, IsArc, AreInRange, TopoFeature, TopoObject, One, Many, Transform, FeaturesHaveNumbers, ValueHasNumbers, ValueNests, FeatureHasTexts, ContentsHaveTexts}
 use Rattle.decimal_text.specs.Grammar.{IsNumber}
 use Rattle.decimal_text.specs.Parts.{parts_of}
 use Rattle.decimal_text.proofs.NumberBytes.{number_utf8, units_utf8}

@@ -1,9 +1,9 @@
 -- What holds corners, and that an agenda goes on covering them.
-use Rattle.std.proofs.Common.{◌≡◌, ℕ, ℤ, suc, ◌<◌, Bool, true, false, not, ◌||◌, nat_lt, List, [], ◌∷◌, ◌++◌, map, ◌⊎◌, inl, inr, refl, ap, sym, ◌∙◌, subst}
-use Rattle.guarded_meaning.proofs.Names.{and_parts, and_cases, and_left, and_right, or_cases, or_parts, or_from, cases_Bool, both_ways, false_from_ne_true, not-true, not-false, not_from_true, not_from_false, ltb-true, filter-append, filter, list_all, each_of, in_left, in_right, in_append, In, same, Vertex, FreeOrHeld, HeldIsNotFree, HolderStays, NeverAgain, CoverLaw, ReadyLaw, NoneReady, ArcCorner, all_corners, Place, place_at, places, is_place_of, Neighbours, neighbours_at, segment_of, all_neighbours, is_pair_of, left_by, points_of, goes, has_empty_triangle, has_open_base, is_free, uses, is_long, keeps_rings, guarded_by, segment, same_ends, is_clear, passing}
+use Rattle.std.proofs.Common.{◌≡◌, ℕ, ℤ, suc, ◌<◌, Bool, true, false, not, ◌||◌, nat_lt, List, [], ◌∷◌, ◌++◌, map, ◌⊎◌, inl, inr, refl, ap, sym, ◌∙◌, subst, arith}
+use Rattle.guarded_meaning.proofs.Names.{and_parts, and_cases, and_left, and_right, or_cases, or_parts, or_from, cases_Bool, both_ways, false_from_ne_true, not-true, not-false, not_from_true, not_from_false, ltb-true, filter-append, filter, in_filter, list_all, each_of, in_left, in_right, in_append, In, same, Vertex, FreeOrHeld, HeldIsNotFree, HolderStays, NeverAgain, CoverLaw, ReadyLaw, NoneReady, ArcCorner, all_corners, Place, place_at, places, is_place_of, Neighbours, neighbours_at, segment_of, all_neighbours, is_pair_of, left_by, points_of, goes, has_empty_triangle, has_open_base, is_free, uses, is_long, keeps_rings, guarded_by, segment, same_ends, is_clear, passing}
 use Rattle.guarded_meaning.specs.Agendas.{Holder, Inside, Across, IsLeft, goes_with, Holds, Agenda, IsHeld, IsCovered}
 use Rattle.guarded_meaning.proofs.First.{next_law, no_next_law}
-use Rattle.guarded_meaning.proofs.Lists.{in_passed, filter_map}
+use Rattle.guarded_meaning.proofs.Lists.{filter_map}
 use Rattle.guarded_meaning.proofs.Neighbours.{AreParted, all_parted}
 use Rattle.guarded_meaning.proofs.NoCrossings.{own_first, own_second}
 use Rattle.guarded_meaning.proofs.Shorter.{fewer_left, still_short}
@@ -11,26 +11,13 @@ use Rattle.guarded_meaning.proofs.Weights.{left_passing}
 
 -- ---- one that fails
 
-record Failing {X : Type 0} (p : X → Bool) (xs : List X) : Type 0 where
-  one : X
-  among : In one xs
-  fails : p one ≡ false
-
-failing_later : {X : Type 0} (p : X → Bool) (x : X) (xs : List X) → Failing p xs → Failing p (x ∷ xs)
-failing_later p x xs f = record { one = f.one; among = inr f.among; fails = f.fails }
-
-which_fails : {X : Type 0} (p : X → Bool) (xs : List X) → list_all p xs ≡ false → Failing p xs
-which_fails p [] h = absurd cc
-which_fails p (x ∷ xs) h = on (and_cases (p x) (list_all p xs) h) (λ k. which_fails p xs k)
-  where
-    on : (p x ≡ false) ⊎ (list_all p xs ≡ false) → (list_all p xs ≡ false → Failing p xs) → Failing p (x ∷ xs)
-    on (inl k) f = record { one = x; among = inl refl; fails = k }
-    on (inr k) f = failing_later p x xs (f k)
+which_fails : {X : Type 0} (p : X → Bool) (xs : List X) → list_all p xs ≡ false → (x : X) × In x xs × (p x ≡ false)
+which_fails p [] h = absurd (grind arith)
+which_fails {X = X} p (x ∷ xs) h = grind (arith, which_fails p xs)
 
 one_fails : {X : Type 0} (p : X → Bool) (x : X) (xs : List X) → In x xs → p x ≡ false → list_all p xs ≡ false
 one_fails p x [] k h = elim k [ ]
-one_fails p x (y ∷ ys) (inl e) h = and_left (p y) (list_all p ys) (sym (ap p e) ∙ h)
-one_fails p x (y ∷ ys) (inr k) h = and_right (p y) (list_all p ys) (one_fails p x ys k h)
+one_fails p x (y ∷ ys) k h = grind (arith, one_fails p x ys)
 
 -- ---- holders
 
@@ -44,13 +31,13 @@ module _ (arcs : List (List Vertex)) (c : ArcCorner) where
   free_or_held_by : (has_empty_triangle arcs c ≡ false) ⊎ (has_open_base arcs c ≡ false) → (h : Holder) × IsLeft arcs h × Holds c h
   free_or_held_by (inl e) =
       let f = which_fails clear_at (places 0 arcs) e in
-      let m = or_parts (is_place_of c f.one) (is_clear c.before c.corner.point c.after f.one.vertex.point) f.fails in
-      (Inside f.one, f.among, (m.0, m.1))
+      let m = or_parts (is_place_of c f.0) (is_clear c.before c.corner.point c.after f.0.vertex.point) f.2 in
+      (Inside f.0, f.1, (m.0, m.1))
   free_or_held_by (inr e) =
       let s = or_parts (same c.before c.after) (list_all open_at (all_neighbours 0 arcs)) e in
       let f = which_fails open_at (all_neighbours 0 arcs) s.1 in
-      let m = or_parts (is_pair_of c f.one) (not (same_ends (segment c.before c.after) (segment_of f.one))) f.fails in
-      (Across f.one, f.among, (m.0, not-false (same_ends (segment c.before c.after) (segment_of f.one)) m.1, s.0))
+      let m = or_parts (is_pair_of c f.0) (not (same_ends (segment c.before c.after) (segment_of f.0))) f.2 in
+      (Across f.0, f.1, (m.0, not-false (same_ends (segment c.before c.after) (segment_of f.0)) m.1, s.0))
 
 pub free_or_held : FreeOrHeld
 unfolding is_free
@@ -74,7 +61,7 @@ places_passing p k (vs ∷ arcs) = ap (λ xs. xs ++ places (suc k) (passing p (s
 
 place_stays : (arcs : List (List Vertex)) (c : ArcCorner) (x : Place) → In x (places 0 arcs) → is_place_of c x ≡ false → In x (places 0 (left_by arcs c))
 place_stays arcs c x m h = subst (In x) (sym (ap (places 0) (left_passing arcs c) ∙ places_passing (λ y. not (is_place_of c y)) 0 arcs))
-    (in_passed (λ y. not (is_place_of c y)) x (places 0 arcs) (not_from_false (is_place_of c x) h) m)
+    (in_filter (λ y. not (is_place_of c y)) x (places 0 arcs) m (not_from_false (is_place_of c x) h))
 
 pair_stays : (arcs : List (List Vertex)) (c : ArcCorner) (n : Neighbours) (r : AreParted arcs c) → is_pair_of c n ≡ false →
     In n r.front ⊎ In n (neighbours_at c.arc r.a r.p ∷ (neighbours_at c.arc r.p r.d ∷ r.back)) → In n (r.front ++ (neighbours_at c.arc r.a r.d ∷ r.back))
@@ -93,10 +80,10 @@ pub never_again : NeverAgain
 unfolding keeps_rings
 never_again rings arcs c d h =
     let f = which_fails (λ refs. not (uses d.arc refs) || is_long (points_of (left_by arcs d)) refs) rings h in
-    let m = or_parts (not (uses d.arc f.one)) (is_long (points_of (left_by arcs d)) f.one) f.fails in
-    one_fails (λ refs. not (uses d.arc refs) || is_long (points_of (left_by (left_by arcs c) d)) refs) f.one rings f.among
-    (or_from (not (uses d.arc f.one)) (is_long (points_of (left_by (left_by arcs c) d)) f.one) m.0
-    (still_short f.one (left_by (left_by arcs c) d) (left_by arcs d) (fewer_left d.arc d.corner.index c.arc c.corner.index arcs) m.1))
+    let m = or_parts (not (uses d.arc f.0)) (is_long (points_of (left_by arcs d)) f.0) f.2 in
+    one_fails (λ refs. not (uses d.arc refs) || is_long (points_of (left_by (left_by arcs c) d)) refs) f.0 rings f.1
+    (or_from (not (uses d.arc f.0)) (is_long (points_of (left_by (left_by arcs c) d)) f.0) m.0
+    (still_short f.0 (left_by (left_by arcs c) d) (left_by arcs d) (fewer_left d.arc d.corner.index c.arc c.corner.index arcs) m.1))
 
 -- ---- agendas
 

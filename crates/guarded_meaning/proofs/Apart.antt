@@ -1,9 +1,9 @@
 -- More steps than there are vertices change nothing, and no more corners than there are go.
 use Rattle.std.proofs.Common.{◌≡◌, ℕ, zero, suc, ◌≤◌, Bool, true, ◌&&◌, nat_lt, List, [], length, map, Option, Some, None, refl, ap, sym, subst, arith}
-use Rattle.guarded_meaning.proofs.Names.{AllByRecursion, filter, each_of, joined, In, map_some, Point, Holds, Vertex, numbered, HasOwnIndexes, ArcCorner, all_corners, left_by, first_corner, Guard, goes, next_arcs, eliminate_arcs, guarded_by, is_free, keeps_rings}
+use Rattle.guarded_meaning.proofs.Names.{AllByRecursion, filter, each_of, joined, In, map_some, Point, Vertex, numbered, HasOwnIndexes, ArcCorner, all_corners, left_by, first_corner, Guard, goes, eliminate_arcs, guarded_by, is_free, keeps_rings}
 use Rattle.guarded_meaning.specs.Parts.{StaysApart, ApartEnough}
 use Rattle.guarded_meaning.proofs.Removal.{own_indexes_left, all_numbered_own}
-use Rattle.guarded_meaning.proofs.Thinned.{IsLess, Thins, all_thin, next_less, no_corners}
+use Rattle.guarded_meaning.proofs.Thinned.{Thins, all_thin, next_less, no_corners}
 use Rattle.guarded_meaning.proofs.Unguarded.{length_joined}
 
 -- ---- where no ring has to stay
@@ -32,17 +32,10 @@ module _ (guard : Guard) (t : ℕ) where
   none_left zero arcs h = refl
   none_left (suc n) arcs h = ap (λ cs. after n arcs (map_some (left_by arcs) (first_corner (filter (goes guard t arcs) cs)))) (no_corners 0 arcs h)
 
-  go_alike : (m n : ℕ) (arcs : List (List Vertex)) → length (joined arcs) ≤ suc m → length (joined arcs) ≤ suc n →
-      ((left : List (List Vertex)) → AllByRecursion HasOwnIndexes left → length (joined left) ≤ m → length (joined left) ≤ n → eliminate_arcs guard m t left ≡ eliminate_arcs guard n t left) →
-      (o : Option (List (List Vertex))) → Holds (IsLess arcs) o →
-      after m arcs o ≡ after n arcs o
-  go_alike m n arcs h k f None l = refl
-  go_alike m n arcs h k f (Some left) l = f left l.0 (omega (arith, h, l.1)) (omega (arith, k, l.1))
-
   pub steps_enough : (m n : ℕ) (arcs : List (List Vertex)) → AllByRecursion HasOwnIndexes arcs → length (joined arcs) ≤ m → length (joined arcs) ≤ n → eliminate_arcs guard m t arcs ≡ eliminate_arcs guard n t arcs
   steps_enough zero n arcs own h k = sym (none_left n arcs h)
   steps_enough (suc m) zero arcs own h k = none_left (suc m) arcs k
-  steps_enough (suc m) (suc n) arcs own h k = go_alike m n arcs h k (λ left l x y. steps_enough m n left l x y) (next_arcs guard t arcs) (next_less guard t arcs own)
+  steps_enough (suc m) (suc n) arcs own h k = grind (arith, steps_enough m n, next_less guard t arcs own)
 
 -- ---- enough corners that keep clear
 

@@ -1,6 +1,6 @@
 -- No more pairs of segments meet badly when a corner that is free goes.
 use Rattle.std.proofs.Common.{◌≡◌, ℕ, ◌+◌, ◌≤◌, Bool, true, false, List, [], ◌∷◌, ◌++◌, length, map, ◌⊎◌, inl, inr, refl, ap, sym, ◌∙◌, subst, if◌then◌else◌, arith}
-use Rattle.guarded_meaning.proofs.Names.{and_parts, not-false, true≢false, length-append, map-append, filter-append, AllByRecursion, filter, all_of, all_map, each_of, in_left, in_right, same_is, In, joined, Point, same, sub_same, sub_chain, Vertex, numbered, Sublist, none, keep, skip, ArcCorner, arc_corner_at, all_corners, Neighbours, neighbours_at, segment_of, all_neighbours, is_pair_of, arc_segments, segments, crossings, left_by, points_of, HasOwnIndexes, remaining_arcs, reduced_arcs, is_free, keeps_rings, guarded_by, CrossingsNeverRise, NoneStaysNone, FewerArcsLaw, Segment, segment, has_length, meets_badly, bad_pairs}
+use Rattle.guarded_meaning.proofs.Names.{and_parts, not-false, true≢false, length-append, map-append, filter-append, AllByRecursion, filter, all_of, all_made, each_of, in_left, in_right, same_is, In, joined, Point, same, sub_same, sub_chain, Vertex, numbered, Sublist, none, keep, skip, ArcCorner, arc_corner_at, all_corners, Neighbours, neighbours_at, segment_of, all_neighbours, is_pair_of, arc_segments, segments, crossings, left_by, points_of, HasOwnIndexes, remaining_arcs, reduced_arcs, is_free, keeps_rings, guarded_by, CrossingsNeverRise, NoneStaysNone, FewerArcsLaw, Segment, segment, has_length, meets_badly, bad_pairs}
 use Rattle.elimination_meaning.proofs.Higher.{sub_length}
 use Rattle.guarded_meaning.proofs.Lists.{passed_says, filter_map, sub_right, sub_both, sub_passed}
 use Rattle.guarded_meaning.proofs.Free.{Avoids, avoids, met_before}
@@ -35,18 +35,7 @@ module _ (made one two : Segment) where
 
   after_one : (x y z : Bool) (s : Segment) (xs ys zs : List Segment) → (x ≡ true → (y ≡ true) ⊎ (z ≡ true)) → length xs ≤ length ys + length zs →
       length (if x then s ∷ xs else xs) ≤ length (if y then s ∷ ys else ys) + length (if z then s ∷ zs else zs)
-  after_one false true true s xs ys zs f h = omega (arith, h)
-  after_one false true false s xs ys zs f h = omega (arith, h)
-  after_one false false true s xs ys zs f h = omega (arith, h)
-  after_one false false false s xs ys zs f h = h
-  after_one true true true s xs ys zs f h = omega (arith, h)
-  after_one true true false s xs ys zs f h = omega (arith, h)
-  after_one true false true s xs ys zs f h = omega (arith, h)
-  after_one true false false s xs ys zs f h = neither (f refl)
-    where
-      neither : (false ≡ true) ⊎ (false ≡ true) → length (s ∷ xs) ≤ length ys + length zs
-      neither (inl e) = absurd cc
-      neither (inr e) = absurd cc
+  after_one x y z s xs ys zs f h = grind arith
 
   after : (ss : List Segment) → AllByRecursion Met ss → met made ss ≤ met one ss + met two ss
   after [] h = omega arith
@@ -54,25 +43,10 @@ module _ (made one two : Segment) where
 
   before_one : (x y z : Bool) (ss : List Segment) → (x ≡ true → (y ≡ true) ⊎ (z ≡ true)) →
       length (if x then made ∷ ss else ss) ≤ length (if y then one ∷ (if z then two ∷ ss else ss) else (if z then two ∷ ss else ss))
-  before_one false true true ss f = omega arith
-  before_one false true false ss f = omega arith
-  before_one false false true ss f = omega arith
-  before_one false false false ss f = omega arith
-  before_one true true true ss f = omega arith
-  before_one true true false ss f = omega arith
-  before_one true false true ss f = omega arith
-  before_one true false false ss f = neither (f refl)
-    where
-      neither : (false ≡ true) ⊎ (false ≡ true) → length (made ∷ ss) ≤ length ss
-      neither (inl e) = absurd cc
-      neither (inr e) = absurd cc
+  before_one x y z ss f = grind arith
 
   turned : (s : Segment) → Met s → meets_badly s made ≡ true → (meets_badly s one ≡ true) ⊎ (meets_badly s two ≡ true)
-  turned s f h = on (f (bad_back made s h))
-    where
-      on : (meets_badly one s ≡ true) ⊎ (meets_badly two s ≡ true) → (meets_badly s one ≡ true) ⊎ (meets_badly s two ≡ true)
-      on (inl k) = inl (bad_back s one k)
-      on (inr k) = inr (bad_back s two k)
+  turned s f h = grind (arith, bad_back made s, bad_back s one, bad_back s two)
 
   before : (s : Segment) (ss : List Segment) → Met s → met s (made ∷ ss) ≤ met s (one ∷ (two ∷ ss))
   before s ss f = before_one (meets_badly s made) (meets_badly s one) (meets_badly s two) (filter (meets_badly s) ss) (turned s f)
@@ -110,12 +84,7 @@ module _ (arcs : List (List Vertex)) (c : ArcCorner) (r : AreParted arcs c) (fre
   Stays n = In n (r.front ++ (one ∷ (two ∷ r.back))) × (is_pair_of c n ≡ false)
 
   stays_met : runs made ≡ true → (n : Neighbours) → Stays n → Met (segment_of made) (segment_of one) (segment_of two) (segment_of n)
-  stays_met l n s h = on (met_before (arc_corner_at c.arc r.a r.p r.d) n (subst (λ (x : ArcCorner). Avoids x n) r.at (avoids arcs c free n (subst (In n) (sym r.was) s.0) s.1)) l h)
-    where
-      on : ((runs one ≡ true) × (meets_badly (segment_of one) (segment_of n) ≡ true)) ⊎ ((runs two ≡ true) × (meets_badly (segment_of two) (segment_of n) ≡ true)) →
-          (meets_badly (segment_of one) (segment_of n) ≡ true) ⊎ (meets_badly (segment_of two) (segment_of n) ≡ true)
-      on (inl k) = inl k.1
-      on (inr k) = inr k.1
+  stays_met l n s h = elim (met_before (arc_corner_at c.arc r.a r.p r.d) n (subst (λ (x : ArcCorner). Avoids x n) r.at (avoids arcs c free n (subst (In n) (sym r.was) s.0) s.1)) l h) [ inl k ↦ inl k.1 | inr k ↦ inr k.1 ]
 
   abbrev front : List Segment
   front = map segment_of (filter runs r.front)
@@ -123,17 +92,8 @@ module _ (arcs : List (List Vertex)) (c : ArcCorner) (r : AreParted arcs c) (fre
   abbrev back : List Segment
   back = map segment_of (filter runs r.back)
 
-  front_met : runs made ≡ true → AllByRecursion (Met (segment_of made) (segment_of one) (segment_of two)) front
-  front_met l = all_map (Met (segment_of made) (segment_of one) (segment_of two)) segment_of (filter runs r.front)
-      (all_of (λ n. Met (segment_of made) (segment_of one) (segment_of two) (segment_of n)) (filter runs r.front) (λ n m.
-      let k = passed_says runs n r.front m in
-      stays_met l n (in_left n r.front (one ∷ (two ∷ r.back)) k.0, each_of (λ i. is_pair_of c i ≡ false) r.front n r.before k.0)))
-
-  back_met : runs made ≡ true → AllByRecursion (Met (segment_of made) (segment_of one) (segment_of two)) back
-  back_met l = all_map (Met (segment_of made) (segment_of one) (segment_of two)) segment_of (filter runs r.back)
-      (all_of (λ n. Met (segment_of made) (segment_of one) (segment_of two) (segment_of n)) (filter runs r.back) (λ n m.
-      let k = passed_says runs n r.back m in
-      stays_met l n (in_right n r.front (one ∷ (two ∷ r.back)) (inr (inr k.0)), each_of (λ i. is_pair_of c i ≡ false) r.back n r.after k.0)))
+  side_met : runs made ≡ true → (ns : List Neighbours) → ((n : Neighbours) → In n ns → Stays n) → AllByRecursion (Met (segment_of made) (segment_of one) (segment_of two)) (map segment_of (filter runs ns))
+  side_met l ns f = all_made (Met (segment_of made) (segment_of one) (segment_of two)) segment_of (filter runs ns) (λ n m. stays_met l n (f n (passed_says runs n ns m).0))
 
   abbrev Fewer : Bool → Bool → Bool → Type 0
   Fewer x y z = bad_pairs (front ++ map segment_of (if x then made ∷ filter runs r.back else filter runs r.back))
@@ -144,7 +104,9 @@ module _ (arcs : List (List Vertex)) (c : ArcCorner) (r : AreParted arcs c) (fre
   middle false true false e f g = pairs_fewer (sub_both (sub_same front) (skip (sub_same back)))
   middle false false true e f g = pairs_fewer (sub_both (sub_same front) (skip (sub_same back)))
   middle false false false e f g = pairs_fewer (sub_same (front ++ back))
-  middle true true true e f g = fewer (segment_of made) (segment_of one) (segment_of two) front back (front_met e) (back_met e)
+  middle true true true e f g = fewer (segment_of made) (segment_of one) (segment_of two) front back
+      (side_met e r.front (λ n m. (in_left n r.front (one ∷ (two ∷ r.back)) m, each_of (λ i. is_pair_of c i ≡ false) r.front n r.before m)))
+      (side_met e r.back (λ n m. (in_right n r.front (one ∷ (two ∷ r.back)) (inr (inr m)), each_of (λ i. is_pair_of c i ≡ false) r.back n r.after m)))
   middle true false true e f g = let k = same_is r.a.point r.p.point (not-false (same r.a.point r.p.point) f) in
       subst (λ (x : Point). bad_pairs (front ++ (segment_of made ∷ back)) ≤ bad_pairs (front ++ (segment x r.d.point ∷ back))) k (pairs_fewer (sub_same (front ++ (segment_of made ∷ back))))
   middle true true false e f g = let k = same_is r.p.point r.d.point (not-false (same r.p.point r.d.point) g) in

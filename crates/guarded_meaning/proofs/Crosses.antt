@@ -82,6 +82,19 @@ three_ways_up ax ay bx by cx cy = omega (
   ap (λ n. ax *ℤ n) (*ℤ_comm by cy),
 )
 
+-- the weights of a triangle's corners at a position, by how far it is from them across and up
+weights_from : (q a p c : Point) → (cross q p c *ℤ (a.x -ℤ q.x) +ℤ (cross q c a *ℤ (p.x -ℤ q.x) +ℤ cross q a p *ℤ (c.x -ℤ q.x)) ≡ pos 0)
+    × (cross q p c *ℤ (a.y -ℤ q.y) +ℤ (cross q c a *ℤ (p.y -ℤ q.y) +ℤ cross q a p *ℤ (c.y -ℤ q.y)) ≡ pos 0)
+unfolding cross
+weights_from q a p c = (
+  three_ways (a.x -ℤ q.x) (a.y -ℤ q.y) (p.x -ℤ q.x) (p.y -ℤ q.y) (c.x -ℤ q.x) (c.y -ℤ q.y),
+  three_ways_up (a.x -ℤ q.x) (a.y -ℤ q.y) (p.x -ℤ q.x) (p.y -ℤ q.y) (c.x -ℤ q.x) (c.y -ℤ q.y),
+)
+
+pub weights : (a p c q : Point) → (cross p c q *ℤ (a.x -ℤ q.x) +ℤ (cross c a q *ℤ (p.x -ℤ q.x) +ℤ cross a p q *ℤ (c.x -ℤ q.x)) ≡ pos 0)
+    × (cross p c q *ℤ (a.y -ℤ q.y) +ℤ (cross c a q *ℤ (p.y -ℤ q.y) +ℤ cross a p q *ℤ (c.y -ℤ q.y)) ≡ pos 0)
+weights a p c q = rw (cross_round q p c, cross_round q c a, cross_round q a p) at (weights_from q a p c)
+
 add_times : (a b c : ℤ) → (a +ℤ b) *ℤ c ≡ a *ℤ c +ℤ b *ℤ c
 add_times a b c = omega (
   arith,

@@ -1,6 +1,6 @@
 -- What a corner that is free says of the neighbours that stay.
-use Rattle.std.proofs.Common.{◌≡◌, ◌==◌, Bool, true, false, not, ◌&&◌, ◌||◌, List, ◌⊎◌, inl, inr, refl}
-use Rattle.guarded_meaning.proofs.Names.{and_parts, or_cases, both_ways, not-true, list_all, all_passed, each_of, In, same, Vertex, ArcCorner, place_at, places, is_place_of, Neighbours, segment_of, all_neighbours, is_pair_of, has_empty_triangle, has_open_base, is_free, segment, has_length, same_ends, meets_badly, is_clear}
+use Rattle.std.proofs.Common.{◌≡◌, ◌==◌, Bool, true, false, not, ◌&&◌, ◌||◌, List, ◌⊎◌, inl, inr, arith}
+use Rattle.guarded_meaning.proofs.Names.{and_parts, or_cases, not-true, list_all, all_passed, each_of, In, same, Vertex, ArcCorner, place_at, places, is_place_of, Neighbours, segment_of, all_neighbours, is_pair_of, has_empty_triangle, has_open_base, is_free, segment, has_length, same_ends, meets_badly, is_clear}
 use Rattle.guarded_meaning.proofs.Neighbours.{AreAmong, all_among}
 use Rattle.guarded_meaning.proofs.Step.{length_step}
 
@@ -11,16 +11,10 @@ pub record Avoids (c : ArcCorner) (n : Neighbours) : Type 0 where
   pub base : (same c.before c.after ≡ true) ⊎ (same_ends (segment c.before c.after) (segment_of n) ≡ false)
 
 not_either : (b f t : Bool) → (b && (f || t)) ≡ false → ((b && f) ≡ false) × ((b && t) ≡ false)
-not_either false f t h = (refl, refl)
-not_either true true t h = absurd cc
-not_either true false t h = (refl, h)
+not_either b f t h = grind arith
 
 or_other : (a b : Bool) → a ≡ false → (a || b) ≡ true → b ≡ true
-or_other a b h k = on (or_cases a b k)
-  where
-    on : (a ≡ true) ⊎ (b ≡ true) → b ≡ true
-    on (inl e) = absurd (both_ways a h e)
-    on (inr e) = e
+or_other a b h k = grind arith
 
 module _ (arcs : List (List Vertex)) (c : ArcCorner) (free : is_free arcs c ≡ true) where
   halves : (has_empty_triangle arcs c ≡ true) × (has_open_base arcs c ≡ true)
@@ -33,14 +27,12 @@ module _ (arcs : List (List Vertex)) (c : ArcCorner) (free : is_free arcs c ≡ 
       (all_passed (λ x. is_place_of c x || is_clear c.before c.corner.point c.after x.vertex.point) (places 0 arcs) halves.0) m)
 
   base_at : (n : Neighbours) → In n (all_neighbours 0 arcs) → is_pair_of c n ≡ false → (same c.before c.after ≡ true) ⊎ (same_ends (segment c.before c.after) (segment_of n) ≡ false)
-  base_at n m h = on (or_cases (same c.before c.after) (list_all (λ i. is_pair_of c i || not (same_ends (segment c.before c.after) (segment_of i))) (all_neighbours 0 arcs)) halves.1)
-    where
-      on : (same c.before c.after ≡ true) ⊎ (list_all (λ i. is_pair_of c i || not (same_ends (segment c.before c.after) (segment_of i))) (all_neighbours 0 arcs) ≡ true) →
-          (same c.before c.after ≡ true) ⊎ (same_ends (segment c.before c.after) (segment_of n) ≡ false)
-      on (inl e) = inl e
-      on (inr e) = inr (not-true (same_ends (segment c.before c.after) (segment_of n)) (or_other (is_pair_of c n) (not (same_ends (segment c.before c.after) (segment_of n))) h
-          (each_of (λ i. (is_pair_of c i || not (same_ends (segment c.before c.after) (segment_of i))) ≡ true) (all_neighbours 0 arcs) n
-          (all_passed (λ i. is_pair_of c i || not (same_ends (segment c.before c.after) (segment_of i))) (all_neighbours 0 arcs) e) m)))
+  base_at n m h = elim (or_cases (same c.before c.after) (list_all (λ i. is_pair_of c i || not (same_ends (segment c.before c.after) (segment_of i))) (all_neighbours 0 arcs)) halves.1) [
+    | inl e ↦ inl e
+    | inr e ↦ inr (not-true (same_ends (segment c.before c.after) (segment_of n)) (or_other (is_pair_of c n) (not (same_ends (segment c.before c.after) (segment_of n))) h
+        (each_of (λ i. (is_pair_of c i || not (same_ends (segment c.before c.after) (segment_of i))) ≡ true) (all_neighbours 0 arcs) n
+        (all_passed (λ i. is_pair_of c i || not (same_ends (segment c.before c.after) (segment_of i))) (all_neighbours 0 arcs) e) m)))
+  ]
 
   pub avoids : (n : Neighbours) → In n (all_neighbours 0 arcs) → is_pair_of c n ≡ false → Avoids c n
   avoids n m h =
@@ -52,10 +44,4 @@ module _ (arcs : List (List Vertex)) (c : ArcCorner) (free : is_free arcs c ≡ 
 pub met_before : (c : ArcCorner) (n : Neighbours) → Avoids c n → has_length (segment c.before c.after) ≡ true → meets_badly (segment c.before c.after) (segment_of n) ≡ true →
     ((has_length (segment c.before c.corner.point) ≡ true) × (meets_badly (segment c.before c.corner.point) (segment_of n) ≡ true))
     ⊎ ((has_length (segment c.corner.point c.after) ≡ true) × (meets_badly (segment c.corner.point c.after) (segment_of n) ≡ true))
-met_before c n a l h = on a.base
-  where
-    on : (same c.before c.after ≡ true) ⊎ (same_ends (segment c.before c.after) (segment_of n) ≡ false) →
-        ((has_length (segment c.before c.corner.point) ≡ true) × (meets_badly (segment c.before c.corner.point) (segment_of n) ≡ true))
-        ⊎ ((has_length (segment c.corner.point c.after) ≡ true) × (meets_badly (segment c.corner.point c.after) (segment_of n) ≡ true))
-    on (inl e) = absurd (both_ways (same c.before c.after) (not-true (same c.before c.after) l) e)
-    on (inr e) = length_step c.before c.corner.point c.after (segment_of n) a.start a.end e l h
+met_before c n a l h = grind (arith, a.base, length_step c.before c.corner.point c.after (segment_of n) a.start a.end)

@@ -4,7 +4,7 @@ use Rattle.std.proofs.lemmas.List.Folds.{list_all-map}
 use Rattle.guarded_meaning.proofs.Names.{nat_tests, nat_cmp, map-append, list_all, joined, map_some, In, Point, same, numbered, Vertex, ArcCorner, arc_corners, all_corners, Place, place_at, places, is_place_of, Neighbours, neighbours, segment_of, all_neighbours, is_pair_of, without_at, left_by, goes_before, goes, next_corner, next_arcs, eliminate_arcs, remaining_arcs, reduce_arcs, is_free, segment, same_ends, is_clear}
 use Rattle.guarded_meaning.specs.Parts.{IsClearOf, GoesFirst, StaysApart, marked, chosen, spread, GapsApart, GapsLaw, GapsIndexLaw}
 use Rattle.junctions.proofs.Members.{in_map, from_map}
-use Rattle.guarded_meaning.proofs.Apart.{uncrossed, after, goes_free}
+use Rattle.guarded_meaning.proofs.Apart.{uncrossed, goes_free}
 use Rattle.guarded_meaning.proofs.First.{next_law, no_next_law, next_is, none_is_next}
 use Rattle.guarded_meaning.proofs.Neighbours.{moved_neighbours, in_moved}
 use Rattle.guarded_meaning.proofs.Order.{next_cmp, moved_order}
@@ -46,14 +46,9 @@ module _ (t : ℕ) (pad : List (List Vertex) → List (List Vertex)) (move : Arc
           (each_padded (λ d. goes uncrossed t (pad arcs) d ≡ true → goes_before d (move c) ≡ false) arcs (λ d m g. padding.order c d ∙ n.none_before d m (sym (goes_padded arcs d) ∙ g)))
           ∙ ap Some (padding.left arcs c)
 
-  after_padded : (n : ℕ) (arcs : List (List Vertex)) → ((left : List (List Vertex)) → eliminate_arcs uncrossed n t (pad left) ≡ pad (eliminate_arcs uncrossed n t left)) →
-      (o : Option (List (List Vertex))) → after uncrossed t n (pad arcs) (map_some pad o) ≡ pad (after uncrossed t n arcs o)
-  after_padded n arcs f None = refl
-  after_padded n arcs f (Some left) = f left
-
   eliminate_padded : (n : ℕ) (arcs : List (List Vertex)) → eliminate_arcs uncrossed n t (pad arcs) ≡ pad (eliminate_arcs uncrossed n t arcs)
   eliminate_padded zero arcs = refl
-  eliminate_padded (suc n) arcs = ap (after uncrossed t n (pad arcs)) (next_padded arcs) ∙ after_padded n arcs (λ left. eliminate_padded n left) (next_arcs uncrossed t arcs)
+  eliminate_padded (suc n) arcs = grind (arith, eliminate_padded n, next_padded arcs)
 
   first_padded : (arcs : List (List Vertex)) (c : ArcCorner) → In c (all_corners 0 arcs) → GoesFirst t (pad arcs) (move c) → GoesFirst t arcs c
   first_padded arcs c m g = record {

@@ -1,6 +1,6 @@
 -- How many positions between the ends of arcs stay.
-use Rattle.std.proofs.Common.{◌≡◌, ℕ, suc, ◌+◌, ◌<◌, Bool, true, false, cond, List, [], ◌∷◌, length, map, Option, inl, inr, refl, ap, sym, ◌∙◌, subst, if◌then◌else◌, arith}
-use Rattle.guarded_meaning.proofs.Names.{length-append, map-append, sum_by-cons, sum_by-append, AllByRecursion, filter, count_by, In, joined, all_but_last_of, all_but_last, interior, Point, Vertex, numbered, is_kept_at, Place, place_at, points_of, Guard, reduced_arcs, CountedByWeight, EachTo, last_after, HasEndsOf, IsThinned, weight, passing, interior_places, interior_weights, interior_count}
+use Rattle.std.proofs.Common.{◌≡◌, ℕ, suc, ◌+◌, ◌<◌, Bool, true, false, cond, List, [], ◌∷◌, length, map, Option, inl, refl, ap, sym, ◌∙◌, subst, if◌then◌else◌, arith}
+use Rattle.guarded_meaning.proofs.Names.{length-append, length-map, map-append, each_of, all_of_map, sum_by-cons, sum_by-append, AllByRecursion, filter, count_by, In, joined, all_but_last_of, all_but_last, interior, Point, Vertex, numbered, is_kept_at, Place, place_at, points_of, Guard, reduced_arcs, CountedByWeight, EachTo, last_after, HasEndsOf, IsThinned, weight, passing, interior_places, interior_weights, interior_count}
 use Rattle.guarded_meaning.proofs.Kept.{points_numbered}
 use Rattle.guarded_meaning.proofs.Lists.{passed_says}
 use Rattle.guarded_meaning.proofs.Neighbours.{Rises}
@@ -21,32 +21,16 @@ module _ (q : Vertex → Bool) where
 
   inner : (x : Vertex) (ys : List Vertex) → Rises (x ∷ ys) → last_after x (filter q ys) ≡ last_after x ys → all_but_last (filter q ys) ≡ filter q (all_but_last ys)
   inner x [] h e = refl
-  inner x (y ∷ []) h e = on (q y)
-    where
-      on : (b : Bool) → all_but_last (if b then y ∷ [] else []) ≡ []
-      on true = refl
-      on false = refl
-  inner x (y ∷ (z ∷ zs)) h e = on (q y) e (λ k. inner y (z ∷ zs) h.1 k) (λ k. inner x (z ∷ zs) (h.0.1, h.1.1) k)
-    where
-      on : (b : Bool) → last_after x (if b then y ∷ filter q (z ∷ zs) else filter q (z ∷ zs)) ≡ last_after z zs →
-          (last_after y (filter q (z ∷ zs)) ≡ last_after z zs → all_but_last (filter q (z ∷ zs)) ≡ filter q (all_but_last_of z zs)) →
-          (last_after x (filter q (z ∷ zs)) ≡ last_after z zs → all_but_last (filter q (z ∷ zs)) ≡ filter q (all_but_last_of z zs)) →
-          all_but_last (if b then y ∷ filter q (z ∷ zs) else filter q (z ∷ zs)) ≡ (if b then y ∷ filter q (all_but_last_of z zs) else filter q (all_but_last_of z zs))
-      on true k f g = longer y z zs (filter q (z ∷ zs)) h.1 k ∙ ap (λ l. y ∷ l) (f k)
-      on false k f g = g k
+  inner x (y ∷ []) h e = grind arith
+  inner x (y ∷ (z ∷ zs)) h e = grind (arith, inner y (z ∷ zs) h.1, inner x (z ∷ zs) (h.0.1, h.1.1), longer y z zs (filter q (z ∷ zs)) h.1)
 
   -- a list that begins with another vertex than this one's own successors doesn't have its ends
   not_first : (v : Vertex) (ws us : List Vertex) → AllByRecursion (λ i. v.index < i) (map (λ w. w.index) ws) → ((u : Vertex) → In u us → In u ws) → HasEndsOf us (v ∷ ws) → ⊥
   not_first v ws [] h f e = e
   not_first v ws (u ∷ us) h f e =
-      let k = below ws h (f u (inl refl)) in
+      let k = each_of (λ w. v.index < w.index) ws u (all_of_map (λ i. v.index < i) (λ w. w.index) ws h) (f u (inl refl)) in
       let l = ap (λ (w : Vertex). w.index) e.0 in
       omega (arith, k, l)
-    where
-      below : (xs : List Vertex) → AllByRecursion (λ i. v.index < i) (map (λ w. w.index) xs) → In u xs → v.index < u.index
-      below [] m n = elim n [ ]
-      below (x ∷ xs) m (inl n) = let l = ap (λ (w : Vertex). w.index) n in let k = m.0 in omega (arith, k, l)
-      below (x ∷ xs) m (inr n) = below xs m.1 n
 
   interior_passing : (vs : List Vertex) → Rises vs → HasEndsOf (filter q vs) vs → interior (filter q vs) ≡ filter q (interior vs)
   interior_passing [] h e = refl
@@ -67,10 +51,6 @@ interior_map : {X Y : Type 0} (f : X → Y) (xs : List X) → interior (map f xs
 interior_map f [] = refl
 interior_map f (x ∷ xs) = all_but_last_map f xs
 
-length_map : {X Y : Type 0} (f : X → Y) (xs : List X) → length (map f xs) ≡ length xs
-length_map f [] = refl
-length_map f (x ∷ xs) = ap suc (length_map f xs)
-
 module _ (t : ℕ) (weigh : Place → Option ℕ) where
   abbrev kept : Place → Bool
   kept x = is_kept_at t (weigh x)
@@ -90,7 +70,7 @@ module _ (t : ℕ) (weigh : Place → Option ℕ) where
   count_all k (vs ∷ arcs) h e =
       let own : Vertex → Bool = λ v. kept (place_at k v) in
       let one : length (interior (map (λ v. v.point) (filter own vs))) ≡ count_by (is_kept_at t) (map weigh (map (place_at k) (interior vs))) =
-      ap length (interior_map (λ v. v.point) (filter own vs)) ∙ length_map (λ v. v.point) (interior (filter own vs)) ∙ ap length (interior_passing own vs h.0 e.0.1) ∙ count_in k (interior vs) in
+      ap length (interior_map (λ v. v.point) (filter own vs)) ∙ length-map (interior (filter own vs)) (λ v. v.point) ∙ ap length (interior_passing own vs h.0 e.0.1) ∙ count_in k (interior vs) in
       ap (count_by (is_kept_at t)) (map-append weigh (map (place_at k) (interior vs)) (interior_places (suc k) arcs))
       ∙ sum_by-append (λ w. cond (is_kept_at t w) 1 0) (map weigh (map (place_at k) (interior vs))) (map weigh (interior_places (suc k) arcs))
       ∙ ap (λ n. n + count_by (is_kept_at t) (map weigh (interior_places (suc k) arcs))) (sym one)
@@ -109,9 +89,9 @@ places_count : (k : ℕ) (arcs : List (List Vertex)) → length (interior_places
 places_count k [] = refl
 places_count k (vs ∷ arcs) =
     length-append (map (place_at k) (interior vs)) (interior_places (suc k) arcs)
-    ∙ ap (λ n. n + length (interior_places (suc k) arcs)) (length_map (place_at k) (interior vs) ∙ sym (ap length (interior_map (λ v. v.point) vs) ∙ length_map (λ v. v.point) (interior vs)))
+    ∙ ap (λ n. n + length (interior_places (suc k) arcs)) (length-map (interior vs) (place_at k) ∙ sym (ap length (interior_map (λ v. v.point) vs) ∙ length-map (interior vs) (λ v. v.point)))
     ∙ ap (λ n. length (interior (map (λ v. v.point) vs)) + n) (places_count (suc k) arcs)
     ∙ sym (length-append (interior (map (λ v. v.point) vs)) (joined (map interior (points_of arcs))))
 
 pub weights_count : (guard : Guard) (arcs : List (List Point)) → length (interior_weights guard arcs) ≡ interior_count arcs
-weights_count guard arcs = length_map (weight guard arcs) (interior_places 0 (map (numbered 0) arcs)) ∙ places_count 0 (map (numbered 0) arcs) ∙ ap interior_count (points_numbered arcs)
+weights_count guard arcs = length-map (interior_places 0 (map (numbered 0) arcs)) (weight guard arcs) ∙ places_count 0 (map (numbered 0) arcs) ∙ ap interior_count (points_numbered arcs)

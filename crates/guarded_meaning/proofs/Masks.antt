@@ -1,10 +1,10 @@
 -- The arcs of one part: which corners, places and neighbours they have.
 use Rattle.std.proofs.Common.{◌≡◌, ◌≢◌, ℕ, zero, suc, ◌≤◌, ◌==◌, Bool, true, false, List, [], ◌∷◌, length, map, get_or, refl, ap, sym, ◌∙◌, subst, if◌then◌else◌, arith}
 use Rattle.std.proofs.lemmas.Bool.{eq-eqb, eqb-true}
-use Rattle.guarded_meaning.proofs.Names.{ne_eqb, length-append, AllByRecursion, all_weaker, all_append, all_map, all_of, each_of, in_left, in_right, joined, In, Point, holds_of_chosen, chosen_of, Vertex, without, numbered, HasOwnIndexes, ArcCorner, arc_corners, all_corners, without_at}
+use Rattle.guarded_meaning.proofs.Names.{nat_tests, length-append, AllByRecursion, all_weaker, all_of, each_of, in_left, in_right, joined, In, Point, holds_of_chosen, chosen_of, Vertex, without, numbered, HasOwnIndexes, ArcCorner, arc_corners, all_corners, without_at}
 use Rattle.guarded_meaning.specs.Parts.{only}
 use Rattle.junctions.proofs.Members.{in_map}
-use Rattle.guarded_meaning.proofs.Removal.{in_next_arc, later_arcs}
+use Rattle.guarded_meaning.proofs.Removal.{in_next_arc, later_arcs, first_and_later}
 use Rattle.guarded_meaning.proofs.Unguarded.{arcs_are}
 
 -- the part of the arc of this number
@@ -25,8 +25,7 @@ pub only_other : (parts : List ℕ) (r k i : ℕ) (arcs : List (List Vertex)) �
 only_other parts r k i [] n = refl
 only_other [] r zero i (vs ∷ arcs) n = refl
 only_other [] r (suc k) i (vs ∷ arcs) n = ap (λ more. [] ∷ more) (only_other [] r k i arcs n)
-only_other (p ∷ parts) r zero i (vs ∷ arcs) n =
-    ap (λ (b : Bool). (if b then without i vs else []) ∷ only parts r arcs) (ne_eqb p r n) ∙ sym (ap (λ (b : Bool). (if b then vs else []) ∷ only parts r arcs) (ne_eqb p r n))
+only_other (p ∷ parts) r zero i (vs ∷ arcs) n = grind (arith, nat_tests)
 only_other (p ∷ parts) r (suc k) i (vs ∷ arcs) n = ap (λ more. (if p == r then vs else []) ∷ more) (only_other parts r k i arcs n)
 
 pub many_without : (k i : ℕ) (arcs : List (List Vertex)) → length (without_at k i arcs) ≡ length arcs
@@ -80,10 +79,8 @@ pub all_in_part : (parts : List ℕ) (arcs : List (List Vertex)) → length part
 all_in_part parts [] h = tt
 all_in_part [] (vs ∷ arcs) h = absurd (omega (arith, h))
 all_in_part (p ∷ parts) (vs ∷ arcs) h =
-    all_append (IsInPart (p ∷ parts) (vs ∷ arcs)) (arc_corners 0 vs) (all_corners 1 arcs)
-    (all_of (IsInPart (p ∷ parts) (vs ∷ arcs)) (arc_corners 0 vs) (λ c m. part_here p parts vs arcs c m))
-    (subst (AllByRecursion (IsInPart (p ∷ parts) (vs ∷ arcs))) (sym (later_arcs 0 arcs)) (all_map (IsInPart (p ∷ parts) (vs ∷ arcs)) in_next_arc (all_corners 0 arcs)
-    (all_weaker (IsInPart parts arcs) (λ c. IsInPart (p ∷ parts) (vs ∷ arcs) (in_next_arc c)) (λ c m. part_later p parts vs arcs c m) (all_corners 0 arcs) (all_in_part parts arcs (omega (arith, h))))))
+    first_and_later (IsInPart (p ∷ parts) (vs ∷ arcs)) vs arcs (all_of (IsInPart (p ∷ parts) (vs ∷ arcs)) (arc_corners 0 vs) (λ c m. part_here p parts vs arcs c m))
+    (all_weaker (IsInPart parts arcs) (λ c. IsInPart (p ∷ parts) (vs ∷ arcs) (in_next_arc c)) (λ c m. part_later p parts vs arcs c m) (all_corners 0 arcs) (all_in_part parts arcs (omega (arith, h))))
 
 -- it is a corner of all arcs, in this part
 abbrev IsOfPart : List ℕ → ℕ → List (List Vertex) → ArcCorner → Type 0
@@ -103,7 +100,5 @@ pub all_of_part : (parts : List ℕ) (r : ℕ) (arcs : List (List Vertex)) → l
 all_of_part parts r [] h = tt
 all_of_part [] r (vs ∷ arcs) h = absurd (omega (arith, h))
 all_of_part (p ∷ parts) r (vs ∷ arcs) h =
-    all_append (IsOfPart (p ∷ parts) r (vs ∷ arcs)) (arc_corners 0 (if p == r then vs else [])) (all_corners 1 (only parts r arcs))
-    (of_part_here p parts r vs arcs (p == r) refl)
-    (subst (AllByRecursion (IsOfPart (p ∷ parts) r (vs ∷ arcs))) (sym (later_arcs 0 (only parts r arcs))) (all_map (IsOfPart (p ∷ parts) r (vs ∷ arcs)) in_next_arc (all_corners 0 (only parts r arcs))
-    (all_weaker (IsOfPart parts r arcs) (λ c. IsOfPart (p ∷ parts) r (vs ∷ arcs) (in_next_arc c)) (λ c m. of_part_later p parts r vs arcs c m) (all_corners 0 (only parts r arcs)) (all_of_part parts r arcs (omega (arith, h))))))
+    first_and_later (IsOfPart (p ∷ parts) r (vs ∷ arcs)) (if p == r then vs else []) (only parts r arcs) (of_part_here p parts r vs arcs (p == r) refl)
+    (all_weaker (IsOfPart parts r arcs) (λ c. IsOfPart (p ∷ parts) r (vs ∷ arcs) (in_next_arc c)) (λ c m. of_part_later p parts r vs arcs c m) (all_corners 0 (only parts r arcs)) (all_of_part parts r arcs (omega (arith, h))))

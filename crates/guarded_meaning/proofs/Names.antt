@@ -2,14 +2,14 @@
 pub use Rattle.std.proofs.lemmas.Bool.{false_from_ne_true, and_parts, or_cases, or_parts, not-true, or_right, both_ways, and_from, and_left, and_right, cases_lt, ltb-true, lt-ltb, le-ltb, or_from, ne_eqb, or_left, and_cases, cases_Bool, not-false, not_from_true, not_from_false, true≢false, le-leb, leb-true}
 pub use Rattle.std.proofs.lemmas.Bool.Decides.{nat_tests, Decides-int_eq}
 pub use Rattle.std.proofs.lemmas.Int.{ints}
-pub use Rattle.std.proofs.lemmas.List.{map-append, length-append}
+pub use Rattle.std.proofs.lemmas.List.{map-append, length-append, length-map}
 pub use Rattle.std.proofs.lemmas.List.Elements.{filter-append, filter_agree}
 pub use Rattle.std.proofs.lemmas.List.Sums.{sum_by-cons, sum_by-append}
 pub use Rattle.std.specs.List.{AllByRecursion, filter, count_by, list_all}
-pub use Rattle.std.specs.Ordering.{ordering_then, ordering_reverse, is_lt, int_eq, nat_cmp}
+pub use Rattle.std.specs.Ordering.{ordering_then, ordering_reverse, is_lt, nat_cmp}
 pub use Rattle.std.specs.declared.cmp.Ordering.TheVariants.{Equal}
 pub use lib.IntN.{*ℤ_comm, zero-*ℤ, *ℤ-zero}
-pub use Rattle.owned_values.proofs.Elements.{all_of, each_of, all_two, all_passed, all_weaker, all_right, all_of_map, all_append, all_map}
+pub use Rattle.owned_values.proofs.Elements.{all_of, each_of, all_two, all_passed, all_weaker, all_right, all_of_map, all_append, all_map, all_made}
 pub use Rattle.owned_values.proofs.Members.{in_left, in_right, in_append}
 pub use Rattle.owned_values.proofs.Tests.{holds_of_chosen, chosen_of}
 pub use Rattle.geometry.proofs.Areas.{sub_times_sub, cross_turned, sub_times, times_sub}
@@ -20,6 +20,7 @@ unfoldable pub use Rattle.geometry.specs.Joins.{number_of}
 pub use Rattle.geometry.specs.Lists.{In, map_some, joined, all_but_last_of, all_but_last, interior, AreDistinct}
 pub use Rattle.geometry.specs.Points.{Point}
 unfoldable pub use Rattle.geometry.specs.Rings.{same}
+pub use Rattle.junctions.proofs.Members.{in_filter, from_filter}
 pub use Rattle.junctions.specs.Cleaning.{clean, is_short, clean_from}
 pub use Rattle.elimination_meaning.proofs.Steps.{Holds, numbered_points}
 pub use Rattle.elimination_meaning.proofs.Sublists.{sub_filter, sub_map, sub_apart, sub_all, sub_same, sub_chain, sub_tail}
@@ -35,7 +36,7 @@ pub use Rattle.guarded_meaning.specs.Guards.{is_long, uses, guarded_by, has_empt
 unfoldable pub use Rattle.guarded_meaning.specs.Guards.{is_free, keeps_rings}
 pub use Rattle.guarded_meaning.specs.Laws.{RingsStay, IsInBox, BoxLaw, CountedByWeight, UnguardedLaw, UnguardedIndexLaw, ThinnedLaw, ArcsRise, NoneGoes, KeptByWeight, IsBeyondNone, SideLaw, EitherWay, StepLaw, CrossingsNeverRise, NoneStaysNone, FewerArcsLaw, HigherKeepsFewer, ShareIsGreatest, ShareStays, NoCrossingsLaw}
 pub use Rattle.guarded_meaning.specs.Lists.{EachTo, last_after, HasEndsOf, IsThinned}
-pub use Rattle.guarded_meaning.specs.Segments.{is_flat, is_between, is_left, is_right, segment, has_length, Segment, is_end, is_touched, bad_pairs}
+pub use Rattle.guarded_meaning.specs.Segments.{is_flat, is_between, segment, has_length, Segment, is_end, is_touched, bad_pairs}
 unfoldable pub use Rattle.guarded_meaning.specs.Segments.{is_on, same_ends, meets_badly, touches, separates, crosses}
 pub use Rattle.guarded_meaning.specs.Shares.{known, count_kept, keeps_share, greatest, chosen, IsGreatestShare}
 unfoldable pub use Rattle.guarded_meaning.specs.Shares.{share}

@@ -1,7 +1,7 @@
 -- The neighbours of arcs, and what a corner that goes makes of them: one pair in the place of its own two.
 use Rattle.std.proofs.Common.{◌≡◌, ◌≢◌, ℕ, suc, ◌<◌, ◌==◌, false, ◌&&◌, ◌||◌, List, [], ◌∷◌, ◌++◌, map, refl, ap, sym, ◌∙◌, subst, append_assoc, arith}
 use Rattle.guarded_meaning.proofs.Names.{and_right, or_from, ne_eqb, nat_tests, map-append, AllByRecursion, all_weaker, all_two, all_append, all_right, all_map, all_of_map, all_of, in_left, in_right, AreDistinct, In, Point, Vertex, without, ArcCorner, arc_corner_at, arc_corners, all_corners, Place, place_at, places, Neighbours, neighbours_at, segment_of, neighbours_from, neighbours, all_neighbours, is_pair_of, left_by, points_of, HasOwnIndexes, Segment, segment}
-use Rattle.guarded_meaning.proofs.Removal.{IsTaken, all_taken, in_next_arc, later_arcs}
+use Rattle.guarded_meaning.proofs.Removal.{IsTaken, all_taken, in_next_arc, first_and_later}
 use Rattle.guarded_meaning.proofs.Thinned.{AreRising}
 
 -- ---- their segments, by their positions
@@ -177,10 +177,8 @@ parted_later vs arcs c r =
 pub all_parted : (arcs : List (List Vertex)) → AllByRecursion HasOwnIndexes arcs → AllByRecursion (AreParted arcs) (all_corners 0 arcs)
 all_parted [] h = tt
 all_parted (vs ∷ arcs) h =
-    all_append (AreParted (vs ∷ arcs)) (arc_corners 0 vs) (all_corners 1 arcs)
-    (all_weaker (IsTaken 0 vs) (AreParted (vs ∷ arcs)) (λ c t. parted_first vs arcs c h.0 t) (arc_corners 0 vs) (all_taken 0 vs h.0))
-    (subst (AllByRecursion (AreParted (vs ∷ arcs))) (sym (later_arcs 0 arcs)) (all_map (AreParted (vs ∷ arcs)) in_next_arc (all_corners 0 arcs)
-    (all_weaker (AreParted arcs) (λ c. AreParted (vs ∷ arcs) (in_next_arc c)) (λ c r. parted_later vs arcs c r) (all_corners 0 arcs) (all_parted arcs h.1))))
+    first_and_later (AreParted (vs ∷ arcs)) vs arcs (all_weaker (IsTaken 0 vs) (AreParted (vs ∷ arcs)) (λ c t. parted_first vs arcs c h.0 t) (arc_corners 0 vs) (all_taken 0 vs h.0))
+    (all_weaker (AreParted arcs) (λ c. AreParted (vs ∷ arcs) (in_next_arc c)) (λ c r. parted_later vs arcs c r) (all_corners 0 arcs) (all_parted arcs h.1))
 
 -- ---- their places
 

@@ -1,8 +1,8 @@
 -- Each two segments of the reduced arcs that meet badly come of two that met badly.
-use Rattle.std.proofs.Common.{◌≡◌, ◌≢◌, ℕ, zero, suc, ◌<◌, ◌==◌, true, false, ◌&&◌, ◌||◌, not, List, [], ◌∷◌, ◌++◌, length, map, ◌⊎◌, inl, inr, refl, ap, sym, ◌∙◌, subst, arith}
-use Rattle.guarded_meaning.proofs.Names.{and_parts, both_ways, nat_tests, AllByRecursion, all_of, all_right, each_of, in_left, in_right, in_append, In, joined, Point, sub_map, sub_filter, Vertex, numbered, ArcCorner, arc_corner_at, all_corners, Neighbours, neighbours_at, segment_of, all_neighbours, is_pair_of, arc_segments, without_at, left_by, HasOwnIndexes, is_free, keeps_rings, guarded_by, NoCrossingsLaw, has_length, meets_badly}
+use Rattle.std.proofs.Common.{◌≡◌, ◌≢◌, ℕ, zero, suc, ◌<◌, ◌==◌, true, false, not, List, [], ◌∷◌, ◌++◌, length, map, ◌⊎◌, inl, inr, refl, ap, sym, ◌∙◌, subst, arith}
+use Rattle.guarded_meaning.proofs.Names.{and_parts, both_ways, nat_tests, in_filter, AllByRecursion, all_of, all_right, each_of, in_left, in_right, in_append, In, joined, Point, sub_map, sub_filter, Vertex, numbered, ArcCorner, arc_corner_at, all_corners, Neighbours, neighbours_at, segment_of, all_neighbours, is_pair_of, arc_segments, without_at, left_by, HasOwnIndexes, is_free, keeps_rings, guarded_by, NoCrossingsLaw, has_length, meets_badly}
 use Rattle.guarded_meaning.specs.Origins.{LiesWithin, MetBefore}
-use Rattle.guarded_meaning.proofs.Lists.{in_passed, passed_says}
+use Rattle.guarded_meaning.proofs.Lists.{passed_says}
 use Rattle.guarded_meaning.proofs.Free.{Avoids, avoids, met_before}
 use Rattle.guarded_meaning.proofs.Kept.{eliminate_keeps}
 use Rattle.guarded_meaning.proofs.Neighbours.{AreParted, all_parted, Rises, Ascends, all_ascend}
@@ -48,16 +48,10 @@ abbrev runs : Neighbours → Type 0
 runs n = has_length (segment_of n) ≡ true
 
 pub own_first : (c : ArcCorner) (a p d : _) → c ≡ arc_corner_at c.arc a p d → is_pair_of c (neighbours_at c.arc a p) ≡ true
-own_first c a p d e = subst (λ (x : ArcCorner). is_pair_of x (neighbours_at c.arc a p) ≡ true) (sym e) (passes c.arc a.index p.index)
-  where
-    passes : (k i j : ℕ) → ((k == k) && ((i == j) || (j == j))) ≡ true
-    passes k i j = grind (arith, nat_tests)
+own_first c a p d e = subst (λ (x : ArcCorner). is_pair_of x (neighbours_at c.arc a p) ≡ true) (sym e) (grind (arith, nat_tests))
 
 pub own_second : (c : ArcCorner) (a p d : _) → c ≡ arc_corner_at c.arc a p d → is_pair_of c (neighbours_at c.arc p d) ≡ true
-own_second c a p d e = subst (λ (x : ArcCorner). is_pair_of x (neighbours_at c.arc p d) ≡ true) (sym e) (passes c.arc p.index d.index)
-  where
-    passes : (k i j : ℕ) → ((k == k) && ((i == i) || (j == i))) ≡ true
-    passes k i j = grind (arith, nat_tests)
+own_second c a p d e = subst (λ (x : ArcCorner). is_pair_of x (neighbours_at c.arc p d) ≡ true) (sym e) (grind (arith, nat_tests))
 
 -- ---- a corner goes
 
@@ -94,7 +88,7 @@ module _ (old : List Neighbours) (arcs : List (List Vertex)) (c : ArcCorner) (r 
   Stays n = In n (r.front ++ (one ∷ (two ∷ r.back))) × (is_pair_of c n ≡ false) × runs n
 
   is_segment : (n : Neighbours) → In n (r.front ++ (one ∷ (two ∷ r.back))) → runs n → In n (arc_segments arcs)
-  is_segment n m l = in_passed (λ i. has_length (segment_of i)) n (all_neighbours 0 arcs) l (among n m)
+  is_segment n m l = in_filter (λ i. has_length (segment_of i)) n (all_neighbours 0 arcs) (among n m) l
 
   which_of : (n : Neighbours) → runs n → In n r.front ⊎ In n (made ∷ r.back) → Stays n ⊎ (n ≡ made)
   which_of n l (inl m) = inl (in_left n r.front (one ∷ (two ∷ r.back)) m, each_of (λ i. is_pair_of c i ≡ false) r.front n r.before m, l)

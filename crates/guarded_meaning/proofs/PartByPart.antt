@@ -1,7 +1,7 @@
 -- Where each part stays apart from the others, it is reduced as if there were no others.
-use Rattle.std.proofs.Common.{◌≡◌, ◌≢◌, ℕ, zero, suc, ◌≤◌, true, false, nat_lt, List, [], ◌∷◌, length, map, Option, Some, None, ◌⊎◌, inl, inr, refl, ap, sym, ◌∙◌, subst, arith}
+use Rattle.std.proofs.Common.{◌≡◌, ◌≢◌, ℕ, zero, suc, ◌≤◌, true, false, nat_lt, List, length, map, Option, Some, None, ◌⊎◌, inl, inr, refl, ap, sym, ◌∙◌, subst, arith}
 use Rattle.std.proofs.lemmas.Bool.{cases_eq}
-use Rattle.guarded_meaning.proofs.Names.{and_parts, and_from, both_ways, false_from_ne_true, AllByRecursion, each_of, joined, In, Point, numbered, Vertex, HasOwnIndexes, ArcCorner, all_corners, left_by, Guard, goes, next_corner, next_arcs, eliminate_arcs, is_free, EachTo}
+use Rattle.guarded_meaning.proofs.Names.{length-map, and_parts, and_from, both_ways, false_from_ne_true, AllByRecursion, each_of, joined, In, Point, numbered, Vertex, HasOwnIndexes, ArcCorner, all_corners, left_by, Guard, goes, next_corner, next_arcs, eliminate_arcs, is_free, EachTo}
 use Rattle.guarded_meaning.specs.Parts.{only, outside, IsClearOf, GoesFirst, StaysApart, PartsLaw}
 use Rattle.guarded_meaning.proofs.Apart.{uncrossed, after, goes_free, steps_enough, apart_more}
 use Rattle.guarded_meaning.proofs.First.{IsNext, next_law, no_next_law, next_is, none_is_next}
@@ -126,14 +126,10 @@ module _ (parts : List ℕ) (t : ℕ) (old : List (List Point)) where
   part_by_part zero arcs s l apart = λ r. refl
   part_by_part (suc n) arcs s l apart = go_by_part n arcs s l apart (λ left w k a. part_by_part n left w k a) (next_corner goes_in_part arcs) refl
 
-same_many : (arcs : List (List Point)) → length (map (numbered 0) arcs) ≡ length arcs
-same_many [] = refl
-same_many (ps ∷ arcs) = ap suc (same_many arcs)
-
 pub parts_law : PartsLaw
 parts_law parts t arcs many apart r =
     let l = length_joined t arcs in
-    let start : IsState parts t arcs (map (numbered 0) arcs) = record { own = all_numbered_own arcs; many = many ∙ sym (same_many arcs); stands = numbered_stands arcs } in
+    let start : IsState parts t arcs (map (numbered 0) arcs) = record { own = all_numbered_own arcs; many = many ∙ sym (length-map arcs (numbered 0)); stands = numbered_stands arcs } in
     let k = only_shorter parts r (map (numbered 0) arcs) in
     let q = length_joined t (only parts r arcs) in
     let e = ap (λ left. length (joined left)) (only_numbered parts r arcs) in

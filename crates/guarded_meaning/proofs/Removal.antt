@@ -1,6 +1,7 @@
 -- What is left when a corner goes: the arcs without one vertex, which keep their own indexes.
-use Rattle.std.proofs.Common.{◌≡◌, ◌≢◌, ℕ, zero, suc, ◌+◌, ◌<◌, not, ◌==◌, List, [], ◌∷◌, ◌++◌, map, refl, ap, sym, ◌∙◌, subst, arith}
-use Rattle.guarded_meaning.proofs.Names.{nat_tests, map-append, AllByRecursion, all_weaker, all_right, all_of_map, Point, sub_filter, sub_map, sub_apart, Vertex, without, numbered, HasOwnIndexes, ArcCorner, arc_corner_at, arc_corners_from, arc_corners, all_corners, without_at}
+use Rattle.std.proofs.Common.{◌≡◌, ◌≢◌, ℕ, zero, suc, ◌<◌, not, ◌==◌, List, [], ◌∷◌, ◌++◌, map, refl, ap, sym, ◌∙◌, subst, arith}
+use Rattle.elimination_meaning.proofs.Rising.{AreRising, numbered_rising}
+use Rattle.guarded_meaning.proofs.Names.{nat_tests, AreDistinct, map-append, AllByRecursion, all_weaker, all_right, all_of_map, all_append, all_map, Point, sub_filter, sub_map, sub_apart, Vertex, without, numbered, HasOwnIndexes, ArcCorner, arc_corner_at, arc_corners_from, arc_corners, all_corners, without_at}
 
 -- ---- one arc
 
@@ -65,8 +66,7 @@ all_taken k (a ∷ (b ∷ vs)) h = taken_from k a b vs h
 
 -- ---- several arcs
 
--- the same corner, where another arc comes first
--- a corner whose arc has another number
+-- a corner whose arc has another number, and so it is where another arc comes first
 abbrev pub moved : (ℕ → ℕ) → ArcCorner → ArcCorner
 moved g c = record { arc = g c.arc; before = c.before; corner = c.corner; after = c.after }
 
@@ -87,6 +87,10 @@ later_arcs k [] = refl
 later_arcs k (vs ∷ arcs) = ap (λ cs. cs ++ all_corners (suc (suc k)) arcs) (moved_arc suc k vs) ∙ ap (λ cs. map in_next_arc (arc_corners k vs) ++ cs) (later_arcs (suc k) arcs)
     ∙ sym (map-append in_next_arc (arc_corners k vs) (all_corners (suc k) arcs))
 
+-- what holds of the first arc's corners, and of the others' where it comes first, holds of all
+pub first_and_later : (P : ArcCorner → Type 0) (vs : List Vertex) (arcs : List (List Vertex)) → AllByRecursion P (arc_corners 0 vs) → AllByRecursion (λ c. P (in_next_arc c)) (all_corners 0 arcs) → AllByRecursion P (all_corners 0 (vs ∷ arcs))
+first_and_later P vs arcs h k = all_append P (arc_corners 0 vs) (all_corners 1 arcs) h (subst (AllByRecursion P) (sym (later_arcs 0 arcs)) (all_map P in_next_arc (all_corners 0 arcs) k))
+
 -- ---- indexes stay distinct
 
 pub own_indexes_left : (k i : ℕ) (arcs : List (List Vertex)) → AllByRecursion HasOwnIndexes arcs → AllByRecursion HasOwnIndexes (without_at k i arcs)
@@ -94,14 +98,10 @@ own_indexes_left k i [] h = tt
 own_indexes_left zero i (vs ∷ arcs) h = (sub_apart (sub_map (λ v. v.index) (sub_filter (λ v. not (v.index == i)) vs)) h.0, h.1)
 own_indexes_left (suc k) i (vs ∷ arcs) h = (h.0, own_indexes_left k i arcs h.1)
 
-numbered_over : (k i : ℕ) (ps : List Point) → k < i → AllByRecursion (λ j. k ≢ j) (map (λ v. v.index) (numbered i ps))
-numbered_over k i [] h = tt
-numbered_over k i (p ∷ ps) h = ((λ e. omega (arith, e, h)), numbered_over k (i + 1) ps (omega (arith, h)))
-
-numbered_own : (i : ℕ) (ps : List Point) → HasOwnIndexes (numbered i ps)
-numbered_own i [] = tt
-numbered_own i (p ∷ ps) = (numbered_over i (i + 1) ps (omega arith), numbered_own (i + 1) ps)
+rising_apart : (is : List ℕ) → AreRising is → AreDistinct is
+rising_apart [] h = tt
+rising_apart (i ∷ is) h = (all_weaker (λ j. i < j) (λ j. i ≢ j) (λ j l e. omega (arith, l, e)) is h.0, rising_apart is h.1)
 
 pub all_numbered_own : (arcs : List (List Point)) → AllByRecursion HasOwnIndexes (map (numbered 0) arcs)
 all_numbered_own [] = tt
-all_numbered_own (ps ∷ arcs) = (numbered_own 0 ps, all_numbered_own arcs)
+all_numbered_own (ps ∷ arcs) = (rising_apart (map (λ v. v.index) (numbered 0 ps)) (numbered_rising 0 ps), all_numbered_own arcs)

@@ -1,5 +1,5 @@
 -- Rings of four positions or more keep as many.
-use Rattle.std.proofs.Common.{◌≡◌, ◌≢◌, ℕ, zero, suc, ℤ, pos, negsuc, ◌==◌, Bool, true, false, not, ◌||◌, List, [], ◌∷◌, length, map, ◌⊎◌, inl, inr, refl, ap, sym, ◌∙◌, subst, reverse, arith}
+use Rattle.std.proofs.Common.{◌≡◌, ◌≢◌, ℕ, zero, suc, ℤ, pos, negsuc, ◌==◌, Bool, true, false, not, ◌||◌, List, [], ◌∷◌, length, map, inl, inr, refl, ap, sym, ◌∙◌, subst, reverse, arith}
 use Rattle.guarded_meaning.proofs.Names.{and_parts, or_cases, or_parts, not-true, nat_tests, AllByRecursion, all_of, all_two, all_passed, at, or_empty, arc_at, stitched, number_of, joined, clean, is_short, Vertex, numbered, all_corners, without_at, left_by, points_of, reduced_arcs, is_free, is_long, uses, keeps_rings, guarded_by, RingsStay}
 use Rattle.guarded_meaning.proofs.Kept.{eliminate_keeps, points_numbered}
 
@@ -33,11 +33,10 @@ abbrev Long : List (List Vertex) → List ℤ → Type 0
 Long arcs refs = is_long (points_of arcs) refs ≡ true
 
 long_left : (k i : ℕ) (arcs : List (List Vertex)) (refs : List ℤ) → Long arcs refs → (not (uses k refs) || is_long (points_of (without_at k i arcs)) refs) ≡ true → Long (without_at k i arcs) refs
-long_left k i arcs refs h g = on (or_cases (not (uses k refs)) (is_long (points_of (without_at k i arcs)) refs) g)
-  where
-    on : (not (uses k refs) ≡ true) ⊎ (is_long (points_of (without_at k i arcs)) refs ≡ true) → Long (without_at k i arcs) refs
-    on (inl e) = ap (λ pss. not (is_short true (clean (stitched pss)))) (arcs_at_other k i refs arcs (not-true (uses k refs) e)) ∙ h
-    on (inr e) = e
+long_left k i arcs refs h g = elim (or_cases (not (uses k refs)) (is_long (points_of (without_at k i arcs)) refs) g) [
+  | inl e ↦ ap (λ pss. not (is_short true (clean (stitched pss)))) (arcs_at_other k i refs arcs (not-true (uses k refs) e)) ∙ h
+  | inr e ↦ e
+]
 
 long_step : (b : Bool) (rings : List (List ℤ)) (arcs : List (List Vertex)) → AllByRecursion (Long arcs) rings → AllByRecursion (λ c. guarded_by b rings arcs c ≡ true → AllByRecursion (Long (left_by arcs c)) rings) (all_corners 0 arcs)
 unfolding keeps_rings

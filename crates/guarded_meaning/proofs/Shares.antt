@@ -1,5 +1,5 @@
 -- The greatest threshold at which a share stays.
-use Rattle.std.proofs.Common.{◌≡◌, ℕ, ◌+◌, ◌*◌, ◌<◌, ◌≤◌, max, Bool, true, false, cond, List, [], ◌∷◌, length, Option, refl, ap, sym, ◌∙◌, subst, arith, ◌⊎◌, inl, inr}
+use Rattle.std.proofs.Common.{◌≡◌, ℕ, ◌+◌, ◌*◌, ◌<◌, ◌≤◌, Bool, true, cond, List, [], ◌∷◌, length, Option, refl, ap, sym, ◌∙◌, subst, arith, ◌⊎◌, inl, inr}
 use Rattle.guarded_meaning.proofs.Names.{le-leb, leb-true, cases_lt, sum_by-cons, filter, count_by, In, is_kept_at, reduced_arcs, ShareIsGreatest, ShareStays, known, count_kept, keeps_share, greatest, share, chosen, IsGreatestShare, interior_weights, interior_count}
 use Rattle.std.proofs.lemmas.Nat.{mul-le}
 use Rattle.guarded_meaning.proofs.Interiors.{counted_by_weight, weights_count}
@@ -10,33 +10,13 @@ use Rattle.guarded_meaning.proofs.Weights.{kept_at_zero}
 abbrev Passes : (ℕ → Bool) → List ℕ → ℕ → Type 0
 Passes f ws t = (t ≡ 0) ⊎ (In t ws × (f t ≡ true))
 
-following : (f : ℕ → Bool) (w : ℕ) (ws : List ℕ) (t : ℕ) → Passes f ws t → Passes f (w ∷ ws) t
-following f w ws t (inl e) = inl e
-following f w ws t (inr k) = inr (inr k.0, k.1)
-
-larger : (f : ℕ → Bool) (ws : List ℕ) (m n : ℕ) → Passes f ws m → Passes f ws n → Passes f ws (max m n)
-larger f ws m n h k = on (cases_lt m n)
-  where
-    on : (m < n) ⊎ (n ≤ m) → Passes f ws (max m n)
-    on (inl l) = let e : n ≡ max m n = omega arith in subst (λ t. Passes f ws t) e k
-    on (inr l) = let e : m ≡ max m n = omega arith in subst (λ t. Passes f ws t) e h
-
 passes_of : (f : ℕ → Bool) (ws : List ℕ) → Passes f ws (greatest (filter f ws))
 passes_of f [] = inl refl
-passes_of f (w ∷ ws) = on (f w) refl (passes_of f ws)
-  where
-    on : (b : Bool) → f w ≡ b → Passes f ws (greatest (filter f ws)) → Passes f (w ∷ ws) (greatest (cond b (w ∷ filter f ws) (filter f ws)))
-    on true e ih = larger f (w ∷ ws) w (greatest (filter f ws)) (inr (inl refl, e)) (following f w ws (greatest (filter f ws)) ih)
-    on false e ih = following f w ws (greatest (filter f ws)) ih
+passes_of f (w ∷ ws) = grind (arith, passes_of f ws)
 
 under_greatest : (f : ℕ → Bool) (ws : List ℕ) (w : ℕ) → In w ws → f w ≡ true → w ≤ greatest (filter f ws)
 under_greatest f [] w m e = elim m [ ]
-under_greatest f (v ∷ ws) w (inl n) e = subst (λ b. w ≤ greatest (cond b (v ∷ filter f ws) (filter f ws))) (sym (ap f (sym n) ∙ e)) (omega (arith, n))
-under_greatest f (v ∷ ws) w (inr m) e = on (f v) (under_greatest f ws w m e)
-  where
-    on : (b : Bool) → w ≤ greatest (filter f ws) → w ≤ greatest (cond b (v ∷ filter f ws) (filter f ws))
-    on true k = omega (arith, k)
-    on false k = k
+under_greatest f (v ∷ ws) w m e = grind (arith, under_greatest f ws w)
 
 -- ---- at zero all stay
 

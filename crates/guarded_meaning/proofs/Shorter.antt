@@ -1,5 +1,5 @@
 -- Rings are no longer where arcs have fewer positions.
-use Rattle.std.proofs.Common.{◌≡◌, ℕ, zero, suc, ℤ, pos, negsuc, ◌≤◌, Bool, true, false, not, ◌==◌, nat_lt, List, [], ◌∷◌, length, map, reverse, refl, subst, if◌then◌else◌, arith}
+use Rattle.std.proofs.Common.{◌≡◌, ℕ, zero, suc, ℤ, pos, negsuc, ◌≤◌, Bool, true, false, not, ◌==◌, nat_lt, List, [], ◌∷◌, length, map, reverse, if◌then◌else◌, arith}
 use mathlib.Core.List.{reverse_aux}
 use Rattle.guarded_meaning.proofs.Names.{nat_tests, same_is, at, or_empty, arc_at, joined_after_first, stitched, Point, same, clean, clean_from, sub_same, sub_tail, sub_map, sub_filter, Vertex, without, Sublist, none, keep, skip, without_at, points_of, ring_of, is_long, EachTo}
 use Rattle.guarded_meaning.proofs.Lists.{sub_both, sub_passed}
@@ -20,20 +20,12 @@ at_most_one false p ps = omega arith
 -- another first position makes one run more at most
 other_first : (p q : Point) (ps : List Point) → runs p ps ≤ suc (runs q ps)
 other_first p q [] = omega arith
-other_first p q (r ∷ ps) = let h = at_most_one (same p r) p (clean_from r ps) in let k = one_more (same q r) q (clean_from r ps) in omega (arith, h, k)
+other_first p q (r ∷ ps) = grind (arith, one_more (same q r) q (clean_from r ps), at_most_one (same p r) p (clean_from r ps))
 
 runs_fewer : {ps qs : List Point} → Sublist ps qs → (p : Point) → runs p ps ≤ runs p qs
 runs_fewer none p = omega arith
-runs_fewer (keep {x} {xs} {ys} s) p = on (same p x) (runs_fewer s x)
-  where
-    on : (b : Bool) → runs x xs ≤ runs x ys → length (if b then clean_from x xs else p ∷ clean_from x xs) ≤ length (if b then clean_from x ys else p ∷ clean_from x ys)
-    on true h = h
-    on false h = omega (arith, h)
-runs_fewer (skip {y} {xs} {ys} s) p = on (same p y) refl (runs_fewer s p) (runs_fewer s y)
-  where
-    on : (b : Bool) → same p y ≡ b → runs p xs ≤ runs p ys → runs y xs ≤ runs y ys → runs p xs ≤ length (if b then clean_from y ys else p ∷ clean_from y ys)
-    on true e h k = subst (λ (x : Point). runs p xs ≤ runs x ys) (same_is p y e) h
-    on false e h k = let l = other_first p y xs in omega (arith, k, l)
+runs_fewer (keep {x} {xs} {ys} s) p = grind (arith, runs_fewer s x)
+runs_fewer (skip {y} {xs} {ys} s) p = grind (arith, same_is p y, runs_fewer s p, runs_fewer s y, other_first p y xs)
 
 clean_fewer : {ps qs : List Point} → Sublist ps qs → length (clean ps) ≤ length (clean qs)
 clean_fewer none = omega arith
@@ -42,7 +34,7 @@ clean_fewer (skip {y} {xs} {ys} s) = on xs (runs_fewer s y)
   where
     on : (rs : List Point) → runs y rs ≤ runs y ys → length (clean rs) ≤ runs y ys
     on [] h = omega arith
-    on (r ∷ rs) h = let k = one_more (same y r) y (clean_from r rs) in omega (arith, h, k)
+    on (r ∷ rs) h = grind (arith, one_more (same y r) y (clean_from r rs))
 
 -- ---- reversed
 

@@ -1,16 +1,10 @@
 -- What the tests on positions decide, and what makes them pass.
-use Rattle.std.proofs.Common.{◌≡◌, ◌≢◌, true, false, not, ◌&&◌, ◌||◌, ℤ, pos, int_lt, int_le, ◌-ℤ◌, ◌*ℤ◌, ◌+ℤ◌, ◌<ℤ◌, ◌≤ℤ◌, ◌⊎◌, inl, inr, refl, ap, sym, ◌∙◌, arith}
-use Rattle.guarded_meaning.proofs.Names.{or_right, Decides-int_eq, ints, int_eq, *ℤ_comm, zero-*ℤ, sub_times_sub, cross, Point, is_flat, is_between, is_on, none_right, none_left, in_triangle}
+use Rattle.std.proofs.Common.{◌≡◌, ◌≢◌, Bool, true, false, not, ◌&&◌, ◌||◌, ℤ, pos, int_lt, int_le, ◌-ℤ◌, ◌*ℤ◌, ◌+ℤ◌, ◌<ℤ◌, ◌≤ℤ◌, ◌⊎◌, refl, ap, sym, ◌∙◌, arith}
+use Rattle.guarded_meaning.proofs.Names.{Decides-int_eq, ints, *ℤ_comm, zero-*ℤ, sub_times_sub, cross, Point, is_flat, is_between, is_on, none_right, none_left, in_triangle}
 use Rattle.guarded_meaning.proofs.Crosses.{turned, three_ways, three_ways_up, cross_is, cross_round}
 use Rattle.guarded_meaning.proofs.Signs.{on_sides}
 
 -- ---- numbers
-
-pub lt_passes : (x y : ℤ) → (x <ℤ y) → int_lt x y ≡ true
-lt_passes x y h = sym (omega (arith, ints, h))
-
-pub lt_fails : (x y : ℤ) → (y ≤ℤ x) → int_lt x y ≡ false
-lt_fails x y h = sym (omega (arith, ints, h))
 
 pub le_passes : (x y : ℤ) → (x ≤ℤ y) → int_le x y ≡ true
 le_passes x y h = sym (omega (arith, ints, h))
@@ -18,12 +12,18 @@ le_passes x y h = sym (omega (arith, ints, h))
 pub lt_says : (x y : ℤ) → int_lt x y ≡ true → (x <ℤ y)
 lt_says x y h = omega (arith, ints, h)
 
-pub eq_fails : (x y : ℤ) → x ≢ y → int_eq x y ≡ false
-eq_fails x y h = grind (arith, Decides-int_eq)
+pub lt_denied : (x y : ℤ) → int_lt x y ≡ false → (y ≤ℤ x)
+lt_denied x y h = omega (arith, ints, h)
+
+-- on the way from one number to another
+abbrev pub Between : ℤ → ℤ → ℤ → Type 0
+Between x y z = ((x ≤ℤ z) × (z ≤ℤ y)) ⊎ ((y ≤ℤ z) × (z ≤ℤ x))
+
+pub between_says : (x y z : ℤ) → is_between x y z ≡ true → Between x y z
+between_says x y z h = grind (arith, ints)
 
 between_passes : (x y z : ℤ) → (((x -ℤ z) ≤ℤ pos 0) × (pos 0 ≤ℤ (y -ℤ z))) ⊎ ((pos 0 ≤ℤ (x -ℤ z)) × ((y -ℤ z) ≤ℤ pos 0)) → is_between x y z ≡ true
-between_passes x y z (inl h) = rw (le_passes x z (omega (arith, ints, h.0)), le_passes z y (omega (arith, ints, h.1))) refl
-between_passes x y z (inr h) = or_right (int_le x z && int_le z y) (int_le y z && int_le z x) (rw (le_passes y z (omega (arith, ints, h.1)), le_passes z x (omega (arith, ints, h.0))) refl)
+between_passes x y z h = grind (arith, ints)
 
 -- ---- a position on a line, and on the segment
 
@@ -49,57 +49,56 @@ cross_ways q u v = refl
 two_left : (k l m x y z : ℤ) → k *ℤ x +ℤ (l *ℤ y +ℤ m *ℤ z) ≡ pos 0 → m ≡ pos 0 → x *ℤ k +ℤ y *ℤ l ≡ pos 0
 two_left k l m x y z e n = omega (arith, ints, e, *ℤ_comm k x, *ℤ_comm l y, ap (λ i. i *ℤ z) n ∙ zero-*ℤ z)
 
-module _ (u v q w x : Point) (line : cross u v q ≡ pos 0) (one : (cross w x q <ℤ cross w x u)) (other : (cross w x v <ℤ cross w x q)) where
-  abbrev ux : ℤ
-  ux = u.x -ℤ q.x
+-- two ways on one line, to either side of a third, are on either side of nothing
+on_either : (ux uy vx vy wx wy : ℤ) → turned ux uy vx vy ≡ pos 0 → (pos 0 <ℤ turned vx vy wx wy) → (pos 0 <ℤ turned wx wy ux uy) →
+    (((ux ≤ℤ pos 0) × (pos 0 ≤ℤ vx)) ⊎ ((pos 0 ≤ℤ ux) × (vx ≤ℤ pos 0))) × (((uy ≤ℤ pos 0) × (pos 0 ≤ℤ vy)) ⊎ ((pos 0 ≤ℤ uy) × (vy ≤ℤ pos 0)))
+on_either ux uy vx vy wx wy n h k = (
+  on_sides ux vx (turned vx vy wx wy) (turned wx wy ux uy) (two_left (turned vx vy wx wy) (turned wx wy ux uy) (turned ux uy vx vy) ux vx wx (three_ways ux uy vx vy wx wy) n) h k,
+  on_sides uy vy (turned vx vy wx wy) (turned wx wy ux uy) (two_left (turned vx vy wx wy) (turned wx wy ux uy) (turned ux uy vx vy) uy vy wy (three_ways_up ux uy vx vy wx wy) n) h k,
+)
 
-  abbrev uy : ℤ
-  uy = u.y -ℤ q.y
+-- where a line separates two positions, one between them on their line is on their segment
+pub on_passes : (u v q w x : Point) → cross u v q ≡ pos 0 → (cross w x q <ℤ cross w x u) → (cross w x v <ℤ cross w x q) → is_on u v q ≡ true
+unfolding is_on
+on_passes u v q w x line one other =
+    let m = on_either (u.x -ℤ q.x) (u.y -ℤ q.y) (v.x -ℤ q.x) (v.y -ℤ q.y) (x.x -ℤ w.x) (x.y -ℤ w.y) (sym (cross_ways q u v) ∙ cross_round q u v ∙ line)
+    (omega (arith, ints, way_turned w x v q, other, turned_back (x.x -ℤ w.x) (x.y -ℤ w.y) (v.x -ℤ q.x) (v.y -ℤ q.y))) (omega (arith, ints, way_turned w x u q, one)) in
+    rw ((Decides-int_eq (cross u v q) (pos 0)).1 line, between_passes u.x v.x q.x m.0, between_passes u.y v.y q.y m.1) refl
 
-  abbrev vx : ℤ
-  vx = v.x -ℤ q.x
+-- ---- one of four
 
-  abbrev vy : ℤ
-  vy = v.y -ℤ q.y
+pub one_of : (w x y z : Bool) → (w || (x || (y || z))) ≡ true → (w ≡ true) ⊎ ((x ≡ true) ⊎ ((y ≡ true) ⊎ (z ≡ true)))
+one_of w x y z h = grind arith
 
-  abbrev wx : ℤ
-  wx = x.x -ℤ w.x
-
-  abbrev wy : ℤ
-  wy = x.y -ℤ w.y
-
-  to_first : (pos 0 <ℤ turned wx wy ux uy)
-  to_first = omega (arith, ints, way_turned w x u q, one)
-
-  to_second : (pos 0 <ℤ turned vx vy wx wy)
-  to_second = omega (arith, ints, way_turned w x v q, other, turned_back wx wy vx vy)
-
-  none : turned ux uy vx vy ≡ pos 0
-  none = sym (cross_ways q u v) ∙ cross_round q u v ∙ line
-
-  -- where a line separates two positions, one between them on their line is on their segment
-  pub on_passes : is_on u v q ≡ true
-  unfolding is_on
-  on_passes = rw (
-    (Decides-int_eq (cross u v q) (pos 0)).1 line,
-    between_passes u.x v.x q.x (on_sides ux vx (turned vx vy wx wy) (turned wx wy ux uy) (two_left (turned vx vy wx wy) (turned wx wy ux uy) (turned ux uy vx vy) ux vx wx (three_ways ux uy vx vy wx wy) none) to_second to_first),
-    between_passes u.y v.y q.y (on_sides uy vy (turned vx vy wx wy) (turned wx wy ux uy) (two_left (turned vx vy wx wy) (turned wx wy ux uy) (turned ux uy vx vy) uy vy wy (three_ways_up ux uy vx vy wx wy) none) to_second to_first),
-  ) refl
+pub from_one : (w x y z : Bool) → (w ≡ true) ⊎ ((x ≡ true) ⊎ ((y ≡ true) ⊎ (z ≡ true))) → (w || (x || (y || z))) ≡ true
+from_one w x y z h = grind arith
 
 -- ---- a triangle
 
--- a position is in it where the triangle isn't flat and it is to the right of no side
-pub within_left : (a p c q : Point) → (pos 0 ≤ℤ cross a p q) → (pos 0 ≤ℤ cross p c q) → (pos 0 ≤ℤ cross c a q) → cross a p c ≢ pos 0 → in_triangle a p c q ≡ true
-unfolding in_triangle
-within_left a p c q h k l n = or_right (is_on a c q) (is_on a p q || (is_on p c q || (not (is_flat a p c) && (none_right a p c q || none_left a p c q))))
-    (or_right (is_on a p q) (is_on p c q || (not (is_flat a p c) && (none_right a p c q || none_left a p c q)))
-    (or_right (is_on p c q) (not (is_flat a p c) && (none_right a p c q || none_left a p c q))
-    (rw (eq_fails (cross a p c) (pos 0) n, lt_fails (cross a p q) (pos 0) h, lt_fails (cross p c q) (pos 0) k, lt_fails (cross c a q) (pos 0) l) refl)))
+-- it isn't flat, and the position is beyond none of its sides
+abbrev pub is_inner : Point → Point → Point → Point → Bool
+is_inner a p c q = not (is_flat a p c) && (none_right a p c q || none_left a p c q)
 
-pub within_right : (a p c q : Point) → (cross a p q ≤ℤ pos 0) → (cross p c q ≤ℤ pos 0) → (cross c a q ≤ℤ pos 0) → cross a p c ≢ pos 0 → in_triangle a p c q ≡ true
+abbrev pub OneSign : ℤ → ℤ → ℤ → Type 0
+OneSign j k l = ((pos 0 ≤ℤ j) × (pos 0 ≤ℤ k) × (pos 0 ≤ℤ l)) ⊎ ((j ≤ℤ pos 0) × (k ≤ℤ pos 0) × (l ≤ℤ pos 0))
+
+abbrev pub IsInner : Point → Point → Point → Point → Type 0
+IsInner a p c q = (cross a p c ≢ pos 0) × OneSign (cross a p q) (cross p c q) (cross c a q)
+
+pub inner_says : (a p c q : Point) → is_inner a p c q ≡ true → IsInner a p c q
+inner_says a p c q h = grind (arith, ints, Decides-int_eq)
+
+pub inner_passes : (a p c q : Point) → IsInner a p c q → is_inner a p c q ≡ true
+inner_passes a p c q h = grind (arith, ints, Decides-int_eq)
+
+-- it holds the position: on a side, or within it
+abbrev pub Has : Point → Point → Point → Point → Type 0
+Has a p c q = (is_on a c q ≡ true) ⊎ ((is_on a p q ≡ true) ⊎ ((is_on p c q ≡ true) ⊎ (is_inner a p c q ≡ true)))
+
+pub has_says : (a p c q : Point) → in_triangle a p c q ≡ true → Has a p c q
 unfolding in_triangle
-within_right a p c q h k l n = or_right (is_on a c q) (is_on a p q || (is_on p c q || (not (is_flat a p c) && (none_right a p c q || none_left a p c q))))
-    (or_right (is_on a p q) (is_on p c q || (not (is_flat a p c) && (none_right a p c q || none_left a p c q)))
-    (or_right (is_on p c q) (not (is_flat a p c) && (none_right a p c q || none_left a p c q))
-    (rw (eq_fails (cross a p c) (pos 0) n) (or_right (none_right a p c q) (none_left a p c q)
-    (rw (lt_fails (pos 0) (cross a p q) h, lt_fails (pos 0) (cross p c q) k, lt_fails (pos 0) (cross c a q) l) refl)))))
+has_says a p c q h = one_of (is_on a c q) (is_on a p q) (is_on p c q) (is_inner a p c q) h
+
+pub has_passes : (a p c q : Point) → Has a p c q → in_triangle a p c q ≡ true
+unfolding in_triangle
+has_passes a p c q h = from_one (is_on a c q) (is_on a p q) (is_on p c q) (is_inner a p c q) h

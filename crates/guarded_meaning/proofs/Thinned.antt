@@ -1,10 +1,10 @@
 -- The arcs stay as many, each with its ends and without new positions, and no corner that is left may go.
-use Rattle.std.proofs.Common.{◌≡◌, ℕ, zero, suc, ◌+◌, ◌-◌, ◌<◌, ◌≤◌, true, List, [], ◌∷◌, ◌++◌, length, map, Option, Some, None, refl, ap, sym, ◌∙◌, subst, arith}
-use Rattle.guarded_meaning.proofs.Names.{length-append, AllByRecursion, filter, all_weaker, all_append, all_map, joined, map_some, Point, Holds, sub_same, sub_chain, sub_map, sub_filter, Vertex, without, numbered, Sublist, HasOwnIndexes, ArcCorner, arc_corners, all_corners, left_by, points_of, first_corner, Guard, goes, next_arcs, eliminate_arcs, remaining_arcs, reduced_arcs, reduce_arcs, ThinnedLaw, ArcsRise, NoneGoes, EachTo, last_after, HasEndsOf, IsThinned}
+use Rattle.std.proofs.Common.{◌≡◌, ℕ, zero, suc, ◌+◌, ◌-◌, ◌<◌, ◌≤◌, true, List, [], ◌∷◌, ◌++◌, length, map, None, refl, ap, sym, ◌∙◌, subst, arith}
+use Rattle.guarded_meaning.proofs.Names.{length-append, AllByRecursion, filter, all_weaker, joined, map_some, Point, Holds, sub_same, sub_chain, sub_map, sub_filter, Vertex, without, numbered, Sublist, HasOwnIndexes, ArcCorner, arc_corners, all_corners, left_by, points_of, first_corner, Guard, goes, next_arcs, eliminate_arcs, remaining_arcs, reduced_arcs, reduce_arcs, ThinnedLaw, ArcsRise, NoneGoes, EachTo, last_after, HasEndsOf, IsThinned}
 use Rattle.elimination_meaning.specs.Rising.{RisesTo, RisesOver}
 pub use Rattle.elimination_meaning.proofs.Rising.{AreRising, sub_rising, numbered_rising}
 use Rattle.guarded_meaning.proofs.Kept.{next_holds, eliminate_keeps, points_numbered}
-use Rattle.guarded_meaning.proofs.Removal.{IsTaken, all_taken, in_next_arc, later_arcs, own_indexes_left, all_numbered_own}
+use Rattle.guarded_meaning.proofs.Removal.{IsTaken, all_taken, in_next_arc, first_and_later, own_indexes_left, all_numbered_own}
 use Rattle.guarded_meaning.proofs.Unguarded.{length_joined}
 
 -- ---- ends
@@ -14,11 +14,7 @@ ends_same [] = tt
 ends_same (x ∷ xs) = (refl, refl)
 
 ends_chain : {X : Type 0} (xs ys zs : List X) → HasEndsOf xs ys → HasEndsOf ys zs → HasEndsOf xs zs
-ends_chain [] [] zs h k = k
-ends_chain [] (y ∷ ys) zs h k = absurd h
-ends_chain (x ∷ xs) [] zs h k = absurd h
-ends_chain (x ∷ xs) (y ∷ ys) [] h k = absurd k
-ends_chain (x ∷ xs) (y ∷ ys) (z ∷ zs) h k = (h.0 ∙ k.0, h.1 ∙ k.1)
+ends_chain xs ys zs h k = grind arith
 
 last_same : {X : Type 0} (x : X) (front : List X) (a p d : X) (back : List X) → last_after x (front ++ (a ∷ (d ∷ back))) ≡ last_after x (front ++ (a ∷ (p ∷ (d ∷ back))))
 last_same x [] a p d back = refl
@@ -33,10 +29,7 @@ last_map f x [] = refl
 last_map f x (y ∷ ys) = last_map f y ys
 
 ends_map : {X Y : Type 0} (f : X → Y) (xs ys : List X) → HasEndsOf xs ys → HasEndsOf (map f xs) (map f ys)
-ends_map f [] [] h = tt
-ends_map f [] (y ∷ ys) h = absurd h
-ends_map f (x ∷ xs) [] h = absurd h
-ends_map f (x ∷ xs) (y ∷ ys) h = (ap f h.0, last_map f x xs ∙ ap f h.1 ∙ sym (last_map f y ys))
+ends_map f xs ys h = grind (arith, last_map)
 
 thinned_map : {X Y : Type 0} (f : X → Y) (xs ys : List X) → IsThinned xs ys → IsThinned (map f xs) (map f ys)
 thinned_map f xs ys h = (sub_map f h.0, ends_map f xs ys h.1)
@@ -81,10 +74,8 @@ thins_later vs arcs c h = (((sub_same vs, ends_same vs), h.0), omega (arith, len
 pub all_thin : (arcs : List (List Vertex)) → AllByRecursion HasOwnIndexes arcs → AllByRecursion (Thins arcs) (all_corners 0 arcs)
 all_thin [] h = tt
 all_thin (vs ∷ arcs) h =
-    all_append (Thins (vs ∷ arcs)) (arc_corners 0 vs) (all_corners 1 arcs)
-    (all_weaker (IsTaken 0 vs) (Thins (vs ∷ arcs)) (λ c t. thins_first vs arcs c t) (arc_corners 0 vs) (all_taken 0 vs h.0))
-    (subst (AllByRecursion (Thins (vs ∷ arcs))) (sym (later_arcs 0 arcs)) (all_map (Thins (vs ∷ arcs)) in_next_arc (all_corners 0 arcs)
-    (all_weaker (Thins arcs) (λ c. Thins (vs ∷ arcs) (in_next_arc c)) (λ c r. thins_later vs arcs c r) (all_corners 0 arcs) (all_thin arcs h.1))))
+    first_and_later (Thins (vs ∷ arcs)) vs arcs (all_weaker (IsTaken 0 vs) (Thins (vs ∷ arcs)) (λ c t. thins_first vs arcs c t) (arc_corners 0 vs) (all_taken 0 vs h.0))
+    (all_weaker (Thins arcs) (λ c. Thins (vs ∷ arcs) (in_next_arc c)) (λ c r. thins_later vs arcs c r) (all_corners 0 arcs) (all_thin arcs h.1))
 
 -- ---- all steps
 
@@ -138,22 +129,16 @@ abbrev pub IsLess : List (List Vertex) → List (List Vertex) → Type 0
 IsLess arcs left = AllByRecursion HasOwnIndexes left × (length (joined left) < length (joined arcs))
 
 pub next_less : (guard : Guard) (t : ℕ) (arcs : List (List Vertex)) → AllByRecursion HasOwnIndexes arcs → Holds (IsLess arcs) (next_arcs guard t arcs)
-next_less guard t arcs h = next_holds guard t (IsLess arcs) arcs (all_weaker (Thins arcs) (λ c. IsLess arcs (left_by arcs c)) (λ c r. (own_indexes_left c.arc c.corner.index arcs h, r.1)) (all_corners 0 arcs) (all_thin arcs h))
+next_less guard t arcs h = next_holds guard t (IsLess arcs) arcs (all_weaker (Thins arcs) (λ c. guard arcs c ≡ true → IsLess arcs (left_by arcs c)) (λ c r g. (own_indexes_left c.arc c.corner.index arcs h, r.1)) (all_corners 0 arcs) (all_thin arcs h))
 
 pub no_corners : (k : ℕ) (arcs : List (List Vertex)) → length (joined arcs) ≤ 0 → all_corners k arcs ≡ []
 no_corners k [] h = refl
 no_corners k ([] ∷ arcs) h = no_corners (suc k) arcs h
 no_corners k ((v ∷ vs) ∷ arcs) h = absurd (omega (arith, h))
 
-go_none : (guard : Guard) (t n : ℕ) (arcs : List (List Vertex)) → length (joined arcs) ≤ suc n →
-    ((left : List (List Vertex)) → AllByRecursion HasOwnIndexes left → length (joined left) ≤ n → next_arcs guard t (eliminate_arcs guard n t left) ≡ None) →
-    (o : Option (List (List Vertex))) → next_arcs guard t arcs ≡ o → Holds (IsLess arcs) o → next_arcs guard t (elim o [ None ↦ arcs | Some left ↦ eliminate_arcs guard n t left ]) ≡ None
-go_none guard t n arcs h f None e k = e
-go_none guard t n arcs h f (Some left) e k = f left k.0 (omega (arith, h, k.1))
-
 eliminate_none : (guard : Guard) (t n : ℕ) (arcs : List (List Vertex)) → AllByRecursion HasOwnIndexes arcs → length (joined arcs) ≤ n → next_arcs guard t (eliminate_arcs guard n t arcs) ≡ None
 eliminate_none guard t zero arcs own h = ap (λ cs. map_some (left_by arcs) (first_corner (filter (goes guard t arcs) cs))) (no_corners 0 arcs h)
-eliminate_none guard t (suc n) arcs own h = go_none guard t n arcs h (λ left k l. eliminate_none guard t n left k l) (next_arcs guard t arcs) refl (next_less guard t arcs own)
+eliminate_none guard t (suc n) arcs own h = grind (arith, eliminate_none guard t n, next_less guard t arcs own)
 
 pub none_goes : NoneGoes
 none_goes guard t arcs = eliminate_none guard t (length (joined arcs)) (map (numbered 0) arcs) (all_numbered_own arcs) (let k = length_joined t arcs in omega (arith, k))

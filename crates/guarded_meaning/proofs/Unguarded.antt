@@ -81,25 +81,16 @@ module _ (t : ℕ) where
   none_in (suc n) [] h = refl
   none_in (suc n) (v ∷ vs) h = absurd (omega (arith, h))
 
-  go_alike : (m n : ℕ) (vs : List Vertex) (o : Option (List Vertex)) → Holds (λ ws. length ws < length vs) o → length vs ≤ suc m → length vs ≤ suc n →
-      ((ws : List Vertex) → length ws ≤ m → length ws ≤ n → eliminate m t ws ≡ eliminate n t ws) → go_on m t vs o ≡ go_on n t vs o
-  go_alike m n vs None k h l f = refl
-  go_alike m n vs (Some ws) k h l f = f ws (omega (arith, k, h)) (omega (arith, k, l))
-
   -- more steps than vertices change nothing
   steps_enough : (m n : ℕ) (vs : List Vertex) → length vs ≤ m → length vs ≤ n → eliminate m t vs ≡ eliminate n t vs
   steps_enough zero n vs h k = sym (none_in n vs h)
   steps_enough (suc m) zero vs h k = none_in (suc m) vs k
-  steps_enough (suc m) (suc n) vs h k = go_alike m n vs (next t vs) (next_shorter t vs) h k (λ ws x y. steps_enough m n ws x y)
-
-  go_end : (n : ℕ) (vs : List Vertex) (o : Option (List Vertex)) → Holds (λ ws. length ws < length vs) o → length vs ≤ suc n → Holds (λ ws. end_of ws ≡ go_on n t vs o) o
-  go_end n vs None k h = tt
-  go_end n vs (Some ws) k h = steps_enough (length ws) n ws (omega arith) (omega (arith, k, h))
+  steps_enough (suc m) (suc n) vs h k = grind (arith, steps_enough m n, next_shorter t vs)
 
   -- an arc has the end of what its next step leaves
   end_next : (vs : List Vertex) → Holds (λ ws. end_of ws ≡ end_of vs) (next t vs)
   end_next [] = tt
-  end_next (v ∷ vs) = go_end (length vs) (v ∷ vs) (next t (v ∷ vs)) (next_shorter t (v ∷ vs)) (omega arith)
+  end_next (v ∷ vs) = grind (arith, steps_enough, next_shorter t (v ∷ vs))
 
   -- and is its own end where there is no next step
   end_none : (vs : List Vertex) → next t vs ≡ None → end_of vs ≡ vs

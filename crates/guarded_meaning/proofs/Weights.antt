@@ -25,29 +25,17 @@ other k i x = not ((x.arc == k) && (x.vertex.index == i))
 past : (k i j : ℕ) (arcs : List (List Vertex)) → k < j → passing (other k i) j arcs ≡ arcs
 past k i j [] h = refl
 past k i j (vs ∷ arcs) h =
-    let off : (j == k) ≡ false = differ k j h in
-    ap (λ ws. ws ∷ passing (other k i) (suc j) arcs) (filter_all (λ v. other k i (place_at j v)) (λ v. ap (λ b. not (b && (v.index == i))) off) vs) ∙ ap (λ more. vs ∷ more) (past k i (suc j) arcs (omega (arith, h)))
-  where
-    differ : (k j : ℕ) → k < j → (j == k) ≡ false
-    differ k j h = grind (arith, nat_tests)
+    ap (λ ws. ws ∷ passing (other k i) (suc j) arcs) (filter_all (λ v. other k i (place_at j v)) (λ v. grind (arith, nat_tests)) vs) ∙ ap (λ more. vs ∷ more) (past k i (suc j) arcs (omega (arith, h)))
 
 without_passing : (j k i : ℕ) (arcs : List (List Vertex)) → without_at k i arcs ≡ passing (other (j + k) i) j arcs
 without_passing j k i [] = refl
 without_passing j zero i (vs ∷ arcs) =
-    let here : (j == j + 0) ≡ true = level j in
-    ap (λ ws. ws ∷ arcs) (filter_agree (λ v. not (v.index == i)) (λ v. other (j + 0) i (place_at j v)) (λ v. ap (λ b. not (b && (v.index == i))) (sym here)) vs)
+    ap (λ ws. ws ∷ arcs) (filter_agree (λ v. not (v.index == i)) (λ v. other (j + 0) i (place_at j v)) (λ v. grind (arith, nat_tests)) vs)
     ∙ ap (λ more. filter (λ v. other (j + 0) i (place_at j v)) vs ∷ more) (sym (past (j + 0) i (suc j) arcs (omega arith)))
-  where
-    level : (j : ℕ) → (j == j + 0) ≡ true
-    level j = grind (arith, nat_tests)
 without_passing j (suc k) i (vs ∷ arcs) =
-    let off : (j == j + suc k) ≡ false = differ j k in
     let more : suc j + k ≡ j + suc k = omega arith in
     ap (λ rest. vs ∷ rest) (without_passing (suc j) k i arcs ∙ ap (λ n. passing (other n i) (suc j) arcs) more)
-    ∙ ap (λ ws. ws ∷ passing (other (j + suc k) i) (suc j) arcs) (sym (filter_all (λ v. other (j + suc k) i (place_at j v)) (λ v. ap (λ b. not (b && (v.index == i))) off) vs))
-  where
-    differ : (j k : ℕ) → (j == j + suc k) ≡ false
-    differ j k = grind (arith, nat_tests)
+    ∙ ap (λ ws. ws ∷ passing (other (j + suc k) i) (suc j) arcs) (sym (filter_all (λ v. other (j + suc k) i (place_at j v)) (λ v. grind (arith, nat_tests)) vs))
 
 pub left_passing : (arcs : List (List Vertex)) (c : ArcCorner) → left_by arcs c ≡ passing (λ x. not (is_place_of c x)) 0 arcs
 left_passing arcs c = let e : 0 + c.arc ≡ c.arc = omega arith in without_passing 0 c.arc c.corner.index arcs ∙ ap (λ n. passing (other n c.corner.index) 0 arcs) e

@@ -1,8 +1,9 @@
 -- The segments of arcs, one after another.
-use Rattle.std.proofs.Common.{◌≡◌, ℕ, ◌+◌, ◌-◌, ◌<◌, ◌≤◌, Bool, true, false, not, List, [], ◌∷◌, ◌++◌, length, map, drop, slice_index_or, refl, ap, sym, subst, ◌∙◌, ◌⊎◌, inl, inr, append_assoc, if◌then◌else◌, arith}
-use Rattle.std.specs.List.{filter}
+use Rattle.std.proofs.Common.{◌≡◌, ℕ, zero, suc, ◌+◌, ◌-◌, ◌<◌, ◌≤◌, Bool, true, false, not, List, [], ◌∷◌, ◌++◌, length, map, take, drop, slice_index_or, refl, ap, sym, subst, ◌∙◌, ◌⊎◌, inl, inr, append_assoc, length-drop, if◌then◌else◌, arith}
+use Rattle.std.specs.List.{filter, slice_range}
 use Rattle.std.proofs.lemmas.Bool.{cases_lt}
-use Rattle.std.proofs.lemmas.List.{append-nil, drop_all, get_or_default, map-append}
+use Rattle.std.proofs.lemmas.List.{append-nil, drop-drop, drop_all, get_or_default, map-append}
+use Rattle.std.proofs.lemmas.List.Elements.{filter-append}
 use Rattle.owned_values.proofs.Lists.{drop_here}
 use Rattle.geometry.specs.Points.{Point}
 use Rattle.geometry.specs.Rings.{same}
@@ -12,6 +13,7 @@ use Rattle.guarded_meaning.proofs.Counts.{segments_by_points}
 use Rattle.guarded_meaning.proofs.Neighbours.{all_segments}
 use Rattle.guarded_meaning.proofs.Neighbours as pairs
 use Rattle.segment_crossings.specs.declared.line.Line.{Line}
+use Rattle.segment_crossings.specs.Gathering.{arc_lines}
 use Rattle.segment_crossings.specs.Lines.{as_segment, line_segments, segments_from}
 
 -- ---- an arc
@@ -61,8 +63,31 @@ module _ (ls : List Line) (ps : List Point) (n : ℕ) (p q : Point) (all : List 
       ap (λ m. map as_segment ks ++ filter has_length (line_segments (drop m ps))) next ∙ ap (λ rs. map as_segment rs ++ filter has_length (line_segments (drop n ps))) is
       ∙ ap (λ ss. map as_segment ls ++ ss) (sym (ap (filter has_length) ahead ∙ kept_or_not (segment p q) (line_segments (drop n ps)) false (ap not d))) ∙ was
 
-pub lines_put : (ls : List Line) (ps : List Point) (n : ℕ) (all : List Segment) → length ps ≤ n + 1 → map as_segment ls ++ filter has_length (line_segments (drop n ps)) ≡ all → map as_segment ls ≡ all
-lines_put ls ps n all h was = sym (append-nil (map as_segment ls)) ∙ ap (λ ss. map as_segment ls ++ ss) (sym (ap (filter has_length) (none_ahead ps n h))) ∙ was
+pub arc_put : (ss : List Segment) (ps : List Point) (n : ℕ) (all : List Segment) → length ps ≤ n + 1 → ss ++ arc_lines (drop n ps) ≡ all → ss ≡ all
+arc_put ss ps n all h was = sym (append-nil ss) ∙ ap (λ ts. ss ++ ts) (sym (ap (filter has_length) (none_ahead ps n h))) ∙ was
+
+-- ---- an arc in parts
+
+-- up to a position, and from it on
+from_parted : (p : Point) (ps : List Point) (k : ℕ) → k ≤ length ps → segments_from p ps ≡ line_segments (take (suc k) (p ∷ ps)) ++ line_segments (drop k (p ∷ ps))
+from_parted p ps zero h = refl
+from_parted p [] (suc k) h = absurd (omega (arith, h))
+from_parted p (q ∷ ps) (suc k) h = ap (λ ss. segment p q ∷ ss) (from_parted q ps k (omega (arith, h)))
+
+lines_parted : (ps : List Point) (k : ℕ) → k < length ps → line_segments ps ≡ line_segments (take (suc k) ps) ++ line_segments (drop k ps)
+lines_parted [] k h = absurd (omega (arith, h))
+lines_parted (p ∷ ps) k h = from_parted p ps k (omega (arith, h))
+
+pub arc_parted : (ps : List Point) (first end : ℕ) → first + 1 < end → end ≤ length ps → arc_lines (drop first ps) ≡ arc_lines (slice_range ps first end) ++ arc_lines (drop (end - 1) ps)
+arc_parted ps first end h w =
+    let k = end - 1 - first in
+    let up : suc k ≡ end - first = omega (arith, h) in
+    let on : first + k ≡ end - 1 = omega (arith, h) in
+    let few : k < length (drop first ps) = omega (arith, length-drop first ps, h, w) in
+    ap (filter has_length) (lines_parted (drop first ps) k few)
+    ∙ filter-append has_length (line_segments (take (suc k) (drop first ps))) (line_segments (drop k (drop first ps)))
+    ∙ ap (λ n. arc_lines (take n (drop first ps)) ++ arc_lines (drop k (drop first ps))) up
+    ∙ ap (λ qs. arc_lines (slice_range ps first end) ++ arc_lines qs) (drop-drop k first ps ∙ ap (λ n. drop n ps) on)
 
 -- ---- all arcs
 
@@ -82,5 +107,5 @@ all_same : (arcs : List (List Point)) → segments_in arcs ≡ all_segments arcs
 all_same [] = refl
 all_same (ps ∷ arcs) = ap (λ ss. ss ++ segments_in arcs) (same_lines ps) ∙ ap (λ ss. pairs.line_segments ps ++ ss) (all_same arcs)
 
-pub all_put : (arcs : List (List Point)) (i : ℕ) (ls : List Line) → length arcs ≤ i → map as_segment ls ++ filter has_length (segments_in (drop i arcs)) ≡ filter has_length (segments_in arcs) → map as_segment ls ≡ segments arcs
-all_put arcs i ls h was = sym (append-nil (map as_segment ls)) ∙ ap (λ ss. map as_segment ls ++ ss) (sym (ap (λ rs. filter has_length (segments_in rs)) (drop_all i arcs h))) ∙ was ∙ ap (filter has_length) (all_same arcs) ∙ sym (segments_by_points arcs)
+pub all_put : (arcs : List (List Point)) (i : ℕ) (ss : List Segment) → length arcs ≤ i → ss ++ filter has_length (segments_in (drop i arcs)) ≡ filter has_length (segments_in arcs) → ss ≡ segments arcs
+all_put arcs i ss h was = sym (append-nil ss) ∙ ap (λ ts. ss ++ ts) (sym (ap (λ rs. filter has_length (segments_in rs)) (drop_all i arcs h))) ∙ was ∙ ap (filter has_length) (all_same arcs) ∙ sym (segments_by_points arcs)

@@ -1,13 +1,10 @@
 // The segments of arcs, near ones close together.
-ghost use Rattle.std.specs.Prelude.{◌≡◌, ◌++◌, ◌<◌, ◌≤◌, IfOk, OnOk, flat_map, length, map, slice_range};
-ghost use Rattle.std.specs.List.{All, filter};
+ghost use Rattle.std.specs.Prelude.{◌≡◌, ◌+◌, ◌++◌, ◌<◌, ◌≤◌, IfOk, OnOk, flat_map, length, map};
 ghost use Rattle.guarded_meaning.specs.Arcs.{segments};
-ghost use Rattle.guarded_meaning.specs.Segments.{has_length};
-ghost use Rattle.segment_crossings.specs.Gathering.{AreSame, EndsBy, lines_in};
-ghost use Rattle.segment_crossings.specs.Lines.{as_segment, line_segments};
+ghost use Rattle.segment_crossings.specs.Gathering.{AreSame, arc_lines, lines_in};
+ghost use Rattle.segment_crossings.specs.Lines.{as_segment};
 
 use crate::line::{Line, read_line};
-use crate::run::Run;
 use geometry::{Position, is_same};
 use owned_values::{Items, Memory};
 use planar_predicates::{Located, arrange};
@@ -28,15 +25,15 @@ const PLANES: i64 = 512;
 /// So far is one plane from the next: none is wider.
 const APART: i64 = 1 << 52;
 
-/// Segments that stay together, and the middle of one in their middle: many may have one end.
+/// Positions of an arc whose segments stay together, and the middle of one in their middle: many may have one end.
 #[derive(Clone, Copy, Debug, PartialEq, Eq)]
-pub struct Stretch {
+pub struct Stretch<'a> {
     pub x: i64,
     pub y: i64,
-    pub run: Run,
+    pub positions: &'a [Position],
 }
 
-impl Located for Stretch {
+impl Located for Stretch<'_> {
     fn spot(&self) -> (i64, i64) {
         (self.x, self.y)
     }
@@ -44,7 +41,7 @@ impl Located for Stretch {
 
 /// Puts the segments of an arc after the others.
 fn put_lines(lines: &mut Vec<Line>, arc: &[Position]) -> Result<(), Memory>
-    ensures { OnOk result (map as_segment lines.new.items ≡ map as_segment lines.old.items ++ filter has_length (line_segments arc.now)) }
+    ensures { OnOk result (map as_segment lines.new.items ≡ map as_segment lines.old.items ++ arc_lines arc.now) }
 {
     for next in 1..arc.len() {
         let from = arc[next - 1];
@@ -67,21 +64,47 @@ pub fn lines_of(alloc: Global, arcs: &[Items<Position>]) -> Result<Vec<Line>, Me
     Ok(lines)
 }
 
-/// How far a segment goes by the coordinate by which it goes the farther.
-fn span_of(line: &Line) -> u64 {
-    let across = line.to.x().abs_diff(line.from.x());
-    let up = line.to.y().abs_diff(line.from.y());
+/// How far one position is from another by the coordinate by which it is the farther.
+fn span_between(from: Position, to: Position) -> u64 {
+    let across = to.x().abs_diff(from.x());
+    let up = to.y().abs_diff(from.y());
     across.max(up)
 }
 
-/// The segment of this rank begins where the one before it ends, and goes so far: with a long one a short one would lie in too great a box.
-fn goes_on(lines: &[Line], rank: usize, least: u64, most: u64) -> bool
+/// Spans from one to another: with a long segment a short one would lie in too great a box.
+#[derive(Clone, Copy)]
+struct Spans {
+    least: u64,
+    most: u64,
+}
+
+/// Those that are about as long as this one.
+fn spans_like(span: u64) -> Spans {
+    Spans {
+        least: span / MOST_TIMES,
+        most: span.saturating_add(1).saturating_mul(MOST_TIMES) - 1,
+    }
+}
+
+impl Spans {
+    /// A segment that goes so far is one of them.
+    fn holds(&self, span: u64) -> bool {
+        self.least <= span && span <= self.most
+    }
+}
+
+/// How far a segment goes.
+fn span_of(line: &Line) -> u64 {
+    span_between(line.from, line.to)
+}
+
+/// The segment of this rank begins where the one before it ends, and goes about as far as the first one.
+fn goes_on(lines: &[Line], rank: usize, spans: &Spans) -> bool
     requires first { 0 < rank }
     requires rank { rank < length lines.now }
 {
     let line = read_line(lines, rank);
-    let span = span_of(line);
-    is_same(line.from, read_line(lines, rank - 1).to) && (least <= span && span <= most)
+    is_same(line.from, read_line(lines, rank - 1).to) && spans.holds(span_of(line))
 }
 
 /// Where the segments end that stay together with the one of this rank, from there on: all are about as long as it.
@@ -90,90 +113,121 @@ pub fn end_together(lines: &[Line], first: usize) -> usize
     ensures more { first < result }
     ensures within { result ≤ length lines.now }
 {
-    let span = span_of(read_line(lines, first));
-    let longest = span.saturating_add(1).saturating_mul(MOST_TIMES) - 1;
+    let spans = spans_like(span_of(read_line(lines, first)));
     let most = first.saturating_add(MOST_TOGETHER).min(lines.len());
     let mut end = first + 1;
-    while end < most && goes_on(lines, end, span / MOST_TIMES, longest) {
+    while end < most && goes_on(lines, end, &spans) {
         end += 1;
     }
     end
 }
 
-/// Where the segments end that stay together with the one of this rank: where segments are crowded, each is by itself.
-fn end_of_stretch(lines: &[Line], first: usize, are_crowded: bool) -> usize
-    requires { first < length lines.now }
-    ensures more { first < result }
-    ensures within { result ≤ length lines.now }
+/// Where the positions end whose segments stay together with the one that begins with this one: all are about as long as it.
+fn end_along(positions: &[Position], first: usize) -> usize
+    requires { first + 1 < length positions.now }
+    ensures more { first + 1 < result }
+    ensures within { result ≤ length positions.now }
 {
-    if are_crowded {
-        return first + 1;
+    let spans = spans_like(span_between(positions[first], positions[first + 1]));
+    let most = first.saturating_add(MOST_TOGETHER + 1).min(positions.len());
+    let mut end = first + 2;
+    while end < most && spans.holds(span_between(positions[end - 1], positions[end])) {
+        end += 1;
     }
-    end_together(lines, first)
+    end
 }
 
-/// The middle of a segment, on a smaller plane, and so far across that segments of another length lie elsewhere: each is at most so many times as long as
-/// another beside it.
-fn spot_by_length(line: &Line) -> (i64, i64) {
-    let across = line.from.x() / PLANES + line.to.x() / PLANES;
-    let up = line.from.y() / PLANES + line.to.y() / PLANES;
-    let plane = (span_of(line).max(1).ilog2() / LENGTH_BITS) as i64;
+/// Where the positions end whose segments stay together with the one that begins with this one: where segments are crowded, each is by itself.
+fn end_of_stretch(positions: &[Position], first: usize, are_crowded: bool) -> usize
+    requires { first + 1 < length positions.now }
+    ensures more { first + 1 < result }
+    ensures within { result ≤ length positions.now }
+{
+    if are_crowded {
+        return first + 2;
+    }
+    end_along(positions, first)
+}
+
+/// The middle between two positions, on a smaller plane, and so far across that segments of another length lie elsewhere: each is at most so many times
+/// as long as another beside it.
+fn spot_by_length(from: Position, to: Position) -> (i64, i64) {
+    let across = from.x() / PLANES + to.x() / PLANES;
+    let up = from.y() / PLANES + to.y() / PLANES;
+    let plane = (span_between(from, to).max(1).ilog2() / LENGTH_BITS) as i64;
     (across.saturating_add(plane.saturating_mul(APART)), up)
 }
 
-/// The segments of a run, which stay together.
-fn stretch_of(lines: &[Line], run: Run, are_crowded: bool) -> Stretch
-    requires some { run.first < run.end }
-    requires within { run.end ≤ length lines.now }
-    ensures { result.run ≡ run }
+/// The stretch of these positions.
+fn stretch_of(positions: &[Position], are_crowded: bool) -> Stretch<'_>
+    requires { 1 < length positions.now }
+    ensures { result.positions.now ≡ positions.now }
 {
-    let middle = read_line(lines, run.first + (run.end - run.first) / 2);
+    let middle = (positions.len() - 1) / 2;
+    let from = positions[middle];
+    let to = positions[middle + 1];
     if are_crowded {
-        let (x, y) = spot_by_length(middle);
-        return Stretch { x, y, run };
+        let (x, y) = spot_by_length(from, to);
+        return Stretch { x, y, positions };
     }
     Stretch {
-        x: middle.from.x() / 2 + middle.to.x() / 2,
-        y: middle.from.y() / 2 + middle.to.y() / 2,
-        run,
+        x: from.x() / 2 + to.x() / 2,
+        y: from.y() / 2 + to.y() / 2,
+        positions,
     }
 }
 
-/// All segments, in stretches.
-fn stretches_of(alloc: Global, lines: &[Line], are_crowded: bool) -> Result<Vec<Stretch>, Memory>
-    ensures all { IfOk result (λ v. flat_map (lines_in lines.now) v.items ≡ lines.now) }
-    ensures within { IfOk result (λ v. All (EndsBy (length lines.now)) v.items) }
+/// Puts the stretches of an arc after the others.
+fn put_stretches<'a>(
+    stretches: &mut Vec<Stretch<'a>>,
+    arc: &'a [Position],
+    are_crowded: bool,
+) -> Result<(), Memory>
+    ensures { OnOk result (flat_map lines_in stretches.new.items ≡ flat_map lines_in stretches.old.items ++ arc_lines arc.now) }
+{
+    let last = arc.len().saturating_sub(1);
+    let mut first = 0;
+    while first < last {
+        let end = end_of_stretch(arc, first, are_crowded);
+        stretches.push(stretch_of(&arc[first..end], are_crowded))?;
+        first = end - 1;
+    }
+    Ok(())
+}
+
+/// All segments of arcs, in stretches.
+fn stretches_of(
+    alloc: Global,
+    arcs: &[Items<Position>],
+    are_crowded: bool,
+) -> Result<Vec<Stretch<'_>>, Memory>
+    ensures { IfOk result (λ v. flat_map lines_in v.items ≡ segments arcs.now) }
 {
     let mut stretches = Vec::new(alloc);
-    let mut first = 0;
-    while first < lines.len() {
-        let end = end_of_stretch(lines, first, are_crowded);
-        stretches.push(stretch_of(lines, Run { first, end }, are_crowded))?;
-        first = end;
+    'arcs: for arc in arcs {
+        put_stretches(&mut stretches, arc.as_slice(), are_crowded)?;
     }
     Ok(stretches)
 }
 
-/// Puts the segments of a run after the others.
-fn put_run(put: &mut Vec<Line>, lines: &[Line], run: Run) -> Result<(), Memory>
-    requires order { run.first ≤ run.end }
-    requires within { run.end ≤ length lines.now }
-    ensures { OnOk result (put.new.items ≡ put.old.items ++ slice_range lines.now run.first run.end) }
-{
-    put.extend_from_slice(&lines[run.first..run.end])?;
-    Ok(())
+/// Arcs have at most so many segments.
+fn most_lines(arcs: &[Items<Position>]) -> usize {
+    let mut most = 0usize;
+    for arc in arcs {
+        most = most.saturating_add(arc.len());
+    }
+    most
 }
 
-/// The segments of stretches, one stretch after another.
-fn lines_along(alloc: Global, lines: &[Line], stretches: &[Stretch]) -> Result<Vec<Line>, Memory>
-    requires { All (EndsBy (length lines.now)) stretches.now }
-    ensures { IfOk result (λ v. v.items ≡ flat_map (lines_in lines.now) stretches.now) }
+/// The segments of stretches, one stretch after another. There is room for so many from the start.
+fn lines_along(alloc: Global, stretches: &[Stretch<'_>], room: usize) -> Result<Vec<Line>, Memory>
+    ensures { IfOk result (λ v. map as_segment v.items ≡ flat_map lines_in stretches.now) }
 {
-    let mut put = Vec::with_capacity(alloc, lines.len())?;
+    let mut lines = Vec::with_capacity(alloc, room)?;
     'stretches: for stretch in stretches {
-        put_run(&mut put, lines, stretch.run)?;
+        put_lines(&mut lines, stretch.positions)?;
     }
-    Ok(put)
+    Ok(lines)
 }
 
 /// The segments of arcs, in stretches of which near ones are close together. Where segments are crowded, near ones of about the same length are.
@@ -184,9 +238,8 @@ pub fn lines_in_order(
 ) -> Result<Vec<Line>, Memory>
     ensures { IfOk result (λ lines. AreSame (segments arcs.now) (map as_segment lines.items)) }
 {
-    let lines = lines_of(alloc, arcs)?;
-    let mut stretches = stretches_of(alloc, &lines, are_crowded)?;
+    let mut stretches = stretches_of(alloc, arcs, are_crowded)?;
     arrange(alloc, &mut stretches)?;
-    let placed = lines_along(alloc, &lines, &stretches)?;
-    Ok(placed)
+    let lines = lines_along(alloc, &stretches, most_lines(arcs))?;
+    Ok(lines)
 }

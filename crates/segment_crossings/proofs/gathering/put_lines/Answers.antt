@@ -1,5 +1,6 @@
-use Rattle.std.proofs.Common.{◌-◌, refl, ap, sym, ◌∙◌, arith}
-use Rattle.segment_crossings.proofs.Gathered.{line_put, line_left_out, lines_put}
+use Rattle.std.proofs.Common.{◌-◌, map, refl, ap, sym, ◌∙◌, arith}
+use Rattle.segment_crossings.specs.Lines.{as_segment}
+use Rattle.segment_crossings.proofs.Gathered.{arc_put, line_left_out, line_put}
 use Rattle.segment_crossings.proofs.gathering.put_lines.Goals as goal
 use Rattle.segment_crossings.proofs.gathering.put_lines.Goals.{then-not-is_same+in_ok-push, else-not-is_same}
 
@@ -12,4 +13,4 @@ loop-next-preserved c = elim c.if-not-is_same.branch [
 ]
 
 pub returns : goal.returns
-returns c = lines_put c.loop-next.lines.items c.args.arc.now (c.loop-next.next - 1) _ (omega (arith, c.loop-next-test.false)) c.loop-next.invariant
+returns c = arc_put (map as_segment c.loop-next.lines.items) c.args.arc.now (c.loop-next.next - 1) _ (omega (arith, c.loop-next-test.false)) c.loop-next.invariant

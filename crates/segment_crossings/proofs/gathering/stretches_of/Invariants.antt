@@ -1,15 +1,11 @@
-use Rattle.std.proofs.Common.{◌≡◌, ◌++◌, ◌-◌, drop, length}
+use Rattle.std.proofs.Common.{◌≡◌, ◌++◌, drop}
+use Rattle.std.specs.List.{filter}
 use Rattle.std.specs.Prelude.{flat_map}
-use Rattle.std.specs.List.{All}
-use Rattle.segment_crossings.specs.Gathering.{EndsBy, lines_in}
+use Rattle.guarded_meaning.specs.Segments.{has_length}
+use Rattle.segment_crossings.specs.Gathering.{lines_in}
+use Rattle.segment_crossings.proofs.Gathered.{segments_in}
 use Rattle.segment_crossings.proofs.gathering.stretches_of.Given as goal
 
 -- with those ahead they are all
-abbrev pub invariant-loop-first : goal.invariant-loop-first
-invariant-loop-first l = record {
-  all : flat_map (lines_in l.lines) l.stretches.items ++ drop l.first l.lines ≡ l.lines;
-  within : All (EndsBy (length l.lines)) l.stretches.items;
-}
-
-abbrev pub decreases-loop-first : goal.decreases-loop-first
-decreases-loop-first l = length l.lines - l.first
+abbrev pub invariant-arcs : goal.invariant-arcs
+invariant-arcs l = flat_map lines_in l.stretches.items ++ filter has_length (segments_in (drop l.arc-index l.arcs)) ≡ filter has_length (segments_in l.arcs)

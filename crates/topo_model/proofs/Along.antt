@@ -18,7 +18,7 @@ use Rattle.topojson_types.specs.declared.feature.TopoFeature.{TopoFeature}
 use Rattle.topojson_types.specs.declared.object.TopoObject.{TopoObject}
 use Rattle.topojson_types.specs.declared.object.TopoObject.TheVariants.{One, Many}
 use Rattle.topojson_types.specs.Topologies.{TopoShape, object_features}
-use Rattle.topo_model.specs.Along.{Ways, first_way, by_ways, ways_after, by_object, feature_along, feature_placed, feature_placed_along, object_along, object_placed, objects_along, objects_placed, AreWays}
+use Rattle.topo_model.specs.Along.{Ways, first_way, by_ways, ways_after, by_object, feature_along, feature_placed, feature_placed_along, object_along, object_placed, object_placed_along, objects_along, objects_placed, objects_placed_along, AreWays}
 use Rattle.topo_model.specs.Ways.{way_of, ways_of}
 use Rattle.topo_model.proofs.Stepped as stepped
 
@@ -134,13 +134,20 @@ objects_are protects kept ways os are =
 pub objects_plainly : (k : Refs) (os : Objects) → objects_along (sparing k) [] os ≡ objects_pruned k os
 objects_plainly k os = objects_are no_protection (sparing k) [] os (inr (refl, refl)) ∙ objects_plain (sparing k) os
 
--- so is a feature without a way
-pub feature_plainly : (place : Point → Point) (k : Refs) (f : TopoFeature) → feature_placed_along place (sparing k) None f ≡ feature_placed place k f
-feature_plainly place k f = ap (with_shape no_protection (sparing k) f) (plainly f.shape)
+-- with the cells of points replaced, too
+pub placed_plainly : (place : Point → Point) (k : Refs) (os : Objects) → objects_placed_along place (sparing k) [] os ≡ objects_placed place k os
+placed_plainly place k = objects_none (λ ways o. (o.0, object_placed_along place (sparing k) ways o.1)) (λ o. (o.0, object_placed place k o.1)) (λ o. ap (λ p. (o.0, p)) (object_plainly o.1))
   where
     plainly : (s : Option TopoShape) → then_some (λ s. prune place (sparing k) (marked s None)) s ≡ then_some (prune place k) s
     plainly None = refl
     plainly (Some s) = left_plain place (sparing k) s
+
+    feature_plainly : (f : TopoFeature) → feature_placed_along place (sparing k) None f ≡ feature_placed place k f
+    feature_plainly f = ap (with_shape no_protection (sparing k) f) (plainly f.shape)
+
+    object_plainly : (o : TopoObject) → object_placed_along place (sparing k) [] o ≡ object_placed place k o
+    object_plainly (One f) = ap One (feature_plainly f)
+    object_plainly (Many fs) = ap Many (by_none (feature_placed_along place (sparing k)) fs ∙ alike (feature_placed_along place (sparing k) None) (feature_placed place k) feature_plainly fs)
 
 -- objects whose cells stay are the pruned ones
 pub cells_stay : (k : Refs) (os : Objects) → objects_placed (λ p. p) k os ≡ objects_pruned k os

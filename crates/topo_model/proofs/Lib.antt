@@ -10,8 +10,6 @@ pub mod DraftUses
 pub mod Drops
 pub mod Enclosed
 pub mod InPlaces
-pub mod Full
-pub mod Kept
 pub mod KeptParts
 pub mod LeftOut
 pub mod Marked
@@ -28,5 +26,4 @@ pub mod Result
 pub mod Retained
 pub mod Short
 pub mod Stepped
-pub mod Undropped
 pub mod Unvisited

@@ -1,9 +1,8 @@
 -- What is dropped, listed part by part.
-use Rattle.std.proofs.Common.{◌≡◌, ℕ, suc, ◌+◌, ◌<◌, ◌≤◌, List, [], ◌∷◌, ◌++◌, map, drop, length, get_or, append_assoc, append-nil, refl, ap, sym, ◌∙◌, arith}
+use Rattle.std.proofs.Common.{◌≡◌, ℕ, suc, ◌+◌, ◌<◌, ◌≤◌, List, [], ◌∷◌, ◌++◌, drop, length, get_or, append_assoc, append-nil, refl, ap, sym, ◌∙◌, arith}
 use Rattle.std.proofs.lemmas.List.{at_drop_all, at_drop_more, map-append}
 use Rattle.geometry.specs.declared.address.Address.{Address}
 use Rattle.geometry.specs.declared.address.Cause.{Cause}
-use Rattle.geometry.specs.declared.address.Dropped.{Dropped}
 use Rattle.geometry.specs.Paths.{Placed, inside_part, of_parts}
 use Rattle.junctions.specs.Gathering.{part_address}
 use Rattle.topo_model.specs.Places.{dropped_at}
@@ -28,8 +27,3 @@ inside_at a i (o ∷ os) = grind (arith, append_assoc, inside_at a i os)
 pub first_part : (a : Address) (k : ℕ) (os : List (Placed Cause)) (more : List (List (Placed Cause))) → dropped_at a (of_parts k (os ∷ more)) ≡ dropped_at (part_address a k) os ++ dropped_at a (of_parts (suc k) more)
 first_part a k os more = map-append (λ o. record { address = record { layer = a.layer; feature = a.feature; path = a.path ++ o.path }; cause = o.part }) (inside_part k os) (of_parts (suc k) more)
     ∙ ap (λ ds. ds ++ dropped_at a (of_parts (suc k) more)) (inside_at a k os)
-
--- one part more
-pub parts_more : {X : Type 0} (f : X → List (Placed Cause)) (a : Address) (k i : ℕ) (now new whole : List Dropped) (xs : List X) (x : X) → i < length xs → x ≡ get_or xs i x →
-    now ++ dropped_at a (of_parts k (map f (drop i xs))) ≡ whole → new ≡ now ++ dropped_at (part_address a k) (f x) → new ++ dropped_at a (of_parts (k + 1) (map f (drop (i + 1) xs))) ≡ whole
-parts_more f a = reported_more (λ k x. dropped_at (part_address a k) (f x)) (λ k xs. dropped_at a (of_parts k (map f xs))) (λ k x xs. first_part a k (f x) (map f xs))

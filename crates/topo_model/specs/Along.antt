@@ -44,12 +44,18 @@ feature_placed_along place kept way f = record { id = f.id; properties = f.prope
 abbrev pub feature_along : MarkedRefs → Option (List ℕ) → TopoFeature → TopoFeature
 feature_along = feature_placed_along (λ p. p)
 
+abbrev pub object_placed_along : (Point → Point) → MarkedRefs → Ways → TopoObject → TopoObject
+object_placed_along place kept ways (One f) = One (feature_placed_along place kept (first_way ways) f)
+object_placed_along place kept ways (Many fs) = Many (by_ways (feature_placed_along place kept) ways fs)
+
 abbrev pub object_along : MarkedRefs → Ways → TopoObject → TopoObject
-object_along kept ways (One f) = One (feature_along kept (first_way ways) f)
-object_along kept ways (Many fs) = Many (by_ways (feature_along kept) ways fs)
+object_along = object_placed_along (λ p. p)
+
+abbrev pub objects_placed_along : (Point → Point) → MarkedRefs → Ways → List (List ℕ × TopoObject) → List (List ℕ × TopoObject)
+objects_placed_along place kept = by_object (λ ways o. (o.0, object_placed_along place kept ways o.1))
 
 abbrev pub objects_along : MarkedRefs → Ways → List (List ℕ × TopoObject) → List (List ℕ × TopoObject)
-objects_along kept = by_object (λ ways o. (o.0, object_along kept ways o.1))
+objects_along = objects_placed_along (λ p. p)
 
 -- without the lines and rings that are small by a limit where they are rebuilt of these arcs, but with the rings at the ends of ways
 abbrev pub large_along : ℕ → List (List Point) → Ways → List (List ℕ × TopoObject) → List (List ℕ × TopoObject)

@@ -24,11 +24,10 @@ ghost use Rattle.topo_model.specs.Retaining.{StandsFor, StandsForTopology};
 
 use crate::choosing::Renumbered;
 use crate::draft_uses::draft_arcs;
-use crate::leaving_out::leave_out_small;
+use crate::leaving_out::{leave_out_small, prune_objects};
 use crate::marking::all_set;
 use crate::placing::placed_arcs;
 use crate::position_counting::position_sum;
-use crate::pruning::prune_objects;
 use crate::rebuilding::Rebuilding;
 use crate::trimming::{kept_arcs, removed_count, renumbering, used_sum};
 use build_meaning::spared_is_valid;

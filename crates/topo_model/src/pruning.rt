@@ -1,21 +1,27 @@
-// Geometries without some of their lines and rings, and with the arc indexes of the others and the cells of points replaced. What stays is
-// changed where it stands: only a collection and a MultiPolygon have a list made again. The outer ring at the end of a way stays as it is.
-ghost use Rattle.std.specs.Prelude.{◌≡◌, ◌≤◌, ℤ, Bool, false, true, List, Option, None, Some, IfOk, OnOk, length, map, take};
+// What is left of shapes without some of their lines and rings, with the arc indexes of the others and the cells of points replaced, and what
+// is dropped of them. All of it is found in one walk, which changes shapes where they stand. The outer ring at the end of a way stays as it is.
+ghost use Rattle.std.specs.Prelude.{◌≡◌, ◌++◌, ◌≤◌, ℤ, Bool, false, true, List, Option, None, Some, IfOk, OnOk, drop, if◌then◌else◌, length, map, take};
 ghost use Rattle.std.specs.Bool.{OnFalse, OnTrue};
-ghost use Rattle.geometry.specs.declared.shape.Geometry.TheVariants as kind;
-ghost use Rattle.geometry.specs.Lists.{map_some, some_of, then_some, unless_empty};
+ghost use Rattle.geometry.specs.DropCauses.{area_drop_causes, here, inner_cause, drop_causes};
+ghost use Rattle.geometry.specs.Lists.{map_some, some_of};
+ghost use Rattle.geometry.specs.Paths.{of_parts};
 ghost use Rattle.geometry.specs.Points.{Point};
 ghost use Rattle.geometry.specs.Pruning.{area_by, prune};
+ghost use Rattle.build_meaning.specs.Expected.{unless};
 ghost use Rattle.build_meaning.specs.OuterRings.{along, ends_here, marked, rings_marked};
-ghost use Rattle.build_meaning.specs.Protected.{sparing};
-ghost use Rattle.topo_model.specs.Along.{feature_placed, feature_placed_along, object_placed, objects_placed};
+ghost use Rattle.build_meaning.specs.Protected.{cause_sparing, sparing};
+ghost use Rattle.topo_model.specs.Along.{feature_placed_along};
+ghost use Rattle.topo_model.specs.Drops.{cause_to_go, shape_drops, unkept_cause};
+ghost use Rattle.topo_model.specs.Places.{dropped_at};
 
+use crate::places::{Place, add_here, add_part, hole_cause};
 use crate::way_steps::{ends_here, into_part};
-use geojson_types::Geometry;
-use json_value::{Items, OwnText};
+use geojson_types::{Cause, Dropped, Geometry};
+use json_value::Items;
 use owned_values::Memory;
 use std::alloc::Global;
-use topojson_types::{ArcRef, Cell, TopoFeature, TopoObject, TopoShape};
+use std::mem;
+use topojson_types::{ArcRef, Cell, TopoFeature, TopoShape};
 
 /// What says of each line and ring whether it stays, and with which arc indexes, and which cell stands in the place of one of a point.
 pub trait Keeps {
@@ -34,230 +40,233 @@ pub trait Keeps {
         ensures goes { OnFalse result (keeps self.now closed refs.old ≡ None) };
 }
 
-/// The cells in the places of those of a MultiPoint.
-fn placed_cells<K: Keeps>(keeps: &K, cells: Items<Cell>) -> Items<Cell>
-    ensures { result ≡ map (K.places keeps.now) cells }
+/// Puts cells in the places of those of a MultiPoint.
+fn place_cells<K: Keeps>(keeps: &K, cells: &mut [Cell])
+    ensures { cells.new ≡ map (K.places keeps.now) cells.old }
 {
-    let mut cells = cells;
-    'cells: for cell in cells.as_mut_slice().iter_mut() {
+    'cells: for cell in cells.iter_mut() {
         *cell = keeps.place(*cell);
     }
-    cells
 }
 
-/// Moves those of the open lines or rings that stay to the front, in order. This many they are.
-fn keep_in_prefix<K: Keeps>(keeps: &K, closed: bool, lines: &mut [Items<ArcRef>]) -> usize
-    ensures within { result ≤ length lines.new }
-    ensures kept { take result lines.new ≡ some_of (K.keeps keeps.now closed) lines.old }
+/// Leaves so many of the first items. This allocates nothing.
+fn truncate<T: Drop>(alloc: Global, items: &mut Items<T>, many: usize)
+    ensures { items.new ≡ take many items.old }
 {
-    let mut kept: usize = 0;
-    for i in 0..lines.len() {
-        if keeps.keep(closed, &mut lines[i]) {
-            lines.swap(kept, i);
+    let mut rest = mem::replace(items, Items::of(Vec::new(alloc))).into_inner();
+    rest.truncate(many);
+    *items = Items::of(rest);
+}
+
+/// Why a line or ring that doesn't stay is dropped.
+fn cause_to_go(refs: &[ArcRef]) -> Cause
+    ensures { Some result ≡ cause_to_go None refs.now }
+{
+    if refs.is_empty() {
+        Cause::Collapsed
+    } else {
+        Cause::Small
+    }
+}
+
+/// Prunes a line or ring, and says why it is dropped, if it is.
+fn prune_line<K: Keeps>(keeps: &K, closed: bool, refs: &mut Items<ArcRef>) -> Option<Cause>
+    ensures left { K.keeps keeps.now closed refs.old ≡ unless result refs.new }
+    ensures cause { result ≡ unkept_cause (K.keeps keeps.now) closed refs.old }
+{
+    let cause = cause_to_go(refs.as_slice());
+    if keeps.keep(closed, refs) {
+        None
+    } else {
+        Some(cause)
+    }
+}
+
+/// Prunes the outer ring of a polygon. Where the way ends here it stays as it is.
+fn prune_outer<K: Keeps>(
+    keeps: &K,
+    refs: &mut Items<ArcRef>,
+    way: Option<&[usize]>,
+) -> Option<Cause>
+    ensures left { sparing (K.keeps keeps.now) true (ends_here (map_some (λ w. w.now) way.entry), refs.old) ≡ unless result refs.new }
+    ensures cause { result ≡ cause_sparing (unkept_cause (K.keeps keeps.now)) true (ends_here (map_some (λ w. w.now) way.entry), refs.old) }
+{
+    if ends_here(way) {
+        return None;
+    }
+    prune_line(keeps, true, refs)
+}
+
+/// Prunes the lines or rings at this place from this number on. Those that stay move to the front, after those before that number. Where they
+/// are holes, the cause to drop their outer ring, if there is one, is theirs too.
+fn prune_lines<K: Keeps>(
+    alloc: Global,
+    keeps: &K,
+    place: &Place,
+    closed: bool,
+    outer: Option<Cause>,
+    first: usize,
+    lines: &mut Items<Items<ArcRef>>,
+    dropped: &mut Vec<Dropped>,
+) -> Result<(), Memory>
+    requires { first ≤ length lines.old }
+    ensures left { OnOk result (lines.new ≡ take first lines.old ++ some_of (K.keeps keeps.now closed) (drop first lines.old)) }
+    ensures dropped { OnOk result (dropped.new.items ≡ dropped.old.items ++ dropped_at place.now
+        (of_parts first (map (λ l. here (inner_cause outer (unkept_cause (K.keeps keeps.now) closed l))) (drop first lines.old)))) }
+{
+    let parts = lines.as_mut_slice();
+    let mut kept = first;
+    for i in first..parts.len() {
+        let cause = prune_line(keeps, closed, &mut parts[i]);
+        add_part(alloc, place, i, hole_cause(outer, cause), dropped)?;
+        if cause.is_none() {
+            parts.swap(kept, i);
             kept += 1;
         }
     }
-    kept
+    truncate(alloc, lines, kept);
+    Ok(())
 }
 
-/// The line, if it stays.
-fn pruned_line<K: Keeps>(keeps: &K, refs: Items<ArcRef>) -> Option<TopoShape>
-    ensures { result ≡ map_some kind.Line (K.keeps keeps.now false refs) }
-{
-    let mut refs = refs;
-    if keeps.keep(false, &mut refs) {
-        Some(Geometry::Line(refs))
-    } else {
-        None
-    }
-}
-
-/// The lines that stay, if any does.
-#[tactic(auto, using(crate::proofs::Kept::empty_left, crate::proofs::Kept::some_left))]
-fn pruned_lines<K: Keeps>(keeps: &K, lines: Vec<Items<ArcRef>>) -> Option<TopoShape>
-    ensures { result ≡ unless_empty kind.Lines (some_of (K.keeps keeps.now false) lines.items) }
-{
-    let mut lines = lines;
-    let kept = keep_in_prefix(keeps, false, lines.as_mut_slice());
-    lines.truncate(kept);
-    if lines.is_empty() {
-        return None;
-    }
-    Some(Geometry::Lines(Items::of(lines)))
-}
-
-/// Whether the outer ring of a polygon stays. It does, and as it is, where the way ends here.
-fn keep_outer<K: Keeps>(keeps: &K, refs: &mut Items<ArcRef>, way: Option<&[usize]>) -> bool
-    ensures stays { OnTrue result (sparing (K.keeps keeps.now) true (ends_here (map_some (λ w. w.now) way.entry), refs.old) ≡ Some refs.new) }
-    ensures goes { OnFalse result (sparing (K.keeps keeps.now) true (ends_here (map_some (λ w. w.now) way.entry), refs.old) ≡ None) }
-{
-    if ends_here(way) {
-        return true;
-    }
-    keeps.keep(true, refs)
-}
-
-/// The rings of a polygon that stay, which is left out with its outer ring. That stays where the way ends here.
-fn pruned_area<K: Keeps>(
+/// Prunes the rings of the polygon at this place, and says whether it stays, which it does with its outer ring. With that each hole is dropped.
+fn prune_rings<K: Keeps>(
+    alloc: Global,
     keeps: &K,
-    rings: Vec<Items<ArcRef>>,
+    place: &Place,
+    rings: &mut Items<Items<ArcRef>>,
     way: Option<&[usize]>,
-) -> Option<Items<Items<ArcRef>>>
-    ensures { result ≡ area_by (sparing (K.keeps keeps.now) true) (rings_marked rings.items (map_some (λ w. w.now) way.entry)) }
+    dropped: &mut Vec<Dropped>,
+) -> Result<bool, Memory>
+    ensures left { IfOk result (λ stays. area_by (sparing (K.keeps keeps.now) true) (rings_marked rings.old (map_some (λ w. w.now) way.entry)) ≡ (if stays then Some rings.new else None)) }
+    ensures dropped { OnOk result (dropped.new.items ≡ dropped.old.items ++ dropped_at place.now
+        (area_drop_causes (cause_sparing (unkept_cause (K.keeps keeps.now)) true) (rings_marked rings.old (map_some (λ w. w.now) way.entry)))) }
 {
     if rings.is_empty() {
-        return None;
+        return Ok(false);
     }
-    let mut rings = rings;
-    if !keep_outer(keeps, &mut rings[0], way) {
-        return None;
-    }
-    let holes = keep_in_prefix(keeps, true, &mut rings[1..]);
-    rings.truncate(1 + holes);
-    Some(Items::of(rings))
+    let cause = prune_outer(keeps, &mut rings.as_mut_slice()[0], way);
+    add_part(alloc, place, 0, cause, dropped)?;
+    prune_lines(alloc, keeps, place, true, cause, 1, rings, dropped)?;
+    Ok(cause.is_none())
 }
 
-/// The polygons that stay, if any does.
-#[tactic(auto, using(crate::proofs::Kept::empty_left, crate::proofs::Kept::some_left))]
-fn pruned_areas<K: Keeps>(
+/// Prunes the polygons at this place. Those that stay move to the front.
+fn prune_areas<K: Keeps>(
     alloc: Global,
     keeps: &K,
-    areas: Vec<Items<Items<ArcRef>>>,
+    place: &mut Place,
+    areas: &mut Items<Items<Items<ArcRef>>>,
     way: Option<&[usize]>,
-) -> Result<Option<TopoShape>, Memory>
-    ensures { IfOk result (λ left. left
-        ≡ unless_empty kind.Areas (some_of (area_by (sparing (K.keeps keeps.now) true)) (along rings_marked 0 areas.items (map_some (λ w. w.now) way.entry)))) }
+    dropped: &mut Vec<Dropped>,
+) -> Result<(), Memory>
+    ensures place { OnOk result (place.new ≡ place.old) }
+    ensures left { OnOk result (areas.new ≡ some_of (area_by (sparing (K.keeps keeps.now) true)) (along rings_marked 0 areas.old (map_some (λ w. w.now) way.entry))) }
+    ensures dropped { OnOk result (dropped.new.items ≡ dropped.old.items ++ dropped_at place.old
+        (of_parts 0 (map (area_drop_causes (cause_sparing (unkept_cause (K.keeps keeps.now)) true)) (along rings_marked 0 areas.old (map_some (λ w. w.now) way.entry))))) }
 {
-    let mut kept = Vec::with_capacity(alloc, areas.len())?;
-    let mut number: usize = 0;
-    'areas: for rings in areas {
-        let part = into_part(way, number);
-        number += 1;
-        let Some(area) = pruned_area(keeps, rings.into_inner(), part) else {
-            continue;
-        };
-        kept.push(area)?;
+    let parts = areas.as_mut_slice();
+    let mut kept: usize = 0;
+    for i in 0..parts.len() {
+        place.enter(i)?;
+        let stays = prune_rings(
+            alloc,
+            keeps,
+            place,
+            &mut parts[i],
+            into_part(way, i),
+            dropped,
+        )?;
+        place.leave();
+        if stays {
+            parts.swap(kept, i);
+            kept += 1;
+        }
     }
-    if kept.is_empty() {
-        return Ok(None);
-    }
-    Ok(Some(Geometry::Areas(Items::of(kept))))
+    truncate(alloc, areas, kept);
+    Ok(())
 }
 
-/// The polygon without the rings that don't stay, if its outer ring does.
-fn pruned_polygon<K: Keeps>(
-    keeps: &K,
-    rings: Vec<Items<ArcRef>>,
-    way: Option<&[usize]>,
-) -> Option<TopoShape>
-    ensures { result ≡ map_some kind.Area (area_by (sparing (K.keeps keeps.now) true) (rings_marked rings.items (map_some (λ w. w.now) way.entry))) }
-{
-    match pruned_area(keeps, rings, way) {
-        None => None,
-        Some(kept) => Some(Geometry::Area(kept)),
-    }
-}
-
-/// The shape without the lines and rings that don't stay, or `None` where nothing is left of it.
-#[tactic(auto, using(crate::proofs::Pruned::of_line, crate::proofs::Pruned::of_lines, crate::proofs::Pruned::of_area, crate::proofs::Pruned::of_areas, crate::proofs::Pruned::of_group))]
-fn pruned_shape<K: Keeps>(
+/// Prunes the shape at this place, and says whether anything is left of it. Adds the lines and rings that are dropped, and the rings of
+/// polygons whose outer ring is, in reading order.
+fn prune_shape<K: Keeps>(
     alloc: Global,
     keeps: &K,
-    shape: TopoShape,
+    place: &mut Place,
+    shape: &mut TopoShape,
     way: Option<&[usize]>,
-) -> Result<Option<TopoShape>, Memory>
-    ensures { IfOk result (λ left. left ≡ prune (K.places keeps.now) (sparing (K.keeps keeps.now)) (marked shape (map_some (λ w. w.now) way.entry))) }
+    dropped: &mut Vec<Dropped>,
+) -> Result<bool, Memory>
+    ensures place { OnOk result (place.new ≡ place.old) }
+    ensures left { IfOk result (λ stays. prune (K.places keeps.now) (sparing (K.keeps keeps.now)) (marked shape.old (map_some (λ w. w.now) way.entry)) ≡ (if stays then Some shape.new else None)) }
+    ensures dropped { OnOk result (dropped.new.items ≡ dropped.old.items ++ dropped_at place.old
+        (drop_causes (cause_sparing (unkept_cause (K.keeps keeps.now))) (marked shape.old (map_some (λ w. w.now) way.entry)))) }
 {
     match shape {
-        Geometry::Point(cell) => Ok(Some(Geometry::Point(keeps.place(cell)))),
+        Geometry::Point(cell) => {
+            *cell = keeps.place(*cell);
+            Ok(true)
+        }
         Geometry::MultiPoint(cells) => {
-            Ok(Some(Geometry::MultiPoint(placed_cells(keeps, cells))))
+            place_cells(keeps, cells.as_mut_slice());
+            Ok(true)
         }
-        Geometry::Line(refs) => Ok(pruned_line(keeps, refs)),
-        Geometry::Lines(lines) => Ok(pruned_lines(keeps, lines.into_inner())),
-        Geometry::Area(rings) => Ok(pruned_polygon(keeps, rings.into_inner(), way)),
-        Geometry::Areas(areas) => pruned_areas(alloc, keeps, areas.into_inner(), way),
+        Geometry::Line(refs) => {
+            let cause = prune_line(keeps, false, refs);
+            add_here(alloc, place, cause, dropped)?;
+            Ok(cause.is_none())
+        }
+        Geometry::Lines(lines) => {
+            prune_lines(alloc, keeps, place, false, None, 0, lines, dropped)?;
+            Ok(!lines.is_empty())
+        }
+        Geometry::Area(rings) => prune_rings(alloc, keeps, place, rings, way, dropped),
+        Geometry::Areas(areas) => {
+            prune_areas(alloc, keeps, place, areas, way, dropped)?;
+            Ok(!areas.is_empty())
+        }
         Geometry::Group(shapes) => {
-            let shapes = shapes.into_inner();
-            let mut kept = Vec::with_capacity(alloc, shapes.len())?;
-            let mut number: usize = 0;
-            'shapes: for shape in shapes {
-                let part = into_part(way, number);
-                number += 1;
-                let Some(shape) = pruned_shape(alloc, keeps, shape, part)? else {
-                    continue;
-                };
-                kept.push(shape)?;
+            let members = shapes.as_mut_slice();
+            let mut kept: usize = 0;
+            'shapes: for i in 0..members.len() {
+                place.enter(i)?;
+                let stays = prune_shape(
+                    alloc,
+                    keeps,
+                    place,
+                    &mut members[i],
+                    into_part(way, i),
+                    dropped,
+                )?;
+                place.leave();
+                if stays {
+                    members.swap(kept, i);
+                    kept += 1;
+                }
             }
-            Ok(Some(Geometry::Group(Items::of(kept))))
+            truncate(alloc, shapes, kept);
+            Ok(true)
         }
     }
 }
 
-/// A shape that may be null without the lines and rings that don't stay.
-fn pruned_option<K: Keeps>(
-    alloc: Global,
-    keeps: &K,
-    shape: Option<TopoShape>,
-    way: Option<&[usize]>,
-) -> Result<Option<TopoShape>, Memory>
-    ensures { IfOk result (λ left. left ≡ then_some (λ s. prune (K.places keeps.now) (sparing (K.keeps keeps.now)) (marked s (map_some (λ w. w.now) way.entry))) shape) }
-{
-    match shape {
-        None => Ok(None),
-        Some(shape) => pruned_shape(alloc, keeps, shape, way),
-    }
-}
-
-/// Prunes the shape of a feature.
+/// Prunes the shape of the feature at this place.
 pub fn prune_feature<K: Keeps>(
     alloc: Global,
     keeps: &K,
+    place: &mut Place,
     feature: &mut TopoFeature,
     way: Option<&[usize]>,
+    dropped: &mut Vec<Dropped>,
 ) -> Result<(), Memory>
-    ensures { OnOk result (feature.new ≡ feature_placed_along (K.places keeps.now) (sparing (K.keeps keeps.now)) (map_some (λ w. w.now) way.entry) feature.old) }
+    ensures feature { OnOk result (feature.new ≡ feature_placed_along (K.places keeps.now) (sparing (K.keeps keeps.now)) (map_some (λ w. w.now) way.entry) feature.old) }
+    ensures dropped { OnOk result (dropped.new.items ≡ dropped.old.items ++ dropped_at place.old
+        (shape_drops (unkept_cause (K.keeps keeps.now)) (map_some (λ w. w.now) way.entry) feature.old.shape)) }
 {
-    let shape = feature.shape.take();
-    feature.shape = pruned_option(alloc, keeps, shape, way)?;
-    Ok(())
-}
-
-/// Prunes the shapes of features without a way.
-fn prune_features<K: Keeps>(
-    alloc: Global,
-    keeps: &K,
-    features: &mut [TopoFeature],
-) -> Result<(), Memory>
-    ensures { OnOk result (features.new ≡ map (feature_placed (K.places keeps.now) (K.keeps keeps.now)) features.old) }
-{
-    'features: for feature in features.iter_mut() {
-        prune_feature(alloc, keeps, feature, None)?;
-    }
-    Ok(())
-}
-
-/// Prunes the shapes of the features of an object.
-#[tactic(auto, using(crate::proofs::Along::feature_plainly))]
-fn prune_object<K: Keeps>(alloc: Global, keeps: &K, object: &mut TopoObject) -> Result<(), Memory>
-    ensures { OnOk result (object.new ≡ object_placed (K.places keeps.now) (K.keeps keeps.now) object.old) }
-{
-    match object {
-        TopoObject::One(feature) => prune_feature(alloc, keeps, feature, None),
-        TopoObject::Many(features) => prune_features(alloc, keeps, features.as_mut_slice()),
-    }
-}
-
-/// Prunes the shapes of the features of all objects, of which none has a way.
-pub fn prune_objects<K: Keeps>(
-    alloc: Global,
-    keeps: &K,
-    objects: &mut [(OwnText, TopoObject)],
-) -> Result<(), Memory>
-    ensures { OnOk result (objects.new ≡ objects_placed (K.places keeps.now) (K.keeps keeps.now) objects.old) }
-{
-    'objects: for object in objects.iter_mut() {
-        prune_object(alloc, keeps, &mut object.1)?;
+    let Some(shape) = feature.shape.as_mut() else {
+        return Ok(());
+    };
+    if !prune_shape(alloc, keeps, place, shape, way, dropped)? {
+        feature.shape = None;
     }
     Ok(())
 }

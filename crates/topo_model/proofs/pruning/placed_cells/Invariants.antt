@@ -1,5 +1,0 @@
-use Rattle.geometry.proofs.Moved.{Replaced}
-use Rattle.topo_model.proofs.pruning.placed_cells.Given as goal
-
-abbrev pub invariant-cells : goal.invariant-cells
-invariant-cells g l = Replaced (g.K.Keeps.places l.keeps) l.initial.cell-items l.cell-index l.cell-items

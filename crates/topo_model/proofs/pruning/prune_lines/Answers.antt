@@ -1,0 +1,45 @@
+use Rattle.std.proofs.Common.{ℕ, ◌+◌, ℤ, ◌++◌, List, map, take, drop, Option, None, refl, ap, ◌∙◌}
+use Rattle.geometry.specs.declared.address.Cause.{Cause}
+use Rattle.geometry.specs.DropCauses.{here, inner_cause}
+use Rattle.geometry.specs.Lists.{some_of}
+use Rattle.geometry.specs.Paths.{Placed, of_parts}
+use Rattle.junctions.specs.Gathering.{part_address}
+use Rattle.topo_model.specs.Drops.{unkept_cause}
+use Rattle.topo_model.specs.Places.{dropped_at}
+use Rattle.topo_model.proofs.Prefix.{along_alone, if_none, starts, stays, goes, ends}
+use Rattle.topo_model.proofs.pruning.prune_lines.Goals.{then-is_none, else-is_none}
+use Rattle.topo_model.proofs.pruning.prune_lines.Goals as goal
+
+pub loop-i-init : goal.loop-i-init
+loop-i-init g c =
+    starts (λ (x : List ℤ) (w : Option (List ℕ)). x) (g.K.Keeps.keeps c.args.keeps.now c.args.closed) (λ x. here (inner_cause c.args.outer (unkept_cause (g.K.Keeps.keeps c.args.keeps.now) c.args.closed x))) None c.args.place.now
+    c.args.first c.as_mut_slice-parts.result.now c.args.dropped.now.items
+
+pub loop-i-preserved : goal.loop-i-preserved
+loop-i-preserved g c =
+    let alone = λ (x : List ℤ) (w : Option (List ℕ)). x in
+    let keeps = g.K.Keeps.keeps c.args.keeps.now c.args.closed in
+    let why : List ℤ → List (Placed Cause) = λ x. here (inner_cause c.args.outer (unkept_cause (g.K.Keeps.keeps c.args.keeps.now) c.args.closed x)) in
+    let left = c.prune_line-cause.ensures.left ∙ if_none c.prune_line-cause.result c.prune_line-cause.new.refs c.is_none.result c.is_none.ensures in
+    let is = c.in_ok-add_part.ensures
+    ∙ ap (λ o. c.loop-i.dropped.items ++ dropped_at (part_address c.args.place.now c.loop-i.i) (here o)) (c.hole_cause.ensures ∙ ap (inner_cause c.args.outer) c.prune_line-cause.ensures.cause) in
+    elim c.if-is_none.branch [
+      | then-is_none w ↦ rw (w.parts-is, w.kept-is, w.swap.ensures.after)
+          (stays alone keeps why None c.args.place.now c.args.first c.as_mut_slice-parts.result.now c.args.dropped.now.items c.loop-i.i c.loop-i.kept c.loop-i.parts c.loop-i.dropped.items c.add_part.new.dropped.items
+          c.index-parts-i.result c.prune_line-cause.new.refs None c.loop-i-test.true c.loop-i.invariant refl is c.is_none.result left w.if-is_none.true)
+      | else-is_none w ↦ rw (w.parts-is, w.kept-is)
+          (goes alone keeps why None c.args.place.now c.args.first c.as_mut_slice-parts.result.now c.args.dropped.now.items c.loop-i.i c.loop-i.kept c.loop-i.parts c.loop-i.dropped.items c.add_part.new.dropped.items
+          c.index-parts-i.result c.prune_line-cause.new.refs None c.loop-i-test.true c.loop-i.invariant refl is c.is_none.result left w.if-is_none.false)
+    ]
+
+pub returns : goal.returns
+returns g c =
+    let keeps = g.K.Keeps.keeps c.args.keeps.now c.args.closed in
+    let why : List ℤ → List (Placed Cause) = λ x. here (inner_cause c.args.outer (unkept_cause (g.K.Keeps.keeps c.args.keeps.now) c.args.closed x)) in
+    let alone = along_alone c.args.first (drop c.args.first c.args.lines.now) None in
+    let k = ends (λ (x : List ℤ) (w : Option (List ℕ)). x) keeps why None c.args.place.now c.args.first c.as_mut_slice-parts.result.now c.args.lines.now c.args.dropped.now.items c.loop-i.i c.loop-i.kept c.loop-i.parts c.loop-i.dropped.items
+    c.as_mut_slice-parts.ensures.value c.loop-i-test.false c.loop-i.invariant in
+    record {
+      left = c.truncate.ensures ∙ k.0 ∙ ap (λ ls. take c.args.first c.args.lines.now ++ some_of keeps ls) alone;
+      dropped = k.1 ∙ ap (λ ls. c.args.dropped.now.items ++ dropped_at c.args.place.now (of_parts c.args.first (map why ls))) alone;
+    }

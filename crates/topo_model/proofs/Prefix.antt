@@ -19,14 +19,14 @@ use Rattle.topo_model.proofs.Reported.{first_part}
 
 -- ---- lists
 
-swapped : {A : Type 0} (ys : List A) (i kept : ℕ) (d y : A) → kept ≤ i → i < length ys → swap (set ys i y) kept i ≡ set (set (set ys i y) kept y) i (get_or (set ys i y) kept d)
-swapped ys i kept d y few within =
+swap_sets : {A : Type 0} (ys : List A) (i kept : ℕ) (d y : A) → kept ≤ i → i < length ys → swap (set ys i y) kept i ≡ set (set (set ys i y) kept y) i (get_or (set ys i y) kept d)
+swap_sets ys i kept d y few within =
     sym (swap_is (set ys i y) kept i d (omega (arith, length-set ys i y)) (omega (arith, length-set ys i y)))
     ∙ ap (λ z. set (set (set ys i y) kept z) i (get_or (set ys i y) kept d)) (get_or-set_same ys i y d within)
 
 after_swap : {A : Type 0} (ys : List A) (i kept : ℕ) (y : A) → kept ≤ i → i < length ys → drop (i + 1) (swap (set ys i y) kept i) ≡ drop (i + 1) ys
 after_swap ys i kept y few within =
-    ap (drop (i + 1)) (swapped ys i kept y y few within)
+    ap (drop (i + 1)) (swap_sets ys i kept y y few within)
     ∙ drop-set-lt (i + 1) (set (set ys i y) kept y) i (get_or (set ys i y) kept y) (omega arith)
     ∙ drop-set-lt (i + 1) (set ys i y) kept y (omega arith)
     ∙ drop-set-lt (i + 1) ys i y (omega arith)
@@ -39,7 +39,7 @@ stored_last ys i y w within same =
 
 prefix_swap : {A : Type 0} (ys : List A) (i kept : ℕ) (y : A) → kept ≤ i → i < length ys → take (kept + 1) (swap (set ys i y) kept i) ≡ take kept ys ++ y ∷ []
 prefix_swap ys i kept y few within =
-    ap (take (kept + 1)) (swapped ys i kept y y few within)
+    ap (take (kept + 1)) (swap_sets ys i kept y y few within)
     ∙ (elim (cases_lt kept i) [
       | inl less ↦ take-set-le (kept + 1) (set (set ys i y) kept y) i (get_or (set ys i y) kept y) (omega arith)
           ∙ take_more_set (set ys i y) kept y (omega (arith, length-set ys i y))
@@ -116,35 +116,30 @@ module _ {A B : Type 0} (h : A → Option (List ℕ) → B) (of : B → Option A
         ∙ ap (λ ds. now ++ ds) (sym (first_part a i (why (h (get_or ys i d) (into_part i way))) (map why (along h (suc i) (drop (i + 1) ys) way))))
         ∙ ap (λ zs. now ++ gone i zs) (sym at_part) ∙ so.listed
 
-    -- something is left of it, and lies after what is left of the others
-    pub stays : (b : Bool) → of (h (get_or ys i d) part) ≡ (if b then Some y else None) → b ≡ true → InPrefix first xs before (i + 1) (kept + 1) (swap (set ys i y) kept i) new
-    stays b e t =
-        let some : of (h (get_or ys i d) part) ≡ Some y = e ∙ ap (λ b. if b then Some y else None) t in
-        let same = after_swap ys i kept y so.few in_list in
-        record {
-          few = omega (arith, so.few);
-          long = length-swap (set ys i y) kept i ∙ length-set ys i y ∙ so.long;
-          following = same ∙ after;
-          stay = ap (λ zs. take (kept + 1) (swap (set ys i y) kept i) ++ left (i + 1) zs) same
-              ∙ ap (λ zs. zs ++ left (i + 1) (drop (i + 1) ys)) (prefix_swap ys i kept y so.few in_list)
-              ∙ append_assoc (take kept ys) (y ∷ []) (left (i + 1) (drop (i + 1) ys))
-              ∙ ap (λ zs. take kept ys ++ zs) (sym (ap (λ o. with_some o (left (i + 1) (drop (i + 1) ys))) some) ∙ left_more) ∙ so.stay;
-          listed = ap (λ zs. new ++ gone (i + 1) zs) same ∙ gone_more;
-        }
-
-    -- nothing is
-    pub goes : (b : Bool) → of (h (get_or ys i d) part) ≡ (if b then Some y else None) → b ≡ false → InPrefix first xs before (i + 1) kept (set ys i y) new
-    goes b e t =
-        let none : of (h (get_or ys i d) part) ≡ None = e ∙ ap (λ b. if b then Some y else None) t in
-        let same = drop-set-lt (i + 1) ys i y (omega arith) in
-        record {
-          few = omega (arith, so.few);
-          long = length-set ys i y ∙ so.long;
-          following = same ∙ after;
-          stay = ap (λ zs. take kept (set ys i y) ++ left (i + 1) zs) same ∙ ap (λ zs. zs ++ left (i + 1) (drop (i + 1) ys)) (take-set-le kept ys i y so.few)
-              ∙ ap (λ zs. take kept ys ++ zs) (sym (ap (λ o. with_some o (left (i + 1) (drop (i + 1) ys))) none) ∙ left_more) ∙ so.stay;
-          listed = ap (λ zs. new ++ gone (i + 1) zs) same ∙ gone_more;
-        }
+    -- what is left of it, if something is, lies after what is left of the others
+    pub turns : (b : Bool) → of (h (get_or ys i d) part) ≡ (if b then Some y else None) → (b ≡ true → InPrefix first xs before (i + 1) (kept + 1) (swap (set ys i y) kept i) new) × (b ≡ false → InPrefix first xs before (i + 1) kept (set ys i y) new)
+    turns b e =
+        let swapped = after_swap ys i kept y so.few in_list in
+        let unmoved = drop-set-lt (i + 1) ys i y (omega arith) in (
+          λ t. record {
+            few = omega (arith, so.few);
+            long = length-swap (set ys i y) kept i ∙ length-set ys i y ∙ so.long;
+            following = swapped ∙ after;
+            stay = ap (λ zs. take (kept + 1) (swap (set ys i y) kept i) ++ left (i + 1) zs) swapped
+                ∙ ap (λ zs. zs ++ left (i + 1) (drop (i + 1) ys)) (prefix_swap ys i kept y so.few in_list)
+                ∙ append_assoc (take kept ys) (y ∷ []) (left (i + 1) (drop (i + 1) ys))
+                ∙ ap (λ zs. take kept ys ++ zs) (sym (ap (λ o. with_some o (left (i + 1) (drop (i + 1) ys))) (e ∙ ap (λ b. if b then Some y else None) t)) ∙ left_more) ∙ so.stay;
+            listed = ap (λ zs. new ++ gone (i + 1) zs) swapped ∙ gone_more;
+          },
+          λ t. record {
+            few = omega (arith, so.few);
+            long = length-set ys i y ∙ so.long;
+            following = unmoved ∙ after;
+            stay = ap (λ zs. take kept (set ys i y) ++ left (i + 1) zs) unmoved ∙ ap (λ zs. zs ++ left (i + 1) (drop (i + 1) ys)) (take-set-le kept ys i y so.few)
+                ∙ ap (λ zs. take kept ys ++ zs) (sym (ap (λ o. with_some o (left (i + 1) (drop (i + 1) ys))) (e ∙ ap (λ b. if b then Some y else None) t)) ∙ left_more) ∙ so.stay;
+            listed = ap (λ zs. new ++ gone (i + 1) zs) unmoved ∙ gone_more;
+          },
+        )
 
   -- at the end, where the parts were lent whole
   pub ends : (first : ℕ) (xs whole : List A) (before : List Dropped) (i kept : ℕ) (ys : List A) (now : List Dropped) → xs ≡ whole → length xs ≤ i → InPrefix first xs before i kept ys now

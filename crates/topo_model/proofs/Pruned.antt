@@ -1,44 +1,18 @@
--- The pruned shape, by its kind.
-use Rattle.std.proofs.Common.{arith, ◌≡◌, ℕ, ◌==◌, ◌<◌, ℤ, Bool, true, false, List, [], ◌∷◌, ◌++◌, map, take, drop, length, get_or, set, Option, None, Some, refl, sym, ap, ◌∙◌}
+-- What is left of the rings of a polygon, and of lists that may be empty.
+use Rattle.std.proofs.Common.{arith, ◌≡◌, ℕ, ◌==◌, ◌<◌, ℤ, Bool, true, false, List, [], ◌∷◌, ◌++◌, take, drop, length, get_or, set, Option, None, Some, refl, sym, ap, ◌∙◌}
 use Rattle.std.specs.Option.{is_some}
 use Rattle.std.specs.Prelude.{if◌then◌else◌, not}
 use Rattle.std.proofs.Math.Seq.{take-append_seam}
 use Rattle.geometry.specs.declared.address.Cause.{Cause}
 use Rattle.geometry.specs.declared.shape.Geometry.TheVariants as g
 use Rattle.geometry.specs.Lists.{map_some, some_of, unless_empty}
-use Rattle.geometry.specs.Points.{Point}
-use Rattle.geometry.specs.Pruning.{area_by, prune}
+use Rattle.geometry.specs.Pruning.{area_by}
 use Rattle.build_meaning.specs.Expected.{unless}
-use Rattle.build_meaning.specs.OuterRings.{ends_here, unmarked, along, marked, rings_marked}
+use Rattle.build_meaning.specs.OuterRings.{ends_here, unmarked, rings_marked}
 use Rattle.build_meaning.specs.Protected.{sparing}
 use Rattle.build_meaning.specs.Simplified.{Refs}
-use Rattle.build_meaning.proofs.Marks.{some_made, left-point, left-points, left-line, left-lines, left-area, left-areas, left-group}
-use Rattle.topojson_types.specs.Topologies.{TopoShape}
+use Rattle.build_meaning.proofs.Marks.{some_made}
 use Rattle.topo_model.proofs.Prefix.{if_none}
-
-module _ (place : Point → Point) (k : Refs) (way : Option (List ℕ)) where
-  pub of_point : (p : Point) → prune place (sparing k) (marked (g.Point p) way) ≡ Some (g.Point (place p))
-  of_point p = left-point place (sparing k) p way
-
-  pub of_points : (ps : List Point) → prune place (sparing k) (marked (g.MultiPoint ps) way) ≡ Some (g.MultiPoint (map place ps))
-  of_points ps = left-points place (sparing k) ps way
-
-  pub of_line : (l : List ℤ) → prune place (sparing k) (marked (g.Line l) way) ≡ map_some g.Line (k false l)
-  of_line l = left-line place (sparing k) l way
-
-  pub of_lines : (ls : List (List ℤ)) → prune place (sparing k) (marked (g.Lines ls) way) ≡ unless_empty g.Lines (some_of (k false) ls)
-  of_lines ls = left-lines place (sparing k) ls way
-
-  pub of_area : (rs : List (List ℤ)) → prune place (sparing k) (marked (g.Area rs) way) ≡ map_some g.Area (area_by (sparing k true) (rings_marked rs way))
-  of_area rs = left-area place (sparing k) rs way
-
-  pub of_areas : (areas : List (List (List ℤ))) → prune place (sparing k) (marked (g.Areas areas) way) ≡ unless_empty g.Areas (some_of (area_by (sparing k true)) (along rings_marked 0 areas way))
-  of_areas areas = left-areas place (sparing k) areas way
-
-  pub of_group : (ss : List TopoShape) → prune place (sparing k) (marked (g.Group ss) way) ≡ Some (g.Group (some_of (prune place (sparing k)) (along marked 0 ss way)))
-  of_group ss = left-group place (sparing k) ss way
-
--- ---- the rings of a polygon
 
 pub if_made : {A B : Type 0} (f : A → B) (b : Bool) (x : A) → map_some f (if b then Some x else None) ≡ (if b then Some (f x) else None)
 if_made f true x = refl

@@ -1,4 +1,4 @@
-use Rattle.std.proofs.Common.{◌≡◌, ◌++◌, ◌-◌, ◌<◌, drop, length}
+use Rattle.std.proofs.Common.{◌≡◌, ◌++◌, ◌-◌, drop, length}
 use Rattle.std.specs.Prelude.{flat_map}
 use Rattle.segment_crossings.specs.Gathering.{arc_lines, lines_in}
 use Rattle.segment_crossings.proofs.gathering.put_stretches.Given as goal

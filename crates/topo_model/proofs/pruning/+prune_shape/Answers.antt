@@ -9,11 +9,12 @@ use Rattle.geometry.specs.Pruning.{area_by, prune}
 use Rattle.junctions.specs.Gathering.{part_address}
 use Rattle.build_meaning.specs.OuterRings.{along, marked, rings_marked}
 use Rattle.build_meaning.specs.Protected.{cause_sparing, sparing}
+use Rattle.build_meaning.proofs.Marks.{left-point, left-points, left-line, left-lines, left-area, left-areas, left-group}
 use Rattle.topo_model.specs.Drops.{unkept_cause}
 use Rattle.topo_model.specs.Places.{dropped_at}
 use Rattle.topo_model.proofs.Drops as drops
-use Rattle.topo_model.proofs.Prefix.{InPrefix, if_none, starts, stays, goes, ends, unvisited}
-use Rattle.topo_model.proofs.Pruned as pruned
+use Rattle.topo_model.proofs.Prefix.{InPrefix, if_none, starts, turns, ends, unvisited}
+use Rattle.topo_model.proofs.Pruned.{if_made, left_if_some}
 use Rattle.topo_model.proofs.pruning.+prune_shape.Goals.{then-stays, else-stays}
 use Rattle.topo_model.proofs.pruning.+prune_shape.Goals as goal
 
@@ -34,15 +35,10 @@ shapes-preserved g t c =
     let shape = get_or c.shapes.members c.shapes.i c.index-members-i.result in
     let at : c.enter.new.self ≡ part_address c.args.place.now c.shapes.i = c.in_ok-enter-in-Group.ensures ∙ ap (λ a. part_address a c.shapes.i) c.shapes.invariant.here in
     let is = c.in_ok-stays-in-Group.ensures.dropped ∙ ap (λ a. c.shapes.dropped.items ++ dropped_at a (why (marked shape part))) at in
+    let turn = turns marked left why way c.args.place.now 0 c.as_mut_slice-members.result.now c.args.dropped.now.items
+    c.shapes.i c.shapes.kept c.shapes.members c.shapes.dropped.items c.prune_shape.new.dropped.items c.index-members-i.result c.prune_shape.new.shape part c.shapes-test.true c.shapes.invariant.walked c.into_part.ensures is c.in_ok-stays-in-Group.stays c.in_ok-stays-in-Group.ensures.left in
     let walked : InPrefix marked left why way c.args.place.now 0 c.as_mut_slice-members.result.now c.args.dropped.now.items (c.shapes.i + 1) c.if-stays.kept c.if-stays.members c.prune_shape.new.dropped.items =
-    elim c.if-stays.branch [
-      | then-stays w ↦ rw (w.members-is, w.kept-is, w.swap.ensures.after)
-          (stays marked left why way c.args.place.now 0 c.as_mut_slice-members.result.now c.args.dropped.now.items c.shapes.i c.shapes.kept c.shapes.members c.shapes.dropped.items c.prune_shape.new.dropped.items
-          c.index-members-i.result c.prune_shape.new.shape part c.shapes-test.true c.shapes.invariant.walked c.into_part.ensures is c.in_ok-stays-in-Group.stays c.in_ok-stays-in-Group.ensures.left w.if-stays.true)
-      | else-stays w ↦ rw (w.members-is, w.kept-is)
-          (goes marked left why way c.args.place.now 0 c.as_mut_slice-members.result.now c.args.dropped.now.items c.shapes.i c.shapes.kept c.shapes.members c.shapes.dropped.items c.prune_shape.new.dropped.items
-          c.index-members-i.result c.prune_shape.new.shape part c.shapes-test.true c.shapes.invariant.walked c.into_part.ensures is c.in_ok-stays-in-Group.stays c.in_ok-stays-in-Group.ensures.left w.if-stays.false)
-    ] in
+    elim c.if-stays.branch [ then-stays w ↦ rw (w.members-is, w.kept-is, w.swap.ensures.after) (turn.0 w.if-stays.true) | else-stays w ↦ rw (w.members-is, w.kept-is) (turn.1 w.if-stays.false) ] in
     record {
       unvisited = (walked.long, unvisited c.as_mut_slice-members.result.now c.if-stays.members (c.shapes.i + 1) walked.following);
       here = c.leave.ensures c.args.place.now c.shapes.i (c.in_ok-stays-in-Group.ensures.place ∙ at);
@@ -53,7 +49,7 @@ pub returns-in-Point-clause-left : goal.returns-in-Point-clause-left
 returns-in-Point-clause-left g t c =
     let place = g.K.Keeps.places c.args.keeps.now in
     rw (c.in-Point.is, v.outs-Point)
-    (pruned.of_point place (g.K.Keeps.keeps c.args.keeps.now) (map_some (λ w. w.now) c.args.way) c.in-Point.cell ∙ ap (λ p. Some (v.Point p)) (sym (c.place.ensures ∙ ap place c.in-Point.cell-is)))
+    (left-point place (sparing (g.K.Keeps.keeps c.args.keeps.now)) c.in-Point.cell (map_some (λ w. w.now) c.args.way) ∙ ap (λ p. Some (v.Point p)) (sym (c.place.ensures ∙ ap place c.in-Point.cell-is)))
 
 pub returns-in-Point-clause-dropped : goal.returns-in-Point-clause-dropped
 returns-in-Point-clause-dropped g t c =
@@ -65,7 +61,7 @@ pub returns-in-MultiPoint-clause-left : goal.returns-in-MultiPoint-clause-left
 returns-in-MultiPoint-clause-left g t c =
     let place = g.K.Keeps.places c.args.keeps.now in
     rw (c.in-MultiPoint.is, v.outs-MultiPoint)
-    (pruned.of_points place (g.K.Keeps.keeps c.args.keeps.now) (map_some (λ w. w.now) c.args.way) c.in-MultiPoint.cells
+    (left-points place (sparing (g.K.Keeps.keeps c.args.keeps.now)) c.in-MultiPoint.cells (map_some (λ w. w.now) c.args.way)
     ∙ ap (λ ps. Some (v.MultiPoint ps)) (sym (refilled place _ c.in-MultiPoint.cells c.place_cells.new.cells refl (c.place_cells.ensures ∙ ap (map place) (c.as_mut_slice.ensures.value ∙ c.in-MultiPoint.cells-is)))))
 
 pub returns-in-MultiPoint-clause-dropped : goal.returns-in-MultiPoint-clause-dropped
@@ -78,9 +74,9 @@ pub returns-in_ok-add_here-in-Line-clause-left : goal.returns-in_ok-add_here-in-
 returns-in_ok-add_here-in-Line-clause-left g t c =
     let k = g.K.Keeps.keeps c.args.keeps.now in
     rw (c.in-Line.is, v.outs-Line)
-    (pruned.of_line (g.K.Keeps.places c.args.keeps.now) k (map_some (λ w. w.now) c.args.way) c.in-Line.refs
+    (left-line (g.K.Keeps.places c.args.keeps.now) (sparing k) c.in-Line.refs (map_some (λ w. w.now) c.args.way)
     ∙ ap (map_some v.Line) (ap (k false) (sym c.in-Line.refs-is) ∙ c.prune_line-cause.ensures.left ∙ if_none c.prune_line-cause.result c.prune_line-cause.new.refs c.is_none.result c.is_none.ensures)
-    ∙ pruned.if_made v.Line c.is_none.result c.prune_line-cause.new.refs)
+    ∙ if_made v.Line c.is_none.result c.prune_line-cause.new.refs)
 
 pub returns-in_ok-add_here-in-Line-clause-dropped : goal.returns-in_ok-add_here-in-Line-clause-dropped
 returns-in_ok-add_here-in-Line-clause-dropped g t c =
@@ -93,8 +89,8 @@ pub returns-in_ok-prune_lines-in-Lines-clause-left : goal.returns-in_ok-prune_li
 returns-in_ok-prune_lines-in-Lines-clause-left g t c =
     let k = g.K.Keeps.keeps c.args.keeps.now in
     rw (c.in-Lines.is, v.outs-Lines)
-    (pruned.of_lines (g.K.Keeps.places c.args.keeps.now) k (map_some (λ w. w.now) c.args.way) c.in-Lines.lines
-    ∙ ap (unless_empty v.Lines) (sym (c.in_ok-prune_lines-in-Lines.ensures.left ∙ ap (some_of (k false)) c.in-Lines.lines-is)) ∙ pruned.left_if_some v.Lines c.prune_lines.new.lines c.is_empty.result c.is_empty.ensures)
+    (left-lines (g.K.Keeps.places c.args.keeps.now) (sparing k) c.in-Lines.lines (map_some (λ w. w.now) c.args.way)
+    ∙ ap (unless_empty v.Lines) (sym (c.in_ok-prune_lines-in-Lines.ensures.left ∙ ap (some_of (k false)) c.in-Lines.lines-is)) ∙ left_if_some v.Lines c.prune_lines.new.lines c.is_empty.result c.is_empty.ensures)
 
 pub returns-in_ok-prune_lines-in-Lines-clause-dropped : goal.returns-in_ok-prune_lines-in-Lines-clause-dropped
 returns-in_ok-prune_lines-in-Lines-clause-dropped g t c =
@@ -110,8 +106,8 @@ returns-in-Area-clause-left g t c =
     rw (c.in-Area.is, v.outs-Area)
     (IfOk-weaker c.prune_rings.result (λ stays. area_by (sparing k true) (rings_marked _ way) ≡ (if stays then Some c.prune_rings.new.rings else None))
     (λ stays. prune (g.K.Keeps.places c.args.keeps.now) (sparing k) (marked (v.Area c.in-Area.rings) way) ≡ (if stays then Some (v.Area c.prune_rings.new.rings) else None))
-    (λ stays h. pruned.of_area (g.K.Keeps.places c.args.keeps.now) k way c.in-Area.rings ∙ ap (map_some v.Area) (ap (λ rs. area_by (sparing k true) (rings_marked rs way)) (sym c.in-Area.rings-is) ∙ h)
-    ∙ pruned.if_made v.Area stays c.prune_rings.new.rings) c.prune_rings.ensures.left)
+    (λ stays h. left-area (g.K.Keeps.places c.args.keeps.now) (sparing k) c.in-Area.rings way ∙ ap (map_some v.Area) (ap (λ rs. area_by (sparing k true) (rings_marked rs way)) (sym c.in-Area.rings-is) ∙ h)
+    ∙ if_made v.Area stays c.prune_rings.new.rings) c.prune_rings.ensures.left)
 
 pub returns-in-Area-clause-dropped : goal.returns-in-Area-clause-dropped
 returns-in-Area-clause-dropped g t c =
@@ -126,9 +122,9 @@ returns-in_ok-prune_areas-in-Areas-clause-left g t c =
     let k = g.K.Keeps.keeps c.args.keeps.now in
     let way = map_some (λ w. w.now) c.args.way in
     rw (c.in-Areas.is, v.outs-Areas)
-    (pruned.of_areas (g.K.Keeps.places c.args.keeps.now) k way c.in-Areas.areas
+    (left-areas (g.K.Keeps.places c.args.keeps.now) (sparing k) c.in-Areas.areas way
     ∙ ap (unless_empty v.Areas) (sym (c.in_ok-prune_areas-in-Areas.ensures.left ∙ ap (λ rss. some_of (area_by (sparing k true)) (along rings_marked 0 rss way)) c.in-Areas.areas-is))
-    ∙ pruned.left_if_some v.Areas c.prune_areas.new.areas c.is_empty-in-Areas.result c.is_empty-in-Areas.ensures)
+    ∙ left_if_some v.Areas c.prune_areas.new.areas c.is_empty-in-Areas.result c.is_empty-in-Areas.ensures)
 
 pub returns-in_ok-prune_areas-in-Areas-clause-dropped : goal.returns-in_ok-prune_areas-in-Areas-clause-dropped
 returns-in_ok-prune_areas-in-Areas-clause-dropped g t c =
@@ -146,7 +142,7 @@ returns-after-shapes-clause-left g t c =
     let walk = ends marked left (drop_causes (cause_sparing (unkept_cause k))) way c.args.place.now 0 c.as_mut_slice-members.result.now _ c.args.dropped.now.items c.shapes.i c.shapes.kept c.shapes.members c.shapes.dropped.items
     c.as_mut_slice-members.ensures.value c.shapes-test.false c.shapes.invariant.walked in
     rw (c.in-Group.is, v.outs-Group)
-    (pruned.of_group (g.K.Keeps.places c.args.keeps.now) k way c.in-Group.shapes
+    (left-group (g.K.Keeps.places c.args.keeps.now) (sparing k) c.in-Group.shapes way
     ∙ ap (λ ss. Some (v.Group ss)) (sym (c.truncate.ensures ∙ walk.0 ∙ ap (λ ss. some_of left (along marked 0 ss way)) c.in-Group.shapes-is)))
 
 pub returns-after-shapes-clause-dropped : goal.returns-after-shapes-clause-dropped

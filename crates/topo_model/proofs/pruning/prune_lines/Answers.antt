@@ -6,7 +6,7 @@ use Rattle.geometry.specs.Paths.{Placed, of_parts}
 use Rattle.junctions.specs.Gathering.{part_address}
 use Rattle.topo_model.specs.Drops.{unkept_cause}
 use Rattle.topo_model.specs.Places.{dropped_at}
-use Rattle.topo_model.proofs.Prefix.{along_alone, if_none, starts, stays, goes, ends}
+use Rattle.topo_model.proofs.Prefix.{along_alone, if_none, starts, turns, ends}
 use Rattle.topo_model.proofs.pruning.prune_lines.Goals.{then-is_none, else-is_none}
 use Rattle.topo_model.proofs.pruning.prune_lines.Goals as goal
 
@@ -23,14 +23,9 @@ loop-i-preserved g c =
     let left = c.prune_line-cause.ensures.left ∙ if_none c.prune_line-cause.result c.prune_line-cause.new.refs c.is_none.result c.is_none.ensures in
     let is = c.in_ok-add_part.ensures
     ∙ ap (λ o. c.loop-i.dropped.items ++ dropped_at (part_address c.args.place.now c.loop-i.i) (here o)) (c.hole_cause.ensures ∙ ap (inner_cause c.args.outer) c.prune_line-cause.ensures.cause) in
-    elim c.if-is_none.branch [
-      | then-is_none w ↦ rw (w.parts-is, w.kept-is, w.swap.ensures.after)
-          (stays alone keeps why None c.args.place.now c.args.first c.as_mut_slice-parts.result.now c.args.dropped.now.items c.loop-i.i c.loop-i.kept c.loop-i.parts c.loop-i.dropped.items c.add_part.new.dropped.items
-          c.index-parts-i.result c.prune_line-cause.new.refs None c.loop-i-test.true c.loop-i.invariant refl is c.is_none.result left w.if-is_none.true)
-      | else-is_none w ↦ rw (w.parts-is, w.kept-is)
-          (goes alone keeps why None c.args.place.now c.args.first c.as_mut_slice-parts.result.now c.args.dropped.now.items c.loop-i.i c.loop-i.kept c.loop-i.parts c.loop-i.dropped.items c.add_part.new.dropped.items
-          c.index-parts-i.result c.prune_line-cause.new.refs None c.loop-i-test.true c.loop-i.invariant refl is c.is_none.result left w.if-is_none.false)
-    ]
+    let turn = turns alone keeps why None c.args.place.now c.args.first c.as_mut_slice-parts.result.now c.args.dropped.now.items
+    c.loop-i.i c.loop-i.kept c.loop-i.parts c.loop-i.dropped.items c.add_part.new.dropped.items c.index-parts-i.result c.prune_line-cause.new.refs None c.loop-i-test.true c.loop-i.invariant refl is c.is_none.result left in
+    elim c.if-is_none.branch [ then-is_none w ↦ rw (w.parts-is, w.kept-is, w.swap.ensures.after) (turn.0 w.if-is_none.true) | else-is_none w ↦ rw (w.parts-is, w.kept-is) (turn.1 w.if-is_none.false) ]
 
 pub returns : goal.returns
 returns g c =

@@ -1,3 +1,4 @@
+pub mod ArcTexts
 pub mod Answers
 pub mod Arcs
 pub mod Bounds

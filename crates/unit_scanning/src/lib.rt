@@ -13,6 +13,6 @@ mod plain;
 mod signs;
 mod units;
 
-pub use pairs::{units_pair_at, whole_pair_at};
+pub use pairs::{least_pair_at, units_pair_at, whole_pair_at};
 pub use plain::plain_units_at;
 pub use units::{Units, long_units_at, long_units_in_place, units_at, whole_number_at};

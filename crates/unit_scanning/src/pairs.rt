@@ -1,8 +1,7 @@
 // Pairs of numbers, as positions and cells are mostly written.
-ghost use Rattle.std.specs.Prelude.{◌≡◌, ◌∷◌, ◌++◌, ◌^◌, ◌≤◌, if◌then◌else◌, IfSome, codes, unsigned_abs};
-ghost use Rattle.decimal_text.specs.Scaling.{units_text};
+ghost use Rattle.std.specs.Prelude.{◌≡◌, ◌∷◌, ◌^◌, ◌≤◌, if◌then◌else◌, IfSome, unsigned_abs};
 ghost use Rattle.json_value.specs.Reading as reading;
-ghost use Rattle.geometry.specs.Units.{input_limit, unit_places};
+ghost use Rattle.geometry.specs.Units.{input_limit};
 ghost use Rattle.unit_scanning.specs.Numbers.{IsWholeNumber};
 ghost use Rattle.unit_scanning.specs.Pairs.{ArePlainPair, ArePlainUnits};
 
@@ -58,15 +57,4 @@ pub fn whole_pair_at(limit: u64, bytes: &[u8]) -> Option<(i64, i64, bool, &[u8])
     let (y, following) = whole_number_at(limit, skip(further))?;
     let (more, rest) = closing_at(following)?;
     Some((x, y, more, rest))
-}
-
-/// The position at the front in whole units, where it is written in the shortest way: in brackets, with no white space, as two least decimals
-/// without exponent, and nothing else; and what follows it. None where it isn't, and where a number has more than a few digits.
-pub fn least_pair_at(bytes: &[u8]) -> Option<(i64, i64, &[u8])>
-    ensures text { IfSome result (λ p. bytes.now ≡ (codes "[" ++ (units_text p.0 unit_places ++ (codes "," ++ (units_text p.1 unit_places ++ codes "]")))) ++ p.2.now) }
-    ensures first { IfSome result (λ p. unsigned_abs p.0 ≤ input_limit) }
-    ensures second { IfSome result (λ p. unsigned_abs p.1 ≤ input_limit) }
-{
-    let _ = bytes;
-    None
 }

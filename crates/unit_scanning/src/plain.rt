@@ -13,7 +13,7 @@ use geometry::INPUT_LIMIT;
 pub const FEW: usize = 9;
 
 /// The bytes of the longest number that is read this way, and the one after it: a sign, digits, the point and digits again.
-const LONGEST: usize = 21;
+pub const LONGEST: usize = 21;
 
 /// The units in one of the last of so many decimals.
 const UNITS_OF_PLACE: [u64; 10] = [

@@ -8,16 +8,13 @@ use crate::plain::{LONGEST, few_decimals_at, few_digits_at, units_of_place};
 use crate::signs::{sign_at, with_sign};
 use geometry::INPUT_LIMIT;
 
-/// The least decimal at the front in whole units, and what follows it. None where the number isn't written in the shortest way, where it has
-/// more than a few digits, and where few bytes follow it.
+/// The least decimal at the front in whole units, and what follows it. None where the number isn't written in the shortest way, and where it has
+/// more than a few digits.
 #[inline(always)]
-fn least_units_at(bytes: &[u8]) -> Option<(i64, &[u8])>
+fn least_number_at(bytes: &[u8]) -> Option<(i64, &[u8])>
     ensures text { IfSome result (λ x. bytes.now ≡ units_text x.0 unit_places ++ x.1.now) }
     ensures within { IfSome result (λ x. unsigned_abs x.0 ≤ input_limit) }
 {
-    if bytes.len() < LONGEST {
-        return None;
-    }
     let (negative, prefix) = sign_at(bytes);
     if !is_whole(prefix) {
         return None;
@@ -37,9 +34,30 @@ fn least_units_at(bytes: &[u8]) -> Option<(i64, &[u8])>
     Some((with_sign(negative, size), rest))
 }
 
+/// The same, where few bytes are left.
+#[cold]
+#[inline(never)]
+fn last_number_at(bytes: &[u8]) -> Option<(i64, &[u8])>
+    ensures text { IfSome result (λ x. bytes.now ≡ units_text x.0 unit_places ++ x.1.now) }
+    ensures within { IfSome result (λ x. unsigned_abs x.0 ≤ input_limit) }
+{
+    least_number_at(bytes)
+}
+
+/// The same. Where the longest number has room, no byte of it is looked for.
+#[inline(always)]
+fn least_units_at(bytes: &[u8]) -> Option<(i64, &[u8])>
+    ensures text { IfSome result (λ x. bytes.now ≡ units_text x.0 unit_places ++ x.1.now) }
+    ensures within { IfSome result (λ x. unsigned_abs x.0 ≤ input_limit) }
+{
+    if bytes.len() < LONGEST {
+        return last_number_at(bytes);
+    }
+    least_number_at(bytes)
+}
+
 /// The position at the front in whole units, where it is written in the shortest way: in brackets, with no white space, as two least decimals
-/// without exponent, and nothing else; and what follows it. None where it isn't, where a number has more than a few digits, and where few
-/// bytes follow it.
+/// without exponent, and nothing else; and what follows it. None where it isn't, and where a number has more than a few digits.
 #[inline(always)]
 pub fn least_pair_at(bytes: &[u8]) -> Option<(i64, i64, &[u8])>
     ensures text { IfSome result (λ p. bytes.now ≡ (codes "[" ++ (units_text p.0 unit_places ++ (codes "," ++ (units_text p.1 unit_places ++ codes "]")))) ++ p.2.now) }

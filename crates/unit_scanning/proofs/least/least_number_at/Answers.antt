@@ -6,8 +6,8 @@ use Rattle.decimal_text.specs.Scaling.{units_text}
 use Rattle.geometry.specs.Units.{input_limit, unit_places}
 use Rattle.unit_scanning.proofs.LeastTexts.{least_text}
 use Rattle.unit_scanning.proofs.PlainNumbers.{product_small}
-use Rattle.unit_scanning.proofs.least.least_units_at.Goals as goal
-use Rattle.unit_scanning.proofs.least.least_units_at.Goals.{else-places-gt0-via-then-places-gt0+else-kept-eq0, else-places-gt0-via-else-places-gt0}
+use Rattle.unit_scanning.proofs.least.least_number_at.Goals as goal
+use Rattle.unit_scanning.proofs.least.least_number_at.Goals.{else-places-gt0-via-then-places-gt0+else-kept-eq0, else-places-gt0-via-else-places-gt0}
 
 pub overflow_mul-size : goal.overflow_mul-size
 overflow_mul-size c = let small = product_small _ _ _ c.in_ok-kept.ensures.few c.in_ok-kept.ensures.small c.units_of_place.ensures in omega (arith, small)

@@ -1,7 +1,10 @@
 // Decoding an object of a topology.
 ghost use Rattle.std.specs.Prelude.{◌≡◌, ℕ, List, Some, Result, IfOk, IfErr};
 ghost use Rattle.std.specs.List.{AllByRecursion};
+ghost use Rattle.byte_ends.specs.Ends.{Fed};
+ghost use Rattle.inputs.specs.Texts.{IsRead};
 ghost use Rattle.inputs.specs.declared.file_fault.FileFault.{FileFault as Fault};
+ghost use Rattle.topojson_meaning.specs.ArcTexts.{AreTextsOf};
 ghost use Rattle.topojson_types.specs.Topologies.{object_features};
 ghost use Rattle.topojson_types.specs.LinesAndRings.{IsShapeOption};
 ghost use Rattle.topojson_writer.specs.Decoded.{object_in};
@@ -9,34 +12,60 @@ ghost use Rattle.mapchain_engine.specs.FileOutcomes.{FileHasOutcome, FollowsText
 ghost use Rattle.mapchain_engine.specs.Geo.{features_text, IsDecoded, IsGeoFault, SendsText};
 
 use crate::file_laws::decoded_text_is_utf8;
-use crate::file_reading::read_file;
+use crate::file_reading::{bytes_of, spelled_of};
 use byte_ends::{Drain, Feed, Sink, Source, flush_after};
 use inputs::FileFault;
 use std::alloc::Global;
 use std::mem;
 use topojson_types::{TopoObject, Topology, named_object};
-use topojson_writer::write_object;
+use topojson_writer::write_spelled_object;
 
-/// Writes the features of the object and flushes the sink.
+/// Writes the features of the object and flushes the sink. The texts are those of the topology's arcs, as far as they go.
 fn send<W: Drain>(
     topology: &Topology,
+    texts: &[Option<&[u8]>],
     object: &TopoObject,
     sink: &mut Sink<W>,
 ) -> Result<u64, FileFault>
-    requires { AllByRecursion (λ f. IsShapeOption topology.now f.shape) (object_features object.now) }
+    requires texts { AreTextsOf topology.now.transform topology.now.arcs texts.now }
+    requires shapes { AllByRecursion (λ f. IsShapeOption topology.now f.shape) (object_features object.now) }
     ensures { SendsText sink.old sink.new (features_text (object_in topology.now object.now)) result }
 {
-    let written = write_object(topology, object, sink);
+    let written = write_spelled_object(topology, texts, object, sink);
     let sent = flush_after(written, sink)?;
     Ok(sent)
+}
+
+/// Writes the features of the object of this name of the topology that the bytes spell, and flushes the sink.
+fn decode<W: Drain>(
+    alloc: Global,
+    bytes: &[u8],
+    name: &str,
+    sink: &mut Sink<W>,
+) -> Result<u64, FileFault>
+    ensures written { (old new : Fed) → IsRead old new bytes.now → IfOk result (λ sent. IsDecoded name.now old new sink.old sink.new sent) }
+    ensures refused { (old new : Fed) → IsRead old new bytes.now → IfErr result (λ e. IsGeoFault name.now old new sink.old sink.new e) }
+    ensures decided { (old new : Fed) → IsRead old new bytes.now → (spelled : List ℕ) (outcome : Result (List ℕ) Fault) → old.left ≡ Some spelled
+        → FileHasOutcome (object_text name.now) spelled outcome → FollowsText sink.old sink.new outcome result }
+{
+    decoded_text_is_utf8();
+    let (read, _counts) = spelled_of(alloc, bytes)?;
+    let Some(object) = named_object(&read.topology, name) else {
+        drop(read);
+        return Err(FileFault::NoObject);
+    };
+    let sent = send(&read.topology, &read.texts, object, sink);
+    // (as in building)
+    mem::forget(read);
+    sent
 }
 
 /// Writes the features of an object of a topology (TopoJSON 1.0) as a GeoJSON text (RFC 7946), and answers the number of bytes.
 ///
 /// The topology is read from its source to the end, and refused as by `stat`. A GeometryCollection is a FeatureCollection, any other
 /// object a Feature; each line and ring is its arcs, forwards or reversed, put together. On each fault but `Write` the sink is as
-/// it was. On `Write` it took a prefix of the text, of the length that is reported. At `Ok` the sink is flushed. The topology's
-/// memory is left to the end of the process.
+/// it was. On `Write` it took a prefix of the text, of the length that is reported. At `Ok` the sink is flushed. The memory of the
+/// topology and of its text, from which lines are copied, is left to the end of the process.
 pub fn to_geo<R: Feed, W: Drain>(
     alloc: Global,
     source: &mut Source<R>,
@@ -51,14 +80,9 @@ pub fn to_geo<R: Feed, W: Drain>(
     ensures decided { (bytes : List ℕ) (outcome : Result (List ℕ) Fault) → source.old.left ≡ Some bytes → FileHasOutcome (object_text name.now) bytes outcome
         → FollowsText sink.old sink.new outcome result }
 {
-    decoded_text_is_utf8();
-    let (topology, _counts) = read_file(alloc, source)?;
-    let Some(object) = named_object(&topology, name) else {
-        drop(topology);
-        return Err(FileFault::NoObject);
-    };
-    let sent = send(&topology, object, sink);
+    let bytes = bytes_of(alloc, source)?;
+    let sent = decode(alloc, &bytes, name, sink);
     // (as in building)
-    mem::forget(topology);
+    mem::forget(bytes);
     sent
 }

@@ -2,14 +2,16 @@
 ghost use Rattle.std.specs.Prelude.{ℕ, Err, List, MatchResult};
 ghost use Rattle.inputs.specs.Texts.{IsRead};
 ghost use Rattle.topojson_decoder.specs.Texts.{TextAnswers};
-ghost use Rattle.mapchain_engine.specs.Files.{FailsToGive, IsKeptOf, IsNoTopology, IsTopologyOf, ReadsKept, ReadsTopology};
+ghost use Rattle.mapchain_engine.specs.Files.{FailsToGive, IsKeptOf, IsNoTopology, IsSpelledOf, IsTopologyOf, ReadsKept, ReadsTopology};
 
 use byte_ends::{Feed, MAX_INPUT, ReadFault, Source, read_all};
 use geojson_types::Counts;
 use inputs::{FileFault, Unwatched, Watch};
 use json_reading::JsonFault;
 use std::alloc::Global;
-use topojson_decoder::{Keeping, Parts, Refusal, read_parts, read_text};
+use topojson_decoder::{
+    Keeping, Parts, Refusal, SpelledTopology, read_parts, read_spelled_text, read_text,
+};
 use topojson_meaning::TopoFault;
 use topojson_types::Topology;
 
@@ -44,7 +46,20 @@ fn topology_of(alloc: Global, bytes: &[u8]) -> Result<(Topology, Counts), FileFa
     }
 }
 
-/// The same, and a `Watch` looks on.
+/// The same beside the texts in which the arcs of the topology stand, as far as these are what is written of them.
+pub(crate) fn spelled_of<'a>(
+    alloc: Global,
+    bytes: &'a [u8],
+) -> Result<(SpelledTopology<'a>, Counts), FileFault>
+    ensures { IsSpelledOf bytes.now result }
+{
+    match read_spelled_text(alloc, bytes) {
+        Ok(read) => Ok(read),
+        Err(refusal) => Err(fault_of(refusal)),
+    }
+}
+
+/// The topology that the bytes spell, with what was counted in reading it; or why they spell none. A `Watch` looks on.
 fn topology_of_watched<K: Watch>(
     alloc: Global,
     bytes: &[u8],
@@ -78,7 +93,7 @@ fn kept_of<K: Watch>(
 }
 
 /// The bytes of a source that is read to its end.
-fn bytes_of<R: Feed>(alloc: Global, source: &mut Source<R>) -> Result<Vec<u8>, FileFault>
+pub(crate) fn bytes_of<R: Feed>(alloc: Global, source: &mut Source<R>) -> Result<Vec<u8>, FileFault>
     ensures { MatchResult result (λ v. IsRead source.old source.new v.items) (λ e. FailsToGive source.old source.new e) }
 {
     match read_all(alloc, source, MAX_INPUT) {

@@ -1,18 +1,16 @@
 // The text that goes to a sink.
-ghost use Rattle.std.specs.Prelude.{◌≡◌, ◌++◌, ◌≤◌, [], Ok, length};
+ghost use Rattle.std.specs.Prelude.{◌≡◌, ◌+◌, ◌++◌, ◌≤◌, [], Ok, length};
 ghost use Rattle.byte_ends.specs.Writes.{Writes};
 ghost use Rattle.json_writer.specs.Standing.{Stands, Start};
 
 use crate::out::Out;
+use crate::room_writer::ROOM;
 use crate::short_text::ShortText;
 use crate::trace::Trace;
 use byte_ends::{Drain, Progress, Sink, put_part};
 
-// So many bytes a part may have that is held.
-const MOST_OF_PART: usize = 96;
-
-// So many bytes may be held while 96 more have room.
-const MOST_HELD: usize = 416;
+// So many bytes have room for two numbers in brackets.
+const ROOM_OF_PAIR: usize = 96;
 
 /// A text that goes to a sink, short parts of it at once. Where the device fails no more of it is taken, which its end tells.
 #[derive(Drop)]
@@ -50,14 +48,15 @@ impl<'s, W: Drain> Buffered<'s, W> {
         self.held.clear();
     }
 
-    /// Makes room for 96 bytes more.
-    fn make_room(&mut self)
+    /// Makes room for so many bytes more.
+    fn make_room(&mut self, more: usize)
+        requires { more ≤ 512 }
         ensures text { self.new.trace.text ≡ self.old.trace.text }
-        ensures room { length self.new.held ≤ 416 }
+        ensures room { length self.new.held + more ≤ 512 }
         ensures kept { (start : Start) → Stands start self.old.sink.ghost_name self.old.sink.now self.old.so_far self.old.held self.old.trace.text
             → Stands start self.new.sink.ghost_name self.new.sink.now self.new.so_far self.new.held self.new.trace.text }
     {
-        if self.held.len() > MOST_HELD {
+        if self.held.len() > ROOM - more {
             self.write_held();
         }
     }
@@ -97,18 +96,18 @@ impl<W: Drain> Out for Buffered<'_, W> {
 
     #[tactic(auto, using(crate::proofs::Standings::standings))]
     fn put(&mut self, bytes: &[u8]) {
-        if bytes.len() > MOST_OF_PART {
+        if bytes.len() > ROOM {
             self.put_long(bytes);
             return;
         }
-        self.make_room();
+        self.make_room(bytes.len());
         self.held.push(bytes);
         self.trace = self.trace.with(bytes);
     }
 
     #[tactic(auto, using(crate::proofs::Standings::standings))]
     fn put_units(&mut self, units: i64, places: u32) {
-        self.make_room();
+        self.make_room(ROOM_OF_PAIR);
         let before = self.held.len();
         self.held.push_units(units, places);
         self.trace = self.trace.with(self.held.after(before));
@@ -116,7 +115,7 @@ impl<W: Drain> Out for Buffered<'_, W> {
 
     #[tactic(auto, using(crate::proofs::Standings::standings))]
     fn put_units_pair(&mut self, x: i64, y: i64, places: u32) {
-        self.make_room();
+        self.make_room(ROOM_OF_PAIR);
         let before = self.held.len();
         self.held.push_pair(x, y, places);
         self.trace = self.trace.with(self.held.after(before));

@@ -9,6 +9,7 @@ pub mod ShapeParts
 pub mod Shapes
 pub mod Shown
 pub mod TopologyRows
+pub mod SpelledArcs
 pub mod Transforms
 pub mod Whole
 pub mod Written

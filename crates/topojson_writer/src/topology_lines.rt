@@ -11,9 +11,10 @@ ghost use Rattle.topojson_types.specs.Validity.{AreInRange, IsPlace};
 ghost use Rattle.topojson_types.specs.LinesAndRings.{IsLineOrRing};
 
 use crate::position_writer::put_position;
+use crate::spelled_topology::SpelledTopology;
 use json_value::Items;
 use json_writer::{Out, put_comma};
-use topojson_types::{ArcRef, Cell, LineWalk, Topology, Transform, position_at};
+use topojson_types::{ArcRef, Cell, Transform, position_at};
 
 /// Puts where cells lie.
 pub fn put_cells<O: Out>(transform: Option<&Transform>, cells: &[Cell], out: &mut O)
@@ -32,15 +33,20 @@ pub fn put_cells<O: Out>(transform: Option<&Transform>, cells: &[Cell], out: &mu
     out.put(b"]");
 }
 
-/// Puts the positions of a line, or of a ring, if it is closed.
-pub fn put_line<O: Out>(topology: &Topology, refs: &[ArcRef], is_closed: bool, out: &mut O)
+/// Puts the positions of a line, or of a ring, if it is closed, one by one.
+fn put_positions<O: Out>(
+    topology: &SpelledTopology<'_>,
+    refs: &[ArcRef],
+    is_closed: bool,
+    out: &mut O,
+)
     requires { AreInRange (length topology.now.arcs) refs.now }
     ensures text { O.text out.new ≡ O.text out.old ++ json_text (positions_value (line_in topology.now is_closed refs.now)) }
     ensures kept { (start : Start) → O.good out.old start → O.good out.new start }
 {
     out.put(b"[");
     let mut is_first = true;
-    'positions: for position in LineWalk::over(topology, refs, is_closed) {
+    'positions: for position in topology.walk(refs, is_closed) {
         put_comma(is_first, out);
         is_first = false;
         put_position(position, out);
@@ -48,8 +54,30 @@ pub fn put_line<O: Out>(topology: &Topology, refs: &[ArcRef], is_closed: bool, o
     out.put(b"]");
 }
 
+/// Puts the positions of a line, or of a ring, if it is closed. Where their text is known it is copied.
+pub fn put_line<O: Out>(
+    topology: &SpelledTopology<'_>,
+    refs: &[ArcRef],
+    is_closed: bool,
+    out: &mut O,
+)
+    requires { AreInRange (length topology.now.arcs) refs.now }
+    ensures text { O.text out.new ≡ O.text out.old ++ json_text (positions_value (line_in topology.now is_closed refs.now)) }
+    ensures kept { (start : Start) → O.good out.old start → O.good out.new start }
+{
+    match topology.text_of(refs, is_closed) {
+        Some(text) => out.put(text),
+        None => put_positions(topology, refs, is_closed, out),
+    }
+}
+
 /// Puts lines, or the rings of a polygon.
-pub fn put_lines<O: Out>(topology: &Topology, lines: &[Items<ArcRef>], is_closed: bool, out: &mut O)
+pub fn put_lines<O: Out>(
+    topology: &SpelledTopology<'_>,
+    lines: &[Items<ArcRef>],
+    is_closed: bool,
+    out: &mut O,
+)
     requires { AllByRecursion (λ l. IsLineOrRing topology.now (is_closed, l)) lines.now }
     ensures text { O.text out.new ≡ O.text out.old ++ json_text (lines_value (map (line_in topology.now is_closed) lines.now)) }
     ensures kept { (start : Start) → O.good out.old start → O.good out.new start }
@@ -65,7 +93,11 @@ pub fn put_lines<O: Out>(topology: &Topology, lines: &[Items<ArcRef>], is_closed
 }
 
 /// Puts polygons.
-pub fn put_areas<O: Out>(topology: &Topology, areas: &[Items<Items<ArcRef>>], out: &mut O)
+pub fn put_areas<O: Out>(
+    topology: &SpelledTopology<'_>,
+    areas: &[Items<Items<ArcRef>>],
+    out: &mut O,
+)
     requires { AllByRecursion (λ rs. AllByRecursion (λ l. IsLineOrRing topology.now (true, l)) rs) areas.now }
     ensures text { O.text out.new ≡ O.text out.old ++ json_text (polygons_value (map (map (line_in topology.now true)) areas.now)) }
     ensures kept { (start : Start) → O.good out.old start → O.good out.new start }

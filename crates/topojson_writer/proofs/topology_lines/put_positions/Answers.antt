@@ -5,12 +5,12 @@ use Rattle.json_writer.proofs.Lists.{list_left, array-text, text_by}
 use Rattle.topojson_writer.specs.FeatureValues.{position_value}
 use Rattle.topojson_writer.specs.Decoded.{line_in}
 use Rattle.topojson_writer.proofs.Elements.{first-text}
-use Rattle.topojson_writer.proofs.topology_lines.put_line.Goals as goal
+use Rattle.topojson_writer.proofs.topology_lines.put_positions.Goals as goal
 
 pub positions-init : goal.positions-init
 positions-init g c =
     let line = line_in c.args.topology.now c.args.is_closed c.args.refs.now in
-    let walk = c.into_iter-position-iterator.ensures.into_iter_gives ∙ c.over-position-items.ensures in
+    let walk = c.into_iter-position-iterator.ensures.into_iter_gives ∙ c.walk-position-items.ensures in
     rw walk (begins _ (array-text position_value line) c.put.ensures.text c.put.ensures.kept)
 
 pub positions-preserved : goal.positions-preserved

@@ -6,7 +6,7 @@ ghost use Rattle.json_cursor.specs.Answers.{Answers};
 ghost use Rattle.json_cursor.specs.Arrays.{prefix_value};
 ghost use Rattle.json_cursor.specs.Folds.{some_one};
 
-use crate::positions::Positions;
+use crate::positions::{Positions, seem_long};
 use geojson_meaning::GeoFaultKind;
 use geojson_types::{Counts, Position, Ring, is_closed};
 use json_cursor::{Element, Stop, led_array_at, some_array_at};
@@ -23,8 +23,18 @@ pub(crate) fn line_at<'a>(
 ) -> Result<(Option<Items<Position>>, &'a [u8]), Stop<GeoFaultKind>>
     ensures { Answers (λ x. x) (line exact) (prefix_value depth_left bytes.now) counts.old counts.new result }
 {
-    let wrong = GeoFaultKind::WrongKind;
-    match some_array_at::<Positions>(alloc, depth_left, bytes, wrong, Positions { exact }, counts) {
+    let by = Positions {
+        exact,
+        are_long: seem_long(bytes),
+    };
+    match some_array_at::<Positions>(
+        alloc,
+        depth_left,
+        bytes,
+        GeoFaultKind::WrongKind,
+        by,
+        counts,
+    ) {
         Err(stop) => Err(stop),
         Ok((read, rest)) => {
             let Some(positions) = read else {
@@ -49,8 +59,18 @@ pub(crate) fn ring_at<'a>(
 ) -> Result<(Option<Ring>, &'a [u8]), Stop<GeoFaultKind>>
     ensures { Answers (λ x. x) (ring exact) (prefix_value depth_left bytes.now) counts.old counts.new result }
 {
-    let wrong = GeoFaultKind::WrongKind;
-    match some_array_at::<Positions>(alloc, depth_left, bytes, wrong, Positions { exact }, counts) {
+    let by = Positions {
+        exact,
+        are_long: seem_long(bytes),
+    };
+    match some_array_at::<Positions>(
+        alloc,
+        depth_left,
+        bytes,
+        GeoFaultKind::WrongKind,
+        by,
+        counts,
+    ) {
         Err(stop) => Err(stop),
         Ok((read, rest)) => {
             let Some(items) = read else {

@@ -172,6 +172,25 @@ pub(crate) fn numbers_at<'a>(
     Ok((Position::at(x, y), rest))
 }
 
+/// The same. Where the numbers are long, it isn't tried first whether they are short.
+#[inline(always)]
+fn either_numbers_at<'a>(
+    alloc: Global,
+    depth_left: u32,
+    inside: &'a [u8],
+    exact: bool,
+    are_long: bool,
+    counts: &mut Counts,
+) -> Result<(Position, &'a [u8]), Stop<GeoFaultKind>>
+    ensures { Answers (λ p. p) (spec.elements_position exact) (prefix_elements depth_left (length inside.now) inside.now) counts.old counts.new result }
+{
+    let turns = inside.len();
+    if are_long {
+        return two_numbers_at(alloc, depth_left, turns, inside, exact, counts);
+    }
+    numbers_at(alloc, depth_left, turns, inside, exact, counts)
+}
+
 /// The position at the front (RFC 7946, section 3.1.1), x (longitude) first, and what follows it.
 #[inline(always)]
 pub(crate) fn position_at<'a>(
@@ -179,6 +198,7 @@ pub(crate) fn position_at<'a>(
     depth_left: u32,
     bytes: &'a [u8],
     exact: bool,
+    are_long: bool,
     counts: &mut Counts,
 ) -> Result<(Position, &'a [u8]), Stop<GeoFaultKind>>
     ensures { Answers (λ p. p) (spec.position exact) (prefix_value depth_left bytes.now) counts.old counts.new result }
@@ -188,14 +208,36 @@ pub(crate) fn position_at<'a>(
         Opening::NoArray => Err(Stop::Fault(GeoFaultKind::WrongKind)),
         Opening::TooDeep => Err(Stop::NoValue),
         Opening::Empty => Err(Stop::Fault(GeoFaultKind::ShortPosition)),
-        Opening::Filled(below) => { numbers_at(alloc, below, inside.len(), inside, exact, counts) }
+        Opening::Filled(below) => {
+            either_numbers_at(alloc, below, inside, exact, are_long, counts)
+        }
     }
+}
+
+/// Where an array of positions begins with a long number, these of its bytes are digits: the first of them is a decimal, and the last isn't past the
+/// number's end.
+const FIRST_OF_LONG: usize = 10;
+
+const END_OF_LONG: usize = 18;
+
+/// The numbers of the array of positions at the front seem to have more decimals than are kept. It says only what is tried first.
+pub(crate) fn seem_long(bytes: &[u8]) -> bool {
+    if bytes.len() < END_OF_LONG {
+        return false;
+    }
+    'bytes: for at in FIRST_OF_LONG..END_OF_LONG {
+        if !bytes[at].is_ascii_digit() {
+            return false;
+        }
+    }
+    true
 }
 
 /// How the positions of an array are read.
 #[derive(Clone, Copy)]
 pub(crate) struct Positions {
     pub exact: bool,
+    pub are_long: bool,
 }
 
 impl Element for Positions {
@@ -213,7 +255,7 @@ impl Element for Positions {
         bytes: &'a [u8],
         counts: &mut Counts,
     ) -> Result<(Option<Position>, &'a [u8]), Stop<GeoFaultKind>> {
-        match position_at(alloc, depth_left, bytes, self.exact, counts) {
+        match position_at(alloc, depth_left, bytes, self.exact, self.are_long, counts) {
             Ok((position, rest)) => Ok((Some(position), rest)),
             Err(stop) => Err(stop),
         }

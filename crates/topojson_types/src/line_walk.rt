@@ -58,6 +58,7 @@ impl<'a> Iterator for LineWalk<'a> {
 
     ghost remaining = { item_count (λ w. w) };
 
+    #[inline(always)]
     fn next(&mut self) -> Option<Position> {
         if let Some(position) = self.walk.next() {
             self.missing = self.missing.saturating_sub(1);

@@ -116,6 +116,7 @@ pub fn placed(transform: Option<&Transform>, cell: Cell) -> Option<Position>
 }
 
 /// Where a cell that may stand in a topology lies.
+#[inline(always)]
 #[tactic(auto, unfolding(crate::specs::Transforms::placed, crate::specs::Transforms::is_within))]
 pub fn position_at(transform: Option<&Transform>, cell: Cell) -> Position
     requires { IsPlace (option_copied transform) cell }

@@ -55,6 +55,7 @@ impl<'a> Iterator for Walk<'a> {
 
     ghost remaining = { item_count (λ w. w) };
 
+    #[inline(always)]
     fn next(&mut self) -> Option<Position> {
         let cell = self.cells.take_first()?;
         Some(position_at(self.transform, cell))

@@ -68,14 +68,14 @@ fn count_of(list: &Vec<Feature>) -> usize
     list.len()
 }
 
-impl Elements for FeatureList {
+impl<'a> Elements<'a> for FeatureList {
     type Fault = GeoFault;
 
     type With = bool;
 
     ghost takes = { numbered };
 
-    fn element<'a>(
+    fn element(
         &mut self,
         alloc: Global,
         depth_left: u32,

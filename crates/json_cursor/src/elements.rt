@@ -65,7 +65,7 @@ fn push_some<T: Drop>(read: &mut Vec<T>, one: Option<T>) -> Result<(), AllocFail
     }
 }
 
-impl<E: Element> Elements for Listed<E> {
+impl<'a, E: Element> Elements<'a> for Listed<E> {
     type Fault = E::Fault;
 
     type With = E;
@@ -73,7 +73,7 @@ impl<E: Element> Elements for Listed<E> {
     ghost takes = { λ with. with_read (E.reads with) };
 
     #[inline(always)]
-    fn element<'a>(
+    fn element(
         &mut self,
         alloc: Global,
         depth_left: u32,

@@ -14,7 +14,7 @@ use json_reading::skip;
 use std::alloc::Global;
 
 /// What is made of the elements of an array, one after another.
-pub trait Elements {
+pub trait Elements<'a> {
     /// What a value of the grammar may be refused for.
     type Fault: Copy;
 
@@ -25,7 +25,7 @@ pub trait Elements {
     ghost takes: { Self.With → Self → Json → Counting Counted Self.Fault Self };
 
     /// Goes on with the element at the front, and gives what follows it; or why reading stops.
-    fn element<'a>(
+    fn element(
         &mut self,
         alloc: Global,
         depth_left: u32,
@@ -46,7 +46,7 @@ pub struct Stopped<'a, E> {
 
 /// What is made of the elements of an array after its bracket or after an element's comma, one or more in so many turns, and what
 /// follows it; or why reading stops: at the first fault, without reading on.
-pub fn folded_at<'a, T: Elements + Drop>(
+pub fn folded_at<'a, T: Elements<'a> + Drop>(
     alloc: Global,
     depth_left: u32,
     turns: usize,
@@ -92,7 +92,7 @@ pub fn folded_at<'a, T: Elements + Drop>(
 }
 
 /// What is made of the elements of the array at the front, none or more, and what follows it. What is no array has the fault `wrong`.
-pub fn folded_array_at<'a, T: Elements + Drop>(
+pub fn folded_array_at<'a, T: Elements<'a> + Drop>(
     alloc: Global,
     depth_left: u32,
     start: T,
@@ -125,7 +125,7 @@ pub fn folded_array_at<'a, T: Elements + Drop>(
 
 /// What is made of the elements of the array at the front, which is to have some, and what follows it: an empty one is counted, and nothing
 /// is made of it.
-pub fn folded_some_at<'a, T: Elements + Drop>(
+pub fn folded_some_at<'a, T: Elements<'a> + Drop>(
     alloc: Global,
     depth_left: u32,
     start: T,

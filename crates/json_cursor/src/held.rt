@@ -14,7 +14,7 @@ use std::alloc::Global;
 
 /// What is made of the elements of the array at the front, none or more, or the first fault, and what follows the array: the elements
 /// after a faulty one are passed over. What is no array has the fault `wrong`.
-pub fn held_array_at<'a, T: Elements + Drop>(
+pub fn held_array_at<'a, T: Elements<'a> + Drop>(
     alloc: Global,
     depth_left: u32,
     start: T,

@@ -88,7 +88,7 @@ unfolding arc_cells
 arc_cells_back None cs h = each_gives IsPosition (cell_value None) position position_back cs h
 arc_cells_back (Some t) cs h = after_back t origin cs (omega arith, omega arith) h
 
-arc_back : (transform : Option Transform) (cs : List Point) → IsArc transform cs → Gives (arc transform (arc_value transform cs)) cs
+pub arc_back : (transform : Option Transform) (cs : List Point) → IsArc transform cs → Gives (arc transform (arc_value transform cs)) cs
 unfolding arc
 arc_back transform cs h = search (rules, pure_gives, array_elements, then_gives, arc_cells_back, le-leb)
 

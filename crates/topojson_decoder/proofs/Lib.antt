@@ -1,5 +1,6 @@
 pub mod ArcEndParts
 pub mod ArcParts
+pub mod ArcTextParts
 pub mod ByEnds
 pub mod CellParts
 pub mod Ends
@@ -13,6 +14,7 @@ pub mod LeapBlocks
 pub mod LeapMasks
 pub mod LeapParts
 pub mod LeapTurns
+pub mod LeastArcs
 pub mod LostParts
 pub mod NamedLaws
 pub mod NamedMembers

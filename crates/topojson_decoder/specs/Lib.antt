@@ -5,6 +5,7 @@ pub mod Geometries
 pub mod Index
 pub mod Kept
 pub mod Leaping
+pub mod LeastArcs
 pub mod Members
 pub mod NamedObjects
 pub mod Names

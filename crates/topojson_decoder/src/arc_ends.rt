@@ -7,6 +7,7 @@ ghost use Rattle.geometry.specs.Points.{Point};
 ghost use Rattle.topojson_decoder.specs.ArcEnds.{EndsOfArcsSoFar, EndsSoFar, arc_ends, arc_ends_list, ends_from, more_ends, with_arc_ends, with_end};
 
 use crate::next_cells::{ByDifferences, ByPositions, NextCell};
+use crate::spelled_arcs::SpelledArcs;
 use geojson_types::Counts;
 use json_cursor::{Elements, Stop, folded_array_at};
 use json_value::Items;
@@ -15,10 +16,10 @@ use std::marker::Model;
 use topojson_meaning::TopoFault;
 use topojson_types::{Cell, Transform};
 
-/// Arcs as they are kept, and how many positions they have, where their ends alone are.
+/// Arcs as they are kept, beside their texts, and how many positions they have, where their ends alone are.
 #[derive(Drop)]
-pub struct KeptArcs {
-    pub list: Items<Items<Cell>>,
+pub struct KeptArcs<'a> {
+    pub list: SpelledArcs<'a>,
     pub positions: Option<u64>,
 }
 
@@ -44,7 +45,7 @@ fn first_before(count: u64, first: Cell, cell: Cell) -> Cell
     if count == 0 { cell } else { first }
 }
 
-impl<N: NextCell> Elements for Ends<N> {
+impl<'a, N: NextCell> Elements<'a> for Ends<N> {
     type Fault = TopoFault;
 
     type With = ();
@@ -52,7 +53,7 @@ impl<N: NextCell> Elements for Ends<N> {
     ghost takes = { λ _. with_end };
 
     #[inline(always)]
-    fn element<'a>(
+    fn element(
         &mut self,
         alloc: Global,
         depth_left: u32,
@@ -138,7 +139,7 @@ impl<N: NextCell> Model for ArcsByEnds<N> {
     ghost view = { λ s. (N.transform s.by, (s.list.items, s.positions)) };
 }
 
-impl<N: NextCell> Elements for ArcsByEnds<N> {
+impl<'a, N: NextCell> Elements<'a> for ArcsByEnds<N> {
     type Fault = TopoFault;
 
     type With = ();
@@ -146,7 +147,7 @@ impl<N: NextCell> Elements for ArcsByEnds<N> {
     ghost takes = { λ _. with_arc_ends };
 
     #[inline(always)]
-    fn element<'a>(
+    fn element(
         &mut self,
         alloc: Global,
         depth_left: u32,
@@ -174,7 +175,7 @@ fn arc_ends_by<'a, N: NextCell>(
     by: N,
     bytes: &'a [u8],
     counts: &mut Counts,
-) -> Result<(KeptArcs, &'a [u8]), Stop<TopoFault>>
+) -> Result<(KeptArcs<'a>, &'a [u8]), Stop<TopoFault>>
     ensures { Answers (λ x. x) (arc_ends_list (N.transform by)) (prefix_value depth_left bytes.now) counts.old counts.new result }
 {
     let list = Vec::new(alloc);
@@ -198,7 +199,7 @@ fn arc_ends_by<'a, N: NextCell>(
             let mut arcs = read.list;
             arcs.shrink_to_fit();
             let kept = KeptArcs {
-                list: Items::of(arcs),
+                list: SpelledArcs::of(alloc, arcs),
                 positions: Some(positions),
             };
             Ok((kept, rest))
@@ -213,7 +214,7 @@ pub(crate) fn arc_ends_at<'a>(
     transform: Option<&Transform>,
     bytes: &'a [u8],
     counts: &mut Counts,
-) -> Result<(KeptArcs, &'a [u8]), Stop<TopoFault>>
+) -> Result<(KeptArcs<'a>, &'a [u8]), Stop<TopoFault>>
     ensures { Answers (λ x. x) (arc_ends_list (option_copied transform.entry)) (prefix_value depth_left bytes.now) counts.old counts.new result }
 {
     match transform {

@@ -1,15 +1,22 @@
 // Arcs (TopoJSON 1.0, section 2.1.3).
-ghost use Rattle.std.specs.Prelude.{◌≡◌, IfOk};
+ghost use Rattle.std.specs.Prelude.{◌≡◌, ℕ, List, [], Option, None, IfOk};
 ghost use Rattle.std.specs.Option.{option_copied};
+ghost use Rattle.json_value.specs.declared.json.Json.{Json as Value};
+ghost use Rattle.geojson_types.specs.declared.counts.Counts.{Counts as Counted};
 ghost use Rattle.json_cursor.specs.Answers.{Answers};
-ghost use Rattle.json_cursor.specs.Arrays.{prefix_value};
+ghost use Rattle.json_cursor.specs.Arrays.{array_by, prefix_value};
+ghost use Rattle.json_cursor.specs.Folds.{fold};
+ghost use Rattle.topojson_types.specs.declared.transform.Transform.{Transform as Moving};
+ghost use Rattle.topojson_meaning.specs.ArcTexts.{IsTextOf};
 ghost use Rattle.topojson_meaning.specs.Arcs as spec;
+ghost use Rattle.topojson_meaning.specs.declared.fault.TopoFault.TheVariants.{WrongKind};
 ghost use Rattle.topojson_decoder.specs.Cells.{ArcsSoFar, CellsSoFar, with_arc, with_cell};
 ghost use Rattle.topojson_decoder.specs.Kept.{kept_arc_list};
 
 use crate::arc_ends::{KeptArcs, arc_ends_at};
 use crate::keeping::Keeping;
 use crate::next_cells::{ByDifferences, ByPositions, NextCell};
+use crate::spelled_arcs::SpelledArcs;
 use geojson_types::Counts;
 use json_cursor::{Elements, Stop, folded_array_at};
 use json_value::Items;
@@ -33,7 +40,7 @@ impl<N: NextCell> Model for Cells<N> {
     ghost view = { λ s. ((N.transform s.by, s.before), s.list.items) };
 }
 
-impl<N: NextCell> Elements for Cells<N> {
+impl<'a, N: NextCell> Elements<'a> for Cells<N> {
     type Fault = TopoFault;
 
     type With = ();
@@ -41,7 +48,7 @@ impl<N: NextCell> Elements for Cells<N> {
     ghost takes = { λ _. with_cell };
 
     #[inline(always)]
-    fn element<'a>(
+    fn element(
         &mut self,
         alloc: Global,
         depth_left: u32,
@@ -161,21 +168,65 @@ pub fn arc_at<'a>(
     }
 }
 
+/// An arc, a list that the next one may be read into, and the text in which the arc stands, where that is what is written of it without a transform.
+struct ReadArc<'a> {
+    arc: Items<Cell>,
+    used: Vec<Cell>,
+    text: Option<&'a [u8]>,
+}
+
+/// The arc at the front, and what follows it; or why reading stops. What stands as it is written is read so, and anything else in any way.
+#[inline(always)]
+fn either_arc_at<'a, N: NextCell>(
+    alloc: Global,
+    depth_left: u32,
+    by: N,
+    used: Vec<Cell>,
+    bytes: &'a [u8],
+    counts: &mut Counts,
+) -> Result<(ReadArc<'a>, &'a [u8]), Stop<TopoFault>>
+    ensures arc { Answers (λ x. x.arc) (spec.arc (N.transform by)) (prefix_value depth_left bytes.now) counts.old counts.new result }
+    ensures text { IfOk result (λ x. IsTextOf None x.0.arc x.0.text) }
+{
+    let mut list = used;
+    if let Some((text, rest)) = by.written_at(depth_left, &mut list, bytes)? {
+        let (arc, used) = parted(alloc, list)?;
+        let read = ReadArc {
+            arc,
+            used,
+            text: Some(text),
+        };
+        return Ok((read, rest));
+    }
+    match arc_through(alloc, depth_left, by, list, bytes, counts) {
+        Err(stop) => Err(stop),
+        Ok((both, rest)) => {
+            let (arc, used) = both;
+            let read = ReadArc {
+                arc,
+                used,
+                text: None,
+            };
+            Ok((read, rest))
+        }
+    }
+}
+
 /// The arcs that were read so far, and a list that the cells of the next one are read into.
 #[derive(Drop)]
-struct Arcs<N: NextCell> {
+struct Arcs<'a, N: NextCell> {
     by: N,
-    list: Vec<Items<Cell>>,
+    arcs: SpelledArcs<'a>,
     used: Vec<Cell>,
 }
 
-impl<N: NextCell> Model for Arcs<N> {
+impl<'a, N: NextCell> Model for Arcs<'a, N> {
     ghost Value = { ArcsSoFar };
 
-    ghost view = { λ s. (N.transform s.by, s.list.items) };
+    ghost view = { λ s. (N.transform s.by, s.arcs) };
 }
 
-impl<N: NextCell> Elements for Arcs<N> {
+impl<'a, N: NextCell> Elements<'a> for Arcs<'a, N> {
     type Fault = TopoFault;
 
     type With = ();
@@ -183,7 +234,7 @@ impl<N: NextCell> Elements for Arcs<N> {
     ghost takes = { λ _. with_arc };
 
     #[inline(always)]
-    fn element<'a>(
+    fn element(
         &mut self,
         alloc: Global,
         depth_left: u32,
@@ -192,47 +243,82 @@ impl<N: NextCell> Elements for Arcs<N> {
         counts: &mut Counts,
     ) -> Result<&'a [u8], Stop<TopoFault>> {
         let used = mem::replace(&mut self.used, Vec::new(alloc));
-        match arc_through(alloc, depth_left, self.by, used, bytes, counts) {
+        match either_arc_at(alloc, depth_left, self.by, used, bytes, counts) {
             Err(stop) => Err(stop),
-            Ok((both, rest)) => {
-                let (arc, used) = both;
+            Ok((read, rest)) => {
+                let ReadArc { arc, used, text } = read;
                 self.used = used;
-                self.list.push(arc)?;
+                self.arcs.push(arc, text)?;
                 Ok(rest)
             }
         }
     }
 }
 
-/// The arcs of the array at the front whose cells are read so, and what follows it; or why reading stops.
-fn arcs_by<'a, N: NextCell>(
-    alloc: Global,
-    depth_left: u32,
-    by: N,
-    bytes: &'a [u8],
-    counts: &mut Counts,
-) -> Result<(Items<Items<Cell>>, &'a [u8]), Stop<TopoFault>>
-    ensures { Answers (λ x. x) (spec.arc_list (N.transform by)) (prefix_value depth_left bytes.now) counts.old counts.new result }
+/// What is answered of arcs, without room for more of them.
+fn arcs_alone<'a, N: NextCell>(
+    answer: Result<(Arcs<'a, N>, &'a [u8]), Stop<TopoFault>>,
+) -> Result<(SpelledArcs<'a>, &'a [u8]), Stop<TopoFault>>
+    ensures { (transform : Option Moving) (prefix : Option (Value × List ℕ)) (old new : Counted) → Answers (λ x. x) (array_by WrongKind (fold with_arc (transform, []))) prefix old new answer.entry
+        → Answers (λ x. x) (spec.arc_list transform) prefix old new result }
 {
-    let list = Vec::new(alloc);
-    let used = Vec::new(alloc);
-    let start = Arcs { by, list, used };
-    match folded_array_at::<Arcs<N>>(
-        alloc,
-        depth_left,
-        start,
-        bytes,
-        TopoFault::WrongKind,
-        (),
-        counts,
-    ) {
+    match answer {
         Err(stop) => Err(stop),
         Ok((read, rest)) => {
-            let used = read.used;
+            let Arcs { arcs, used, .. } = read;
             drop(used);
-            let mut arcs = read.list;
+            let mut arcs = arcs;
             arcs.shrink_to_fit();
-            Ok((Items::of(arcs), rest))
+            Ok((arcs, rest))
+        }
+    }
+}
+
+/// The arcs of the array at the front, beside their texts if these are kept, and what follows it; or why reading stops. With a transform there
+/// are no texts.
+fn spelled_arcs_at<'a>(
+    alloc: Global,
+    depth_left: u32,
+    texts: bool,
+    transform: Option<&Transform>,
+    bytes: &'a [u8],
+    counts: &mut Counts,
+) -> Result<(SpelledArcs<'a>, &'a [u8]), Stop<TopoFault>>
+    ensures { Answers (λ x. x) (spec.arc_list (option_copied transform.entry)) (prefix_value depth_left bytes.now) counts.old counts.new result }
+{
+    let used = Vec::new(alloc);
+    match transform {
+        None => {
+            let start = Arcs {
+                by: ByPositions,
+                arcs: SpelledArcs::none(alloc, texts),
+                used,
+            };
+            arcs_alone(folded_array_at(
+                alloc,
+                depth_left,
+                start,
+                bytes,
+                TopoFault::WrongKind,
+                (),
+                counts,
+            ))
+        }
+        Some(transform) => {
+            let start = Arcs {
+                by: ByDifferences { transform },
+                arcs: SpelledArcs::none(alloc, false),
+                used,
+            };
+            arcs_alone(folded_array_at(
+                alloc,
+                depth_left,
+                start,
+                bytes,
+                TopoFault::WrongKind,
+                (),
+                counts,
+            ))
         }
     }
 }
@@ -247,11 +333,12 @@ pub fn arcs_at<'a>(
 ) -> Result<(Items<Items<Cell>>, &'a [u8]), Stop<TopoFault>>
     ensures { Answers (λ x. x) (spec.arc_list (option_copied transform.entry)) (prefix_value depth_left bytes.now) counts.old counts.new result }
 {
-    match transform {
-        None => arcs_by(alloc, depth_left, ByPositions, bytes, counts),
-        Some(transform) => {
-            let by = ByDifferences { transform };
-            arcs_by(alloc, depth_left, by, bytes, counts)
+    match spelled_arcs_at(alloc, depth_left, false, transform, bytes, counts) {
+        Err(stop) => Err(stop),
+        Ok((arcs, rest)) => {
+            let (list, texts) = arcs.into_parts();
+            drop(texts);
+            Ok((list, rest))
         }
     }
 }
@@ -261,16 +348,17 @@ pub(crate) fn kept_arcs_at<'a>(
     alloc: Global,
     depth_left: u32,
     keeping: Keeping,
+    texts: bool,
     transform: Option<&Transform>,
     bytes: &'a [u8],
     counts: &mut Counts,
-) -> Result<(KeptArcs, &'a [u8]), Stop<TopoFault>>
+) -> Result<(KeptArcs<'a>, &'a [u8]), Stop<TopoFault>>
     ensures { Answers (λ x. x) (kept_arc_list keeping (option_copied transform.entry)) (prefix_value depth_left bytes.now) counts.old counts.new result }
 {
     match keeping {
         Keeping::Blank => arc_ends_at(alloc, depth_left, transform, bytes, counts),
-        Keeping::Whole | Keeping::Shapes => match arcs_at(
-            alloc, depth_left, transform, bytes, counts,
+        Keeping::Whole | Keeping::Shapes => match spelled_arcs_at(
+            alloc, depth_left, texts, transform, bytes, counts,
         ) {
             Err(stop) => Err(stop),
             Ok((list, rest)) => Ok((

@@ -30,8 +30,8 @@ pub struct By {
 
 /// What arcs were read as, or their fault, and what was counted then.
 #[derive(Drop)]
-pub struct ReadArcs {
-    pub arcs: Result<KeptArcs, TopoFault>,
+pub struct ReadArcs<'a> {
+    pub arcs: Result<KeptArcs<'a>, TopoFault>,
     pub counts: Counts,
 }
 
@@ -39,7 +39,7 @@ pub struct ReadArcs {
 #[derive(Drop)]
 pub struct FoundArcs<'a> {
     pub prefix: &'a [u8],
-    pub read: Option<ReadArcs>,
+    pub read: Option<ReadArcs<'a>>,
 }
 
 /// What was seen of the members of a topology.
@@ -63,6 +63,7 @@ pub(crate) fn is_name(name: &str, word: &str) -> bool
 fn read_at<'a>(
     alloc: Global,
     depth_left: u32,
+    texts: bool,
     transform: Option<&Transform>,
     bytes: &'a [u8],
     start: By,
@@ -74,6 +75,7 @@ fn read_at<'a>(
         alloc,
         depth_left,
         start.keeping,
+        texts,
         transform,
         bytes,
         &mut counts,
@@ -137,6 +139,7 @@ fn arcs_member<'a>(
     depth_left: u32,
     transform: &Occurrence<Result<Option<Transform>, TopoFault>>,
     seen: &Occurrence<FoundArcs<'a>>,
+    texts: bool,
     bytes: &'a [u8],
     start: By,
 ) -> Result<(FoundArcs<'a>, &'a [u8]), Fault>
@@ -151,11 +154,11 @@ fn arcs_member<'a>(
             if begin_whole(bytes) {
                 return passed_at(alloc, depth_left, bytes);
             }
-            read_at(alloc, depth_left, None, bytes, start)
+            read_at(alloc, depth_left, texts, None, bytes, start)
         }
         Occurrence::Once(occurrence) => match occurrence {
             Err(_) => passed_at(alloc, depth_left, bytes),
-            Ok(transform) => read_at(alloc, depth_left, transform.as_ref(), bytes, start),
+            Ok(transform) => read_at(alloc, depth_left, texts, transform.as_ref(), bytes, start),
         },
     }
 }
@@ -189,6 +192,7 @@ impl<'a> Index<'a> {
         alloc: Global,
         depth_left: u32,
         name: &str,
+        texts: bool,
         bytes: &'a [u8],
         start: By,
     ) -> Result<&'a [u8], Fault>
@@ -206,6 +210,7 @@ impl<'a> Index<'a> {
                 depth_left,
                 &self.transform,
                 &self.arcs,
+                texts,
                 bytes,
                 start,
             )?;
@@ -229,13 +234,14 @@ impl<'a> Index<'a> {
         &mut self,
         alloc: Global,
         depth_left: u32,
+        texts: bool,
         bytes: &'a [u8],
         start: By,
     ) -> Result<&'a [u8], Fault>
         ensures { TakesOrLoses start depth_left self.old self.new bytes.now result }
     {
         let (name, value) = name_at(alloc, bytes)?;
-        self.value(alloc, depth_left, name.as_str(), value, start)
+        self.value(alloc, depth_left, name.as_str(), texts, value, start)
     }
 }
 
@@ -254,6 +260,7 @@ fn members_into<'a>(
     alloc: Global,
     depth_left: u32,
     index: &mut Index<'a>,
+    texts: bool,
     inside: &'a [u8],
     start: By,
 ) -> Result<&'a [u8], Fault>
@@ -261,7 +268,7 @@ fn members_into<'a>(
 {
     let mut rest = inside;
     'members: for _ in 0..inside.len() {
-        let following = index.member(alloc, depth_left, skip(rest), start)?;
+        let following = index.member(alloc, depth_left, texts, skip(rest), start)?;
         let mark = skip(following);
         if let Some(end) = after_byte(b'}', mark) {
             return Ok(end);
@@ -279,6 +286,7 @@ fn members_into<'a>(
 pub(crate) fn members_seen_at<'a>(
     alloc: Global,
     depth_left: u32,
+    texts: bool,
     bytes: &'a [u8],
     start: By,
 ) -> Result<Option<(Index<'a>, &'a [u8])>, Fault>
@@ -294,6 +302,6 @@ pub(crate) fn members_seen_at<'a>(
     if let Some(end) = after_byte(b'}', skip(inside)) {
         return Ok(Some((index, end)));
     }
-    let rest = members_into(alloc, depth_left - 1, &mut index, inside, start)?;
+    let rest = members_into(alloc, depth_left - 1, &mut index, texts, inside, start)?;
     Ok(Some((index, rest)))
 }

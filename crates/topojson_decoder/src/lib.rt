@@ -22,6 +22,7 @@ mod keeping;
 mod kept_laws;
 mod labels;
 mod leaping;
+mod least_arcs;
 mod lines_and_rings;
 mod members;
 mod named_objects;
@@ -32,6 +33,7 @@ mod occurrence;
 mod pairs;
 mod reading;
 mod shapes;
+mod spelled_arcs;
 mod texts;
 mod topologies;
 mod transforms;
@@ -53,7 +55,10 @@ pub use named_objects::members_before_repeat;
 pub use object_parts::object_at;
 pub use reading::read_topology;
 pub use shapes::{arcs_shape_at, places_shape_at};
-pub use texts::{Refusal, read_parts, read_text, topology_of, topology_of_valid};
+pub use texts::{
+    Refusal, SpelledTopology, read_parts, read_spelled_text, read_text, topology_of,
+    topology_of_valid,
+};
 pub use topojson_meaning::TopoFault;
 pub use topojson_types::{
     ArcRef, Cell, DecodeFault, TopoFeature, TopoObject, TopoShape, Topology, Transform,

@@ -63,7 +63,7 @@ impl<'t> Model for Indexes<'t> {
     ghost view = { λ s. ((s.arcs.now, s.before), s.list.items) };
 }
 
-impl<'t> Elements for Indexes<'t> {
+impl<'a, 't> Elements<'a> for Indexes<'t> {
     type Fault = TopoFault;
 
     type With = ();
@@ -71,7 +71,7 @@ impl<'t> Elements for Indexes<'t> {
     ghost takes = { λ _. with_index };
 
     #[inline(always)]
-    fn element<'a>(
+    fn element(
         &mut self,
         alloc: Global,
         depth_left: u32,

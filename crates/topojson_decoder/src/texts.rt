@@ -9,10 +9,10 @@ ghost use Rattle.topojson_meaning.specs.Topologies.{topology};
 ghost use Rattle.json_value.specs.Limits.{topology_depth};
 ghost use Rattle.topojson_types.specs.Validity.{IsTopology};
 ghost use Rattle.topojson_decoder.specs.Kept.{parts_contents};
-ghost use Rattle.topojson_decoder.specs.Texts.{PartsAnswer, TextAnswers};
+ghost use Rattle.topojson_decoder.specs.Texts.{PartsAnswer, SpelledAnswers, TextAnswers};
 
 use crate::keeping::Keeping;
-use crate::topologies::{Parts, kept_topology_at};
+use crate::topologies::{Parts, SpelledParts, kept_topology_at};
 use geojson_types::Counts;
 use json_cursor::{Stop, are_utf8, text_of};
 use json_reading::{JsonFault, TOPOLOGY_DEPTH, check, skip};
@@ -65,9 +65,13 @@ pub fn topology_of(parts: Parts) -> Topology
     topology_of_valid(parts)
 }
 
-/// What is kept of the parts of the topology that a whole text spells (TopoJSON 1.0, section 2.1), with what was counted in reading it. Of a
-/// text that spells no value it is said why, whatever else is wrong.
-pub fn read_parts(alloc: Global, keeping: Keeping, bytes: &[u8]) -> Result<(Parts, Counts), Refusal>
+/// What is kept of the parts of the topology that a whole text spells, beside the texts of its arcs if these are kept.
+fn read_spelled_parts<'a>(
+    alloc: Global,
+    keeping: Keeping,
+    texts: bool,
+    bytes: &'a [u8],
+) -> Result<(SpelledParts<'a>, Counts), Refusal>
     ensures { PartsAnswer keeping bytes.now result }
 {
     if !are_utf8(bytes) {
@@ -78,6 +82,7 @@ pub fn read_parts(alloc: Global, keeping: Keeping, bytes: &[u8]) -> Result<(Part
         alloc,
         TOPOLOGY_DEPTH,
         keeping,
+        texts,
         skip(text_of(bytes)),
         &mut counts,
     ) {
@@ -95,6 +100,45 @@ pub fn read_parts(alloc: Global, keeping: Keeping, bytes: &[u8]) -> Result<(Part
             Err(malformed) => Err(Refusal::Text(malformed)),
             Ok(()) => Err(Refusal::Meaning(fault)),
         },
+    }
+}
+
+/// What is kept of the parts of the topology that a whole text spells (TopoJSON 1.0, section 2.1), with what was counted in reading it. Of a
+/// text that spells no value it is said why, whatever else is wrong.
+pub fn read_parts(alloc: Global, keeping: Keeping, bytes: &[u8]) -> Result<(Parts, Counts), Refusal>
+    ensures { PartsAnswer keeping bytes.now result }
+{
+    match read_spelled_parts(alloc, keeping, false, bytes) {
+        Err(refusal) => Err(refusal),
+        Ok((spelled, counts)) => {
+            let (parts, texts) = spelled.taken_apart();
+            drop(texts);
+            Ok((parts, counts))
+        }
+    }
+}
+
+/// A topology, and the texts in which its arcs stand, as far as these are known and are what is written of the arcs.
+#[derive(Drop)]
+pub struct SpelledTopology<'a> {
+    pub topology: Topology,
+    pub texts: Vec<Option<&'a [u8]>>,
+}
+
+/// The same as `read_text`, beside the texts of arcs.
+pub fn read_spelled_text<'a>(
+    alloc: Global,
+    bytes: &'a [u8],
+) -> Result<(SpelledTopology<'a>, Counts), Refusal>
+    ensures { SpelledAnswers bytes.now result }
+{
+    match read_spelled_parts(alloc, Keeping::Whole, true, bytes) {
+        Err(refusal) => Err(refusal),
+        Ok((spelled, counts)) => {
+            let (parts, texts) = spelled.taken_apart();
+            let topology = topology_of(parts);
+            Ok((SpelledTopology { topology, texts }, counts))
+        }
     }
 }
 

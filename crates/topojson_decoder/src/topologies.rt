@@ -1,11 +1,13 @@
 // Topologies (TopoJSON 1.0, section 2.1).
-ghost use Rattle.std.specs.Prelude.{◌≡◌, ℕ, IfOk, List, Some, codes};
+ghost use Rattle.std.specs.Prelude.{◌≡◌, ℕ, IfOk, List, None, Some, codes};
 ghost use Rattle.std.specs.Option.{option_copied};
 ghost use Rattle.json_value.specs.declared.json.Json.{Json as Value};
 ghost use Rattle.json_value.specs.Members.{Members as Listed, named};
 ghost use Rattle.geojson_types.specs.declared.counts.Counts.{Counts as Counted};
 ghost use Rattle.json_cursor.specs.Answers.{Answers};
 ghost use Rattle.json_cursor.specs.Arrays.{prefix_value};
+ghost use Rattle.geometry.specs.Points.{Point};
+ghost use Rattle.topojson_meaning.specs.ArcTexts.{AreTextsOf};
 ghost use Rattle.topojson_meaning.specs.Members.{need_as};
 ghost use Rattle.topojson_meaning.specs.Reader.{pure};
 ghost use Rattle.topojson_meaning.specs.Topologies as spec;
@@ -26,6 +28,7 @@ use geojson_types::Counts;
 use json_cursor::{Stop, string_at};
 use json_value::{Items, OwnText};
 use std::alloc::Global;
+use std::marker::Model;
 use topojson_meaning::TopoFault;
 use topojson_types::{Cell, TopoObject, Transform};
 
@@ -37,6 +40,52 @@ pub struct Parts {
     pub transform: Option<Transform>,
     /// How many positions the arcs have, where their ends alone are kept.
     pub positions: Option<u64>,
+}
+
+/// What a topology is made of, and the texts in which its arcs stand.
+#[derive(Drop)]
+pub(crate) struct SpelledParts<'a> {
+    parts: Parts,
+    texts: Vec<Option<&'a [u8]>>,
+}
+
+impl<'a> Model for SpelledParts<'a> {
+    ghost use Rattle.topojson_meaning.specs.ArcTexts.{AreTextsOf};
+    ghost use Rattle.topojson_decoder.specs.contracts.topologies.Parts as made;
+    ghost use Rattle.topojson_decoder.specs.declared.topologies.Parts.{Parts};
+
+    ghost Value = { Parts };
+
+    ghost coded = { made.the_row.coded };
+
+    ghost view = { λ s. s.parts };
+
+    ghost invariant = { λ s. AreTextsOf s.parts.transform s.parts.arcs s.texts.items };
+}
+
+impl<'a> SpelledParts<'a> {
+    /// The parts, and the texts.
+    pub(crate) fn taken_apart(self) -> (Parts, Vec<Option<&'a [u8]>>)
+        ensures parts { result.0 ≡ self.entry }
+        ensures texts { AreTextsOf self.entry.transform self.entry.arcs result.1.items }
+    {
+        let SpelledParts { parts, texts } = self;
+        (parts, texts)
+    }
+}
+
+/// The texts, of which there are none where there is a transform.
+fn texts_by<'a>(
+    transform: Option<&Transform>,
+    texts: Vec<Option<&'a [u8]>>,
+) -> Vec<Option<&'a [u8]>>
+    ensures { (arcs : List (List Point)) → AreTextsOf None arcs texts.entry.items → AreTextsOf (option_copied transform.entry) arcs result.items }
+{
+    let mut texts = texts;
+    if transform.is_some() {
+        texts.clear();
+    }
+    texts
 }
 
 /// Where the value of a member begins that must be there once.
@@ -86,14 +135,14 @@ fn transform_of(
 }
 
 /// The arcs by this transform, as they were read or else from where they stand.
-fn arcs_by(
+fn arcs_by<'a>(
     alloc: Global,
     depth_left: u32,
     keeping: Keeping,
     transform: Option<&Transform>,
-    found: FoundArcs<'_>,
+    found: FoundArcs<'a>,
     counts: &mut Counts,
-) -> Result<KeptArcs, Stop<TopoFault>>
+) -> Result<KeptArcs<'a>, Stop<TopoFault>>
     ensures judges { (v : Value) → AreArcs (record { keeping = keeping; counts = counts.old }) (Some (option_copied transform.entry)) depth_left v found.entry → Judges (kept_arc_list keeping (option_copied transform.entry) v) counts.old counts.new result }
     ensures there { IfOk result (λ _. NoArcs depth_left (Once found.entry) → ⊥) }
 {
@@ -111,7 +160,7 @@ fn arcs_by(
                 Ok(arcs) => Ok(arcs),
             }
         }
-        None => match kept_arcs_at(alloc, depth_left, keeping, transform, prefix, counts) {
+        None => match kept_arcs_at(alloc, depth_left, keeping, false, transform, prefix, counts) {
             Err(stop) => Err(stop),
             Ok((arcs, _)) => Ok(arcs),
         },
@@ -119,14 +168,14 @@ fn arcs_by(
 }
 
 /// The arcs by this transform.
-fn arcs_of(
+fn arcs_of<'a>(
     alloc: Global,
     depth_left: u32,
     keeping: Keeping,
     transform: Option<&Transform>,
-    occurrence: Occurrence<FoundArcs<'_>>,
+    occurrence: Occurrence<FoundArcs<'a>>,
     counts: &mut Counts,
-) -> Result<KeptArcs, Stop<TopoFault>>
+) -> Result<KeptArcs<'a>, Stop<TopoFault>>
     ensures there { IfOk result (λ _. NoArcs depth_left occurrence.entry → ⊥) }
     ensures gives { (ms : Listed) → IsOccurrence (AreArcs (record { keeping = keeping; counts = counts.old }) (Some (option_copied transform.entry)) depth_left) (named (codes "arcs") ms) occurrence.entry
         → Gives (λ x. x) (need_as (codes "arcs") (kept_arc_list keeping (option_copied transform.entry)) ms) counts.old counts.new result }
@@ -164,13 +213,13 @@ fn objects_of(
 }
 
 /// What is kept of the parts of the topology whose members stand there, in the order of the definition.
-fn parts_of(
+fn parts_of<'a>(
     alloc: Global,
     depth_left: u32,
     keeping: Keeping,
-    index: Index<'_>,
+    index: Index<'a>,
     counts: &mut Counts,
-) -> Result<Parts, Stop<TopoFault>>
+) -> Result<SpelledParts<'a>, Stop<TopoFault>>
     // What was leaped over stands there.
     ensures there { IfOk result (λ _. IsLost depth_left index.entry → ⊥) }
     ensures gives { (ms : Listed) → IsIndex (record { keeping = keeping; counts = counts.old }) depth_left ms index.entry → Gives (λ p. p) (kept_contents keeping ms) counts.old counts.new result }
@@ -216,31 +265,35 @@ fn parts_of(
         }
         Ok(objects) => {
             let KeptArcs { list, positions } = arcs;
-            Ok(Parts {
+            let (arcs, texts) = list.into_parts();
+            let texts = texts_by(transform.as_ref(), texts);
+            let parts = Parts {
                 objects,
-                arcs: list,
+                arcs,
                 transform,
                 positions,
-            })
+            };
+            Ok(SpelledParts { parts, texts })
         }
     }
 }
 
-/// What is kept of the topology at the front, and what follows it; or why reading stops.
+/// What is kept of the topology at the front, beside the texts of its arcs if these are kept, and what follows it; or why reading stops.
 pub(crate) fn kept_topology_at<'a>(
     alloc: Global,
     depth_left: u32,
     keeping: Keeping,
+    texts: bool,
     bytes: &'a [u8],
     counts: &mut Counts,
-) -> Result<(Parts, &'a [u8]), Stop<TopoFault>>
+) -> Result<(SpelledParts<'a>, &'a [u8]), Stop<TopoFault>>
     ensures { Answers (λ p. p) (kept_value_contents keeping) (prefix_value depth_left bytes.now) counts.old counts.new result }
 {
     let by = By {
         keeping,
         counts: *counts,
     };
-    let Some((index, rest)) = members_seen_at(alloc, depth_left, bytes, by)? else {
+    let Some((index, rest)) = members_seen_at(alloc, depth_left, texts, bytes, by)? else {
         return Err(Stop::Fault(TopoFault::NotTopology));
     };
     match parts_of(alloc, depth_left - 1, keeping, index, counts) {
@@ -258,5 +311,12 @@ pub fn topology_at<'a>(
 ) -> Result<(Parts, &'a [u8]), Stop<TopoFault>>
     ensures { Answers (λ p. record { objects = p.objects; arcs = p.arcs; transform = p.transform }) spec.value_contents (prefix_value depth_left bytes.now) counts.old counts.new result }
 {
-    kept_topology_at(alloc, depth_left, Keeping::Whole, bytes, counts)
+    match kept_topology_at(alloc, depth_left, Keeping::Whole, false, bytes, counts) {
+        Err(stop) => Err(stop),
+        Ok((spelled, rest)) => {
+            let (parts, texts) = spelled.taken_apart();
+            drop(texts);
+            Ok((parts, rest))
+        }
+    }
 }

@@ -39,14 +39,14 @@ impl NumberTexts {
     }
 }
 
-impl Elements for NumberTexts {
+impl<'a> Elements<'a> for NumberTexts {
     type Fault = TopoFault;
 
     type With = ();
 
     ghost takes = { λ _. spec.take };
 
-    fn element<'a>(
+    fn element(
         &mut self,
         alloc: Global,
         depth_left: u32,

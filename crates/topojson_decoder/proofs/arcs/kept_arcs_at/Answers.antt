@@ -20,4 +20,4 @@ pub returns-in-Ok : goal.returns-in-Ok
 returns-in-Ok c =
     let r = c.in-Ok.ensures in
     let read = made (held_arcs c.args.keeping) (arc_list (option_copied c.args.transform) r.value) c.args.counts.now _ _ r.means in
-    record { value = r.value; prefix_is = r.prefix_is; means = read ∙ ap (λ arcs. Ok (arcs, c.arcs_at.new.counts)) (all_held c.args.keeping c.in-Whole.is c.in-Ok.list) }
+    record { value = r.value; prefix_is = r.prefix_is; means = read ∙ ap (λ arcs. Ok (arcs, c.spelled_arcs_at.new.counts)) (all_held c.args.keeping c.in-Whole.is c.in-Ok.list) }

@@ -63,5 +63,8 @@ returns-in-Ok-objects_of-clause-gives c = λ ms h.
     let read = part.unmade_part (map (of_named c.args.keeping)) (codes "objects") (objects t (of_arcs c.args.keeping arcs.whole)) ms c.arcs_of.new.counts c.in-Ok-objects_of.objects c.objects_of.new.counts
     (rw (c.as_ref-2.ensures.value, c.as_slice.ensures, list) at (c.in-Ok-objects_of.ensures.gives ms h.objects)) in
     let reads = part.read_by (codes "objects") _ _ (over_kept c.args.keeping t arcs.whole) ms c.arcs_of.new.counts ∙ read.reads in
-    parts_made c.args.keeping ms c.args.counts.now c.objects_of.new.counts (record { objects = read.whole; arcs = arcs.whole; transform = t }) c.in-Ok-objects_of.objects c.in-Ok-arcs_of.arcs.list c.in-Ok-arcs_of.arcs.positions read.is list (ap (λ k. k.positions) arcs.is)
+    parts_made c.args.keeping ms c.args.counts.now c.objects_of.new.counts (record { objects = read.whole; arcs = arcs.whole; transform = t }) c.in-Ok-objects_of.objects c.into_parts-arcs.result.0 c.in-Ok-arcs_of.arcs.positions read.is (c.into_parts-arcs.ensures.arcs ∙ list) (ap (λ k. k.positions) arcs.is)
     (part.all_read ms c.args.counts.now typed t found arcs.whole c.arcs_of.new.counts arcs.reads read.whole c.objects_of.new.counts reads)
+
+pub invariant_of-result : goal.invariant_of-result
+invariant_of-result c = rw (sym c.as_ref-in-Ok-objects_of.ensures.value, c.into_parts-arcs.ensures.arcs) (c.texts_by-texts.ensures _ c.into_parts-arcs.ensures.texts)

@@ -6,7 +6,7 @@ ghost use Rattle.mapchain_engine.specs.Files.{FailsToGive, IsKeptOf, IsNoTopolog
 
 use byte_ends::{Feed, MAX_INPUT, ReadFault, Source, read_all};
 use geojson_types::Counts;
-use inputs::{FileFault, Unwatched, Watch};
+use inputs::{FileFault, Watch};
 use json_reading::JsonFault;
 use std::alloc::Global;
 use topojson_decoder::{
@@ -103,17 +103,7 @@ pub(crate) fn bytes_of<R: Feed>(alloc: Global, source: &mut Source<R>) -> Result
     }
 }
 
-/// Reads a source to its end, and gives the topology that its bytes spell, with what was counted in reading it.
-pub fn read_file<R: Feed>(
-    alloc: Global,
-    source: &mut Source<R>,
-) -> Result<(Topology, Counts), FileFault>
-    ensures { ReadsTopology source.old source.new result }
-{
-    read_watched(alloc, source, &mut Unwatched)
-}
-
-/// The same, and a `Watch` looks on.
+/// Reads a source to its end, and gives the topology that its bytes spell, with what was counted in reading it. A `Watch` looks on.
 pub(crate) fn read_watched<R: Feed, K: Watch>(
     alloc: Global,
     source: &mut Source<R>,

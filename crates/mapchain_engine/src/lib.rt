@@ -28,7 +28,6 @@ pub use crossings::{stat_with_crossings, stat_with_crossings_watched};
 pub use decoding::to_geo;
 pub use effective_area::threshold;
 pub use file_laws::{decoded_text_is_utf8, features_are_one_outcome, summary_is_one_outcome};
-pub use file_reading::read_file;
 pub use geojson_types::{Address, Cause, Dropped};
 pub use inputs::{BuildFault, FileFault, layers_have_one_outcome, read_layers_are_the_outcome};
 pub use laws::{

@@ -36,8 +36,8 @@ returns-in_default-clause-decided g c old new is bytes outcome left comes =
 
 -- ---- the features of the object are sent
 
-pub send-requires-texts : goal.send-requires-texts
-send-requires-texts g c = c.in_ok-read.ensures.1
+pub send-sent-requires-clause-texts : goal.send-sent-requires-clause-texts
+send-sent-requires-clause-texts g c = rw c.deref.ensures.value c.in_ok-read.ensures.1
 
 pub returns-clause-written : goal.returns-clause-written
 returns-clause-written g c old new is =

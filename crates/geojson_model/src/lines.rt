@@ -6,10 +6,10 @@ ghost use Rattle.json_cursor.specs.Answers.{Answers};
 ghost use Rattle.json_cursor.specs.Arrays.{prefix_value};
 ghost use Rattle.json_cursor.specs.Folds.{some_one};
 
-use crate::positions::{Positions, seem_long};
+use crate::positions::positions_at;
 use geojson_meaning::GeoFaultKind;
 use geojson_types::{Counts, Position, Ring, is_closed};
-use json_cursor::{Element, Stop, led_array_at, some_array_at};
+use json_cursor::{Element, Stop, led_array_at};
 use json_value::Items;
 use std::alloc::Global;
 
@@ -23,18 +23,7 @@ pub(crate) fn line_at<'a>(
 ) -> Result<(Option<Items<Position>>, &'a [u8]), Stop<GeoFaultKind>>
     ensures { Answers (λ x. x) (line exact) (prefix_value depth_left bytes.now) counts.old counts.new result }
 {
-    let by = Positions {
-        exact,
-        are_long: seem_long(bytes),
-    };
-    match some_array_at::<Positions>(
-        alloc,
-        depth_left,
-        bytes,
-        GeoFaultKind::WrongKind,
-        by,
-        counts,
-    ) {
+    match positions_at(alloc, depth_left, bytes, exact, counts) {
         Err(stop) => Err(stop),
         Ok((read, rest)) => {
             let Some(positions) = read else {
@@ -59,18 +48,7 @@ pub(crate) fn ring_at<'a>(
 ) -> Result<(Option<Ring>, &'a [u8]), Stop<GeoFaultKind>>
     ensures { Answers (λ x. x) (ring exact) (prefix_value depth_left bytes.now) counts.old counts.new result }
 {
-    let by = Positions {
-        exact,
-        are_long: seem_long(bytes),
-    };
-    match some_array_at::<Positions>(
-        alloc,
-        depth_left,
-        bytes,
-        GeoFaultKind::WrongKind,
-        by,
-        counts,
-    ) {
+    match positions_at(alloc, depth_left, bytes, exact, counts) {
         Err(stop) => Err(stop),
         Ok((read, rest)) => {
             let Some(items) = read else {

@@ -2,7 +2,9 @@
 ghost use Rattle.std.specs.Prelude.{◌≡◌, ◌≤◌, IfSome, unsigned_abs, length};
 ghost use Rattle.geojson_meaning.specs.Coordinates as spec;
 ghost use Rattle.json_cursor.specs.Answers.{Answers};
-ghost use Rattle.json_cursor.specs.Arrays.{prefix_elements, prefix_value};
+ghost use Rattle.json_value.specs.Readers.{gather};
+ghost use Rattle.json_cursor.specs.Arrays.{always, prefix_elements, prefix_value, some_array_by};
+ghost use Rattle.geojson_meaning.specs.declared.fault.GeoFaultKind.TheVariants.{WrongKind};
 ghost use Rattle.geometry.specs.Units.{input_limit};
 ghost use Rattle.json_cursor.specs.Folds.{one};
 ghost use Rattle.geojson_model.specs.Positions.{ArePair, second_position};
@@ -10,8 +12,11 @@ ghost use Rattle.geojson_model.specs.Positions.{ArePair, second_position};
 use crate::coordinates::{coordinate_at, is_refused};
 use geojson_meaning::GeoFaultKind;
 use geojson_types::{Counts, Position};
-use json_cursor::{Element, Mark, Opening, Stop, after_elements, mark_at, opening_at};
+use json_cursor::{
+    Element, Mark, Opening, Stop, after_elements, mark_at, opening_at, some_array_at,
+};
 use json_reading::{after_value, skip};
+use json_value::Items;
 use std::alloc::Global;
 use unit_scanning::{Units, long_units_in_place, units_pair_at};
 
@@ -107,7 +112,6 @@ fn pair_at(bytes: &[u8]) -> Option<(Units, Units, &[u8])>
 }
 
 /// The position whose elements stand after the bracket, and what follows it, where the first two are read as they stand.
-#[cold]
 #[inline(never)]
 fn two_numbers_at<'a>(
     alloc: Global,
@@ -172,25 +176,6 @@ pub(crate) fn numbers_at<'a>(
     Ok((Position::at(x, y), rest))
 }
 
-/// The same. Where the numbers are long, it isn't tried first whether they are short.
-#[inline(always)]
-fn either_numbers_at<'a>(
-    alloc: Global,
-    depth_left: u32,
-    inside: &'a [u8],
-    exact: bool,
-    are_long: bool,
-    counts: &mut Counts,
-) -> Result<(Position, &'a [u8]), Stop<GeoFaultKind>>
-    ensures { Answers (λ p. p) (spec.elements_position exact) (prefix_elements depth_left (length inside.now) inside.now) counts.old counts.new result }
-{
-    let turns = inside.len();
-    if are_long {
-        return two_numbers_at(alloc, depth_left, turns, inside, exact, counts);
-    }
-    numbers_at(alloc, depth_left, turns, inside, exact, counts)
-}
-
 /// The position at the front (RFC 7946, section 3.1.1), x (longitude) first, and what follows it.
 #[inline(always)]
 pub(crate) fn position_at<'a>(
@@ -198,7 +183,26 @@ pub(crate) fn position_at<'a>(
     depth_left: u32,
     bytes: &'a [u8],
     exact: bool,
-    are_long: bool,
+    counts: &mut Counts,
+) -> Result<(Position, &'a [u8]), Stop<GeoFaultKind>>
+    ensures { Answers (λ p. p) (spec.position exact) (prefix_value depth_left bytes.now) counts.old counts.new result }
+{
+    let (opening, inside) = opening_at(depth_left, bytes);
+    match opening {
+        Opening::NoArray => Err(Stop::Fault(GeoFaultKind::WrongKind)),
+        Opening::TooDeep => Err(Stop::NoValue),
+        Opening::Empty => Err(Stop::Fault(GeoFaultKind::ShortPosition)),
+        Opening::Filled(below) => { numbers_at(alloc, below, inside.len(), inside, exact, counts) }
+    }
+}
+
+/// The same. It isn't tried first whether its numbers are short.
+#[inline(always)]
+fn long_position_at<'a>(
+    alloc: Global,
+    depth_left: u32,
+    bytes: &'a [u8],
+    exact: bool,
     counts: &mut Counts,
 ) -> Result<(Position, &'a [u8]), Stop<GeoFaultKind>>
     ensures { Answers (λ p. p) (spec.position exact) (prefix_value depth_left bytes.now) counts.old counts.new result }
@@ -209,7 +213,7 @@ pub(crate) fn position_at<'a>(
         Opening::TooDeep => Err(Stop::NoValue),
         Opening::Empty => Err(Stop::Fault(GeoFaultKind::ShortPosition)),
         Opening::Filled(below) => {
-            either_numbers_at(alloc, below, inside, exact, are_long, counts)
+            two_numbers_at(alloc, below, inside.len(), inside, exact, counts)
         }
     }
 }
@@ -221,7 +225,7 @@ const FIRST_OF_LONG: usize = 10;
 const END_OF_LONG: usize = 18;
 
 /// The numbers of the array of positions at the front seem to have more decimals than are kept. It says only what is tried first.
-pub(crate) fn seem_long(bytes: &[u8]) -> bool {
+fn seem_long(bytes: &[u8]) -> bool {
     if bytes.len() < END_OF_LONG {
         return false;
     }
@@ -235,9 +239,8 @@ pub(crate) fn seem_long(bytes: &[u8]) -> bool {
 
 /// How the positions of an array are read.
 #[derive(Clone, Copy)]
-pub(crate) struct Positions {
-    pub exact: bool,
-    pub are_long: bool,
+struct Positions {
+    exact: bool,
 }
 
 impl Element for Positions {
@@ -255,9 +258,56 @@ impl Element for Positions {
         bytes: &'a [u8],
         counts: &mut Counts,
     ) -> Result<(Option<Position>, &'a [u8]), Stop<GeoFaultKind>> {
-        match position_at(alloc, depth_left, bytes, self.exact, self.are_long, counts) {
+        match position_at(alloc, depth_left, bytes, self.exact, counts) {
             Ok((position, rest)) => Ok((Some(position), rest)),
             Err(stop) => Err(stop),
         }
     }
+}
+
+/// How the positions of an array are read that seem to be long.
+#[derive(Clone, Copy)]
+struct LongPositions {
+    exact: bool,
+}
+
+impl Element for LongPositions {
+    type Read = Position;
+
+    type Fault = GeoFaultKind;
+
+    ghost reads = { λ r. one (spec.position r.exact) };
+
+    #[inline(always)]
+    fn read<'a>(
+        self,
+        alloc: Global,
+        depth_left: u32,
+        bytes: &'a [u8],
+        counts: &mut Counts,
+    ) -> Result<(Option<Position>, &'a [u8]), Stop<GeoFaultKind>> {
+        match long_position_at(alloc, depth_left, bytes, self.exact, counts) {
+            Ok((position, rest)) => Ok((Some(position), rest)),
+            Err(stop) => Err(stop),
+        }
+    }
+}
+
+/// The positions of the array at the front, which is to have some, and what follows it. There is a loop for those that seem to be long, so that the
+/// one for others has no test for it.
+pub(crate) fn positions_at<'a>(
+    alloc: Global,
+    depth_left: u32,
+    bytes: &'a [u8],
+    exact: bool,
+    counts: &mut Counts,
+) -> Result<(Option<Items<Position>>, &'a [u8]), Stop<GeoFaultKind>>
+    ensures { Answers (λ x. x) (some_array_by WrongKind (always (gather (one (spec.position exact))))) (prefix_value depth_left bytes.now) counts.old counts.new result }
+{
+    let wrong = GeoFaultKind::WrongKind;
+    if seem_long(bytes) {
+        let by = LongPositions { exact };
+        return some_array_at::<LongPositions>(alloc, depth_left, bytes, wrong, by, counts);
+    }
+    some_array_at::<Positions>(alloc, depth_left, bytes, wrong, Positions { exact }, counts)
 }

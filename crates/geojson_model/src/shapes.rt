@@ -8,7 +8,7 @@ ghost use Rattle.json_cursor.specs.Answers.{Answers};
 ghost use Rattle.json_cursor.specs.Arrays.{prefix_value};
 
 use crate::lines::{Lines, Polygons, line_at, polygon_at};
-use crate::positions::{Positions, numbers_at, seem_long};
+use crate::positions::{numbers_at, positions_at};
 use geojson_meaning::{CoordinatesType, GeoFaultKind};
 use geojson_types::{Counts, Position, Ring, Shape};
 use json_cursor::{Opening, Stop, opening_at, some_array_at};
@@ -122,11 +122,7 @@ pub fn coordinates_at<'a>(
     match kind {
         CoordinatesType::Point => point_at(alloc, depth_left, bytes, exact, counts),
         CoordinatesType::MultiPoint => {
-            let by = Positions {
-                exact,
-                are_long: seem_long(bytes),
-            };
-            match some_array_at::<Positions>(alloc, depth_left, bytes, wrong, by, counts) {
+            match positions_at(alloc, depth_left, bytes, exact, counts) {
                 Err(stop) => Err(stop),
                 Ok((read, rest)) => Ok((points_of(left(read)), rest)),
             }

@@ -10,4 +10,4 @@ pub returns-in-Empty : goal.returns-in-Empty
 returns-in-Empty c = part.no_elements c.args.exact c.args.counts.now (value_at is_utf8 c.args.depth_left c.args.bytes.now) _ (rw c.in-Empty.is at c.opening_at-opening.ensures)
 
 pub returns-in-Filled : goal.returns-in-Filled
-returns-in-Filled c = part.by_elements c.args.exact c.args.counts.now (value_at is_utf8 c.args.depth_left c.args.bytes.now) _ (rw c.in-Filled.is at c.opening_at-opening.ensures) _ c.either_numbers_at.result c.either_numbers_at.ensures
+returns-in-Filled c = part.by_elements c.args.exact c.args.counts.now (value_at is_utf8 c.args.depth_left c.args.bytes.now) _ (rw c.in-Filled.is at c.opening_at-opening.ensures) _ c.numbers_at.result c.numbers_at.ensures

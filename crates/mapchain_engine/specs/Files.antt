@@ -7,7 +7,7 @@ use Rattle.json_value.specs.Limits.{topology_depth}
 use Rattle.geojson_types.specs.declared.counts.Counts.{Counts}
 use Rattle.topojson_types.specs.Topologies.{Contents}
 use Rattle.topojson_meaning.specs.declared.fault.TopoFault.TheVariants as topo
-use Rattle.topojson_meaning.specs.ArcTexts.{AreTextsOf}
+use Rattle.topojson_meaning.specs.ArcTexts.{AreArcTexts}
 use Rattle.topojson_meaning.specs.Topologies.{topology}
 use Rattle.topojson_decoder.specs.Kept.{of_contents}
 use Rattle.topojson_decoder.specs.declared.keeping.Keeping.{Keeping}
@@ -44,7 +44,7 @@ IsTopologyOf bytes (Err e) = IsNoTopology bytes e
 
 -- the same of a topology beside texts, which are those of its arcs
 abbrev pub IsSpelledOf : List ℕ → Result (SpelledTopology × Counts) FileFault → Type 0
-IsSpelledOf bytes (Ok r) = SpellsTopology bytes r.0.topology r.1 × AreTextsOf r.0.topology.transform r.0.topology.arcs r.0.texts.items
+IsSpelledOf bytes (Ok r) = SpellsTopology bytes r.0.topology r.1 × AreArcTexts r.0.topology.transform r.0.topology.arcs r.0.texts.items
 IsSpelledOf bytes (Err e) = IsNoTopology bytes e
 
 -- the source was read to its end, and its bytes spell this topology, with what is counted in reading it

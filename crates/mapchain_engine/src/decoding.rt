@@ -4,7 +4,7 @@ ghost use Rattle.std.specs.List.{AllByRecursion};
 ghost use Rattle.byte_ends.specs.Ends.{Fed};
 ghost use Rattle.inputs.specs.Texts.{IsRead};
 ghost use Rattle.inputs.specs.declared.file_fault.FileFault.{FileFault as Fault};
-ghost use Rattle.topojson_meaning.specs.ArcTexts.{AreTextsOf};
+ghost use Rattle.topojson_meaning.specs.ArcTexts.{AreArcTexts};
 ghost use Rattle.topojson_types.specs.Topologies.{object_features};
 ghost use Rattle.topojson_types.specs.LinesAndRings.{IsShapeOption};
 ghost use Rattle.topojson_writer.specs.Decoded.{object_in};
@@ -18,7 +18,7 @@ use inputs::FileFault;
 use std::alloc::Global;
 use std::mem;
 use topojson_types::{TopoObject, Topology, named_object};
-use topojson_writer::write_spelled_object;
+use topojson_writer::write_object;
 
 /// Writes the features of the object and flushes the sink. The texts are those of the topology's arcs, as far as they go.
 fn send<W: Drain>(
@@ -27,11 +27,11 @@ fn send<W: Drain>(
     object: &TopoObject,
     sink: &mut Sink<W>,
 ) -> Result<u64, FileFault>
-    requires texts { AreTextsOf topology.now.transform topology.now.arcs texts.now }
+    requires texts { AreArcTexts topology.now.transform topology.now.arcs texts.now }
     requires shapes { AllByRecursion (λ f. IsShapeOption topology.now f.shape) (object_features object.now) }
     ensures { SendsText sink.old sink.new (features_text (object_in topology.now object.now)) result }
 {
-    let written = write_spelled_object(topology, texts, object, sink);
+    let written = write_object(topology, texts, object, sink);
     let sent = flush_after(written, sink)?;
     Ok(sent)
 }

@@ -6,7 +6,7 @@ use Rattle.json_value.specs.Limits.{topology_depth}
 use Rattle.json_reading.specs.Outcome.{SaysUtf8, SpellsNothing}
 use Rattle.geojson_types.specs.declared.counts.Counts.{Counts}
 use Rattle.topojson_types.specs.Topologies.{Contents}
-use Rattle.topojson_meaning.specs.ArcTexts.{AreTextsOf}
+use Rattle.topojson_meaning.specs.ArcTexts.{AreArcTexts}
 use Rattle.topojson_meaning.specs.Topologies.{topology}
 use Rattle.topojson_decoder.specs.Kept.{of_contents}
 use Rattle.topojson_decoder.specs.declared.keeping.Keeping.{Keeping}
@@ -25,7 +25,7 @@ TextAnswers bytes (Err Memory) = Unit {0}
 
 -- The same of a topology beside texts, which are those of its arcs.
 abbrev pub SpelledAnswers : List ℕ → Result (SpelledTopology × Counts) Refusal → Type 0
-SpelledAnswers bytes (Ok r) = TextAnswers bytes (Ok (r.0.topology, r.1)) × AreTextsOf r.0.topology.transform r.0.topology.arcs r.0.texts.items
+SpelledAnswers bytes (Ok r) = TextAnswers bytes (Ok (r.0.topology, r.1)) × AreArcTexts r.0.topology.transform r.0.topology.arcs r.0.texts.items
 SpelledAnswers bytes (Err e) = TextAnswers bytes (Err e)
 
 -- What reading may answer where this much is kept of the topology: its parts are those of the topology, kept so.

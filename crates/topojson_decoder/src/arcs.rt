@@ -7,7 +7,7 @@ ghost use Rattle.json_cursor.specs.Answers.{Answers};
 ghost use Rattle.json_cursor.specs.Arrays.{array_by, prefix_value};
 ghost use Rattle.json_cursor.specs.Folds.{fold};
 ghost use Rattle.topojson_types.specs.declared.transform.Transform.{Transform as Moving};
-ghost use Rattle.topojson_meaning.specs.ArcTexts.{IsTextOf};
+ghost use Rattle.topojson_meaning.specs.ArcTexts.{IsArcText};
 ghost use Rattle.topojson_meaning.specs.Arcs as spec;
 ghost use Rattle.topojson_meaning.specs.declared.fault.TopoFault.TheVariants.{WrongKind};
 ghost use Rattle.topojson_decoder.specs.Cells.{ArcsSoFar, CellsSoFar, with_arc, with_cell};
@@ -186,7 +186,7 @@ fn either_arc_at<'a, N: NextCell>(
     counts: &mut Counts,
 ) -> Result<(ReadArc<'a>, &'a [u8]), Stop<TopoFault>>
     ensures arc { Answers (λ x. x.arc) (spec.arc (N.transform by)) (prefix_value depth_left bytes.now) counts.old counts.new result }
-    ensures text { IfOk result (λ x. IsTextOf None x.0.arc x.0.text) }
+    ensures text { IfOk result (λ x. IsArcText None x.0.arc x.0.text) }
 {
     let mut list = used;
     if let Some((text, rest)) = by.written_at(depth_left, &mut list, bytes)? {

@@ -21,10 +21,11 @@ use std::alloc::Global;
 use topojson_meaning::TopoFault;
 use topojson_types::Transform;
 
-/// By what the members of a topology are read: what is kept of its arcs, and what was counted before them.
+/// By what the members of a topology are read: what is kept of its arcs, whether beside their texts, and what was counted before them.
 #[derive(Clone, Copy)]
 pub struct By {
     pub keeping: Keeping,
+    pub texts: bool,
     pub counts: Counts,
 }
 
@@ -63,7 +64,6 @@ pub(crate) fn is_name(name: &str, word: &str) -> bool
 fn read_at<'a>(
     alloc: Global,
     depth_left: u32,
-    texts: bool,
     transform: Option<&Transform>,
     bytes: &'a [u8],
     start: By,
@@ -75,7 +75,7 @@ fn read_at<'a>(
         alloc,
         depth_left,
         start.keeping,
-        texts,
+        start.texts,
         transform,
         bytes,
         &mut counts,
@@ -139,7 +139,6 @@ fn arcs_member<'a>(
     depth_left: u32,
     transform: &Occurrence<Result<Option<Transform>, TopoFault>>,
     seen: &Occurrence<FoundArcs<'a>>,
-    texts: bool,
     bytes: &'a [u8],
     start: By,
 ) -> Result<(FoundArcs<'a>, &'a [u8]), Fault>
@@ -154,11 +153,11 @@ fn arcs_member<'a>(
             if begin_whole(bytes) {
                 return passed_at(alloc, depth_left, bytes);
             }
-            read_at(alloc, depth_left, texts, None, bytes, start)
+            read_at(alloc, depth_left, None, bytes, start)
         }
         Occurrence::Once(occurrence) => match occurrence {
             Err(_) => passed_at(alloc, depth_left, bytes),
-            Ok(transform) => read_at(alloc, depth_left, texts, transform.as_ref(), bytes, start),
+            Ok(transform) => read_at(alloc, depth_left, transform.as_ref(), bytes, start),
         },
     }
 }
@@ -192,7 +191,6 @@ impl<'a> Index<'a> {
         alloc: Global,
         depth_left: u32,
         name: &str,
-        texts: bool,
         bytes: &'a [u8],
         start: By,
     ) -> Result<&'a [u8], Fault>
@@ -210,7 +208,6 @@ impl<'a> Index<'a> {
                 depth_left,
                 &self.transform,
                 &self.arcs,
-                texts,
                 bytes,
                 start,
             )?;
@@ -234,14 +231,13 @@ impl<'a> Index<'a> {
         &mut self,
         alloc: Global,
         depth_left: u32,
-        texts: bool,
         bytes: &'a [u8],
         start: By,
     ) -> Result<&'a [u8], Fault>
         ensures { TakesOrLoses start depth_left self.old self.new bytes.now result }
     {
         let (name, value) = name_at(alloc, bytes)?;
-        self.value(alloc, depth_left, name.as_str(), texts, value, start)
+        self.value(alloc, depth_left, name.as_str(), value, start)
     }
 }
 
@@ -260,7 +256,6 @@ fn members_into<'a>(
     alloc: Global,
     depth_left: u32,
     index: &mut Index<'a>,
-    texts: bool,
     inside: &'a [u8],
     start: By,
 ) -> Result<&'a [u8], Fault>
@@ -268,7 +263,7 @@ fn members_into<'a>(
 {
     let mut rest = inside;
     'members: for _ in 0..inside.len() {
-        let following = index.member(alloc, depth_left, texts, skip(rest), start)?;
+        let following = index.member(alloc, depth_left, skip(rest), start)?;
         let mark = skip(following);
         if let Some(end) = after_byte(b'}', mark) {
             return Ok(end);
@@ -286,7 +281,6 @@ fn members_into<'a>(
 pub(crate) fn members_seen_at<'a>(
     alloc: Global,
     depth_left: u32,
-    texts: bool,
     bytes: &'a [u8],
     start: By,
 ) -> Result<Option<(Index<'a>, &'a [u8])>, Fault>
@@ -302,6 +296,6 @@ pub(crate) fn members_seen_at<'a>(
     if let Some(end) = after_byte(b'}', skip(inside)) {
         return Ok(Some((index, end)));
     }
-    let rest = members_into(alloc, depth_left - 1, &mut index, texts, inside, start)?;
+    let rest = members_into(alloc, depth_left - 1, &mut index, inside, start)?;
     Ok(Some((index, rest)))
 }

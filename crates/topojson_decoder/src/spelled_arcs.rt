@@ -1,6 +1,6 @@
 // Arcs beside the texts in which they stand.
 ghost use Rattle.std.specs.Prelude.{◌≡◌, ◌++◌, ◌∷◌, [], None, IfOk};
-ghost use Rattle.topojson_meaning.specs.ArcTexts.{AreTextsOf, IsTextOf};
+ghost use Rattle.topojson_meaning.specs.ArcTexts.{AreArcTexts, IsArcText};
 
 use json_value::Items;
 use std::alloc::{AllocError, Global};
@@ -19,13 +19,13 @@ pub struct SpelledArcs<'a> {
 impl<'a> Model for SpelledArcs<'a> {
     ghost use Rattle.std.specs.Prelude.{List, None};
     ghost use Rattle.geometry.specs.Points.{Point};
-    ghost use Rattle.topojson_meaning.specs.ArcTexts.{AreTextsOf};
+    ghost use Rattle.topojson_meaning.specs.ArcTexts.{AreArcTexts};
 
     ghost Value = { List (List Point) };
 
     ghost view = { λ a. a.list.items };
 
-    ghost invariant = { λ a. AreTextsOf None a.list.items a.texts.items };
+    ghost invariant = { λ a. AreArcTexts None a.list.items a.texts.items };
 }
 
 impl<'a> SpelledArcs<'a> {
@@ -53,7 +53,7 @@ impl<'a> SpelledArcs<'a> {
 
     /// Goes on with one more, and with the text in which it stands.
     pub fn push(&mut self, arc: Items<Cell>, text: Option<&'a [u8]>) -> Result<(), AllocError>
-        requires { IsTextOf None arc text }
+        requires { IsArcText None arc text }
         ensures { IfOk result (λ _. self.new ≡ self.old ++ arc ∷ []) }
     {
         let complete = self.keeps && self.texts.len() == self.list.len();
@@ -81,7 +81,7 @@ impl<'a> SpelledArcs<'a> {
     /// The arcs, and the texts.
     pub fn into_parts(self) -> (Items<Items<Cell>>, Vec<Option<&'a [u8]>>)
         ensures arcs { result.0 ≡ self.entry }
-        ensures texts { AreTextsOf None self.entry result.1.items }
+        ensures texts { AreArcTexts None self.entry result.1.items }
     {
         let SpelledArcs { list, texts, .. } = self;
         (Items::of(list), texts)

@@ -1,5 +1,5 @@
 // Topologies (TopoJSON 1.0, section 2.1).
-ghost use Rattle.std.specs.Prelude.{◌≡◌, ℕ, IfOk, List, None, Some, codes};
+ghost use Rattle.std.specs.Prelude.{◌≡◌, Bool, ℕ, IfOk, List, None, Some, codes};
 ghost use Rattle.std.specs.Option.{option_copied};
 ghost use Rattle.json_value.specs.declared.json.Json.{Json as Value};
 ghost use Rattle.json_value.specs.Members.{Members as Listed, named};
@@ -7,7 +7,7 @@ ghost use Rattle.geojson_types.specs.declared.counts.Counts.{Counts as Counted};
 ghost use Rattle.json_cursor.specs.Answers.{Answers};
 ghost use Rattle.json_cursor.specs.Arrays.{prefix_value};
 ghost use Rattle.geometry.specs.Points.{Point};
-ghost use Rattle.topojson_meaning.specs.ArcTexts.{AreTextsOf};
+ghost use Rattle.topojson_meaning.specs.ArcTexts.{AreArcTexts};
 ghost use Rattle.topojson_meaning.specs.Members.{need_as};
 ghost use Rattle.topojson_meaning.specs.Reader.{pure};
 ghost use Rattle.topojson_meaning.specs.Topologies as spec;
@@ -50,7 +50,7 @@ pub(crate) struct SpelledParts<'a> {
 }
 
 impl<'a> Model for SpelledParts<'a> {
-    ghost use Rattle.topojson_meaning.specs.ArcTexts.{AreTextsOf};
+    ghost use Rattle.topojson_meaning.specs.ArcTexts.{AreArcTexts};
     ghost use Rattle.topojson_decoder.specs.contracts.topologies.Parts as made;
     ghost use Rattle.topojson_decoder.specs.declared.topologies.Parts.{Parts};
 
@@ -60,14 +60,14 @@ impl<'a> Model for SpelledParts<'a> {
 
     ghost view = { λ s. s.parts };
 
-    ghost invariant = { λ s. AreTextsOf s.parts.transform s.parts.arcs s.texts.items };
+    ghost invariant = { λ s. AreArcTexts s.parts.transform s.parts.arcs s.texts.items };
 }
 
 impl<'a> SpelledParts<'a> {
     /// The parts, and the texts.
     pub(crate) fn taken_apart(self) -> (Parts, Vec<Option<&'a [u8]>>)
         ensures parts { result.0 ≡ self.entry }
-        ensures texts { AreTextsOf self.entry.transform self.entry.arcs result.1.items }
+        ensures texts { AreArcTexts self.entry.transform self.entry.arcs result.1.items }
     {
         let SpelledParts { parts, texts } = self;
         (parts, texts)
@@ -79,7 +79,7 @@ fn texts_by<'a>(
     transform: Option<&Transform>,
     texts: Vec<Option<&'a [u8]>>,
 ) -> Vec<Option<&'a [u8]>>
-    ensures { (arcs : List (List Point)) → AreTextsOf None arcs texts.entry.items → AreTextsOf (option_copied transform.entry) arcs result.items }
+    ensures { (arcs : List (List Point)) → AreArcTexts None arcs texts.entry.items → AreArcTexts (option_copied transform.entry) arcs result.items }
 {
     let mut texts = texts;
     if transform.is_some() {
@@ -143,7 +143,7 @@ fn arcs_by<'a>(
     found: FoundArcs<'a>,
     counts: &mut Counts,
 ) -> Result<KeptArcs<'a>, Stop<TopoFault>>
-    ensures judges { (v : Value) → AreArcs (record { keeping = keeping; counts = counts.old }) (Some (option_copied transform.entry)) depth_left v found.entry → Judges (kept_arc_list keeping (option_copied transform.entry) v) counts.old counts.new result }
+    ensures judges { (texts : Bool) (v : Value) → AreArcs (record { keeping = keeping; texts = texts; counts = counts.old }) (Some (option_copied transform.entry)) depth_left v found.entry → Judges (kept_arc_list keeping (option_copied transform.entry) v) counts.old counts.new result }
     ensures there { IfOk result (λ _. NoArcs depth_left (Once found.entry) → ⊥) }
 {
     let FoundArcs { prefix, read } = found;
@@ -177,7 +177,7 @@ fn arcs_of<'a>(
     counts: &mut Counts,
 ) -> Result<KeptArcs<'a>, Stop<TopoFault>>
     ensures there { IfOk result (λ _. NoArcs depth_left occurrence.entry → ⊥) }
-    ensures gives { (ms : Listed) → IsOccurrence (AreArcs (record { keeping = keeping; counts = counts.old }) (Some (option_copied transform.entry)) depth_left) (named (codes "arcs") ms) occurrence.entry
+    ensures gives { (texts : Bool) (ms : Listed) → IsOccurrence (AreArcs (record { keeping = keeping; texts = texts; counts = counts.old }) (Some (option_copied transform.entry)) depth_left) (named (codes "arcs") ms) occurrence.entry
         → Gives (λ x. x) (need_as (codes "arcs") (kept_arc_list keeping (option_copied transform.entry)) ms) counts.old counts.new result }
 {
     match occurrence {
@@ -222,7 +222,7 @@ fn parts_of<'a>(
 ) -> Result<SpelledParts<'a>, Stop<TopoFault>>
     // What was leaped over stands there.
     ensures there { IfOk result (λ _. IsLost depth_left index.entry → ⊥) }
-    ensures gives { (ms : Listed) → IsIndex (record { keeping = keeping; counts = counts.old }) depth_left ms index.entry → Gives (λ p. p) (kept_contents keeping ms) counts.old counts.new result }
+    ensures gives { (texts : Bool) (ms : Listed) → IsIndex (record { keeping = keeping; texts = texts; counts = counts.old }) depth_left ms index.entry → Gives (λ p. p) (kept_contents keeping ms) counts.old counts.new result }
 {
     let Index {
         kind,
@@ -291,9 +291,10 @@ pub(crate) fn kept_topology_at<'a>(
 {
     let by = By {
         keeping,
+        texts,
         counts: *counts,
     };
-    let Some((index, rest)) = members_seen_at(alloc, depth_left, texts, bytes, by)? else {
+    let Some((index, rest)) = members_seen_at(alloc, depth_left, bytes, by)? else {
         return Err(Stop::Fault(TopoFault::NotTopology));
     };
     match parts_of(alloc, depth_left - 1, keeping, index, counts) {

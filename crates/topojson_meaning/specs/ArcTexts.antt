@@ -7,11 +7,11 @@ use Rattle.topojson_types.specs.declared.transform.Transform.{Transform}
 use Rattle.topojson_types.specs.Values.{arc_value}
 
 -- if a text is known, there is no transform, and it is what is written of the arc
-abbrev pub IsTextOf : Option Transform → List Point → Option (Bor (List ℕ)) → Type 0
-IsTextOf transform arc text = IfSome text (λ t. (transform ≡ None) × (t.now ≡ json_text (arc_value None arc)))
+abbrev pub IsArcText : Option Transform → List Point → Option (Bor (List ℕ)) → Type 0
+IsArcText transform arc text = IfSome text (λ t. (transform ≡ None) × (t.now ≡ json_text (arc_value None arc)))
 
 -- so of each arc, as far as the texts go
-abbrev pub AreTextsOf : Option Transform → List (List Point) → List (Option (Bor (List ℕ))) → Type 0
-AreTextsOf transform arcs [] = Unit {0}
-AreTextsOf transform [] (text ∷ texts) = ⊥
-AreTextsOf transform (arc ∷ arcs) (text ∷ texts) = IsTextOf transform arc text × AreTextsOf transform arcs texts
+abbrev pub AreArcTexts : Option Transform → List (List Point) → List (Option (Bor (List ℕ))) → Type 0
+AreArcTexts transform arcs [] = Unit {0}
+AreArcTexts transform [] (text ∷ texts) = ⊥
+AreArcTexts transform (arc ∷ arcs) (text ∷ texts) = IsArcText transform arc text × AreArcTexts transform arcs texts

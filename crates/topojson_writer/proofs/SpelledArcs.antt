@@ -5,7 +5,7 @@ use Rattle.std.specs.Borrow.{Bor}
 use Rattle.json_value.specs.Text.{json_text}
 use Rattle.geometry.specs.Joins.{arc_at, is_reversed, number_of}
 use Rattle.geometry.specs.Points.{Point}
-use Rattle.topojson_meaning.specs.ArcTexts.{AreTextsOf}
+use Rattle.topojson_meaning.specs.ArcTexts.{AreArcTexts}
 use Rattle.topojson_types.specs.declared.transform.Transform.{Transform}
 use Rattle.topojson_types.specs.Decoding.{completed, repeated}
 use Rattle.topojson_types.specs.Topologies.{Contents}
@@ -20,7 +20,7 @@ pub record Spells (transform : Option Transform) (arcs : List (List Point)) (num
   pub is : text ≡ json_text (positions_value (get_or arcs number []))
 
 pub spelled : (transform : Option Transform) (arcs : List (List Point)) (texts : List (Option (Bor (List ℕ)))) (number : ℕ) (text : Bor (List ℕ))
-    → AreTextsOf transform arcs texts → number < length texts → get_or texts number (Some text) ≡ Some text → Spells transform arcs number text.now
+    → AreArcTexts transform arcs texts → number < length texts → get_or texts number (Some text) ≡ Some text → Spells transform arcs number text.now
 spelled transform arcs [] number text h within found = absurd (omega arith)
 spelled transform [] (t ∷ texts) number text h within found = absurd h
 spelled transform (arc ∷ arcs) (None ∷ texts) zero text h within found = grind arith

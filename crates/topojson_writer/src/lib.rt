@@ -4,9 +4,9 @@
 //! layers above use the contracts of `write_topology`, `write_features` and `write_object`: what the first writes is the text of the value
 //! that `topojson_types` has in `specs/Values.antt`; the second, of the value of a set of features (`specs/FeatureValues.antt`); the third,
 //! of the features that an object of a topology is decoded to: positions are written where a walk along the arcs reaches them, so that no
-//! list of them is made, and identifiers and properties stay where they are. `write_spelled_object` does the same, and copies the texts of
-//! arcs that its caller has, as `specs/ArcTexts.antt` of `topojson_meaning` says, where a line or a ring is one of them. Who has no features
-//! but what they are made of writes them by their parts, into an `Out`: `put_collection_head` puts the front of a collection,
+//! list of them is made, and identifiers and properties stay where they are. Of the texts of arcs that the third's caller has
+//! (`specs/ArcTexts.antt` of `topojson_meaning`) one is copied where a line or a ring is that arc. Who has no features but what they are made of
+//! writes them by their parts, into an `Out`: `put_collection_head` puts the front of a collection,
 //! `put_feature_head` and `put_position` parts of a feature, and `head` is the front of a geometry.
 #![tactic(auto)]
 
@@ -17,10 +17,10 @@ mod feature_writer;
 mod geometry_writer;
 mod index_writer;
 mod laws;
+mod line_source;
 mod object_writer;
 mod position_writer;
 mod shape_writer;
-mod spelled_topology;
 mod topology_features;
 mod topology_lines;
 mod topology_shapes;
@@ -31,5 +31,5 @@ pub use feature_writer::{put_collection_head, put_feature_head, put_features, wr
 pub use laws::{features_text_is_utf8, features_text_spells_value};
 pub use position_writer::put_position;
 pub use shape_writer::head;
-pub use topology_features::{write_object, write_spelled_object};
+pub use topology_features::write_object;
 pub use topology_writer::{put_topology, write_topology};

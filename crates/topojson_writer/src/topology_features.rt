@@ -9,19 +9,19 @@ ghost use Rattle.json_writer.specs.Standing.{Start};
 ghost use Rattle.geometry.specs.Lists.{then_some};
 ghost use Rattle.topojson_writer.specs.FeatureValues.{collection_value, feature_value, features_value, geometry_value};
 ghost use Rattle.topojson_writer.specs.Decoded.{shape_in, feature_in, object_in};
-ghost use Rattle.topojson_meaning.specs.ArcTexts.{AreTextsOf};
+ghost use Rattle.topojson_meaning.specs.ArcTexts.{AreArcTexts};
 ghost use Rattle.topojson_types.specs.Topologies.{object_features};
 ghost use Rattle.topojson_types.specs.LinesAndRings.{IsShapeOption};
 
 use crate::feature_writer::{put_collection_head, put_feature_head};
-use crate::spelled_topology::SpelledTopology;
+use crate::line_source::LineSource;
 use crate::topology_shapes::put_shape;
 use byte_ends::{Drain, Sink, WriteFault};
 use json_writer::{Buffered, Out, put_comma};
 use topojson_types::{TopoFeature, TopoObject, TopoShape, Topology};
 
 /// Puts a geometry, or null.
-fn put_geometry<O: Out>(topology: &SpelledTopology<'_>, shape: Option<&TopoShape>, out: &mut O)
+fn put_geometry<O: Out>(topology: &LineSource<'_>, shape: Option<&TopoShape>, out: &mut O)
     requires { IsShapeOption topology.now (option_copied shape) }
     ensures text { O.text out.new ≡ O.text out.old ++ json_text (geometry_value (then_some (shape_in topology.now) (option_copied shape.entry))) }
     ensures kept { (start : Start) → O.good out.old start → O.good out.new start }
@@ -33,7 +33,7 @@ fn put_geometry<O: Out>(topology: &SpelledTopology<'_>, shape: Option<&TopoShape
 }
 
 /// Puts the feature of a geometry object.
-fn put_feature<O: Out>(topology: &SpelledTopology<'_>, feature: &TopoFeature, out: &mut O)
+fn put_feature<O: Out>(topology: &LineSource<'_>, feature: &TopoFeature, out: &mut O)
     requires { IsShapeOption topology.now feature.now.shape }
     ensures text { O.text out.new ≡ O.text out.old ++ json_text (feature_value (feature_in topology.now feature.now)) }
     ensures kept { (start : Start) → O.good out.old start → O.good out.new start }
@@ -44,7 +44,7 @@ fn put_feature<O: Out>(topology: &SpelledTopology<'_>, feature: &TopoFeature, ou
 }
 
 /// Puts the features of the members of a collection.
-fn put_members<O: Out>(topology: &SpelledTopology<'_>, members: &[TopoFeature], out: &mut O)
+fn put_members<O: Out>(topology: &LineSource<'_>, members: &[TopoFeature], out: &mut O)
     requires { AllByRecursion (λ f. IsShapeOption topology.now f.shape) members.now }
     ensures text { O.text out.new ≡ O.text out.old ++ json_text (j.Array (map feature_value (map (feature_in topology.now) members.now))) }
     ensures kept { (start : Start) → O.good out.old start → O.good out.new start }
@@ -61,7 +61,7 @@ fn put_members<O: Out>(topology: &SpelledTopology<'_>, members: &[TopoFeature], 
 
 /// Puts a collection of these features.
 #[tactic(auto, using(crate::proofs::Rules::features))]
-fn put_collection<O: Out>(topology: &SpelledTopology<'_>, members: &[TopoFeature], out: &mut O)
+fn put_collection<O: Out>(topology: &LineSource<'_>, members: &[TopoFeature], out: &mut O)
     requires { AllByRecursion (λ f. IsShapeOption topology.now f.shape) members.now }
     ensures text { O.text out.new ≡ O.text out.old ++ json_text (collection_value (map (feature_in topology.now) members.now)) }
     ensures kept { (start : Start) → O.good out.old start → O.good out.new start }
@@ -72,7 +72,7 @@ fn put_collection<O: Out>(topology: &SpelledTopology<'_>, members: &[TopoFeature
 }
 
 /// Puts the features that an object stands for.
-fn put_object<O: Out>(topology: &SpelledTopology<'_>, object: &TopoObject, out: &mut O)
+fn put_object<O: Out>(topology: &LineSource<'_>, object: &TopoObject, out: &mut O)
     requires { AllByRecursion (λ f. IsShapeOption topology.now f.shape) (object_features object.now) }
     ensures text { O.text out.new ≡ O.text out.old ++ json_text (features_value (object_in topology.now object.now)) }
     ensures kept { (start : Start) → O.good out.old start → O.good out.new start }
@@ -84,31 +84,20 @@ fn put_object<O: Out>(topology: &SpelledTopology<'_>, object: &TopoObject, out: 
 }
 
 /// Writes the GeoJSON text of the features that an object of the topology stands for, as `write_features` does of features that are
-/// there: each position is written where a walk along the arcs reaches it. This takes no memory.
+/// there: each position is written where a walk along the arcs reaches it. This takes no memory. These texts of the topology's first
+/// arcs are copied where a line or a ring is one of them, forwards.
 pub fn write_object<W: Drain>(
-    topology: &Topology,
-    object: &TopoObject,
-    sink: &mut Sink<W>,
-) -> Result<u64, WriteFault>
-    requires { AllByRecursion (λ f. IsShapeOption topology.now f.shape) (object_features object.now) }
-    ensures { Writes sink.old sink.new 0 (json_text (features_value (object_in topology.now object.now))) result }
-{
-    write_spelled_object(topology, &[], object, sink)
-}
-
-/// Writes what `write_object` does. These texts of the topology's first arcs are copied where a line or a ring is one of them, forwards.
-pub fn write_spelled_object<W: Drain>(
     topology: &Topology,
     texts: &[Option<&[u8]>],
     object: &TopoObject,
     sink: &mut Sink<W>,
 ) -> Result<u64, WriteFault>
     requires shapes { AllByRecursion (λ f. IsShapeOption topology.now f.shape) (object_features object.now) }
-    requires texts { AreTextsOf topology.now.transform topology.now.arcs texts.now }
+    requires texts { AreArcTexts topology.now.transform topology.now.arcs texts.now }
     ensures { Writes sink.old sink.new 0 (json_text (features_value (object_in topology.now object.now))) result }
 {
     let mut out = Buffered::over(sink);
-    let spelled = SpelledTopology::of(topology, texts);
+    let spelled = LineSource::of(topology, texts);
     put_object(&spelled, object, &mut out);
     out.end()
 }

@@ -10,8 +10,8 @@ ghost use Rattle.topojson_types.specs.Transforms.{place};
 ghost use Rattle.topojson_types.specs.Validity.{AreInRange, IsPlace};
 ghost use Rattle.topojson_types.specs.LinesAndRings.{IsLineOrRing};
 
+use crate::line_source::LineSource;
 use crate::position_writer::put_position;
-use crate::spelled_topology::SpelledTopology;
 use json_value::Items;
 use json_writer::{Out, put_comma};
 use topojson_types::{ArcRef, Cell, Transform, position_at};
@@ -34,12 +34,7 @@ pub fn put_cells<O: Out>(transform: Option<&Transform>, cells: &[Cell], out: &mu
 }
 
 /// Puts the positions of a line, or of a ring, if it is closed, one by one.
-fn put_positions<O: Out>(
-    topology: &SpelledTopology<'_>,
-    refs: &[ArcRef],
-    is_closed: bool,
-    out: &mut O,
-)
+fn put_positions<O: Out>(topology: &LineSource<'_>, refs: &[ArcRef], is_closed: bool, out: &mut O)
     requires { AreInRange (length topology.now.arcs) refs.now }
     ensures text { O.text out.new ≡ O.text out.old ++ json_text (positions_value (line_in topology.now is_closed refs.now)) }
     ensures kept { (start : Start) → O.good out.old start → O.good out.new start }
@@ -55,12 +50,7 @@ fn put_positions<O: Out>(
 }
 
 /// Puts the positions of a line, or of a ring, if it is closed. Where their text is known it is copied.
-pub fn put_line<O: Out>(
-    topology: &SpelledTopology<'_>,
-    refs: &[ArcRef],
-    is_closed: bool,
-    out: &mut O,
-)
+pub fn put_line<O: Out>(topology: &LineSource<'_>, refs: &[ArcRef], is_closed: bool, out: &mut O)
     requires { AreInRange (length topology.now.arcs) refs.now }
     ensures text { O.text out.new ≡ O.text out.old ++ json_text (positions_value (line_in topology.now is_closed refs.now)) }
     ensures kept { (start : Start) → O.good out.old start → O.good out.new start }
@@ -73,7 +63,7 @@ pub fn put_line<O: Out>(
 
 /// Puts lines, or the rings of a polygon.
 pub fn put_lines<O: Out>(
-    topology: &SpelledTopology<'_>,
+    topology: &LineSource<'_>,
     lines: &[Items<ArcRef>],
     is_closed: bool,
     out: &mut O,
@@ -93,11 +83,7 @@ pub fn put_lines<O: Out>(
 }
 
 /// Puts polygons.
-pub fn put_areas<O: Out>(
-    topology: &SpelledTopology<'_>,
-    areas: &[Items<Items<ArcRef>>],
-    out: &mut O,
-)
+pub fn put_areas<O: Out>(topology: &LineSource<'_>, areas: &[Items<Items<ArcRef>>], out: &mut O)
     requires { AllByRecursion (λ rs. AllByRecursion (λ l. IsLineOrRing topology.now (true, l)) rs) areas.now }
     ensures text { O.text out.new ≡ O.text out.old ++ json_text (polygons_value (map (map (line_in topology.now true)) areas.now)) }
     ensures kept { (start : Start) → O.good out.old start → O.good out.new start }

@@ -10,9 +10,9 @@ ghost use Rattle.topojson_writer.specs.FeatureValues.{geometry_value};
 ghost use Rattle.topojson_writer.specs.Decoded.{shape_in};
 ghost use Rattle.topojson_types.specs.LinesAndRings.{IsShape};
 
+use crate::line_source::LineSource;
 use crate::position_writer::put_position;
 use crate::shape_writer::head;
-use crate::spelled_topology::SpelledTopology;
 use crate::topology_lines::{put_areas, put_cells, put_line, put_lines};
 use geojson_types::Geometry;
 use json_writer::{Out, put_comma};
@@ -20,7 +20,7 @@ use topojson_types::{TopoShape, position_at};
 
 /// Puts the coordinates, or the geometries of a GeometryCollection.
 #[cycle(shapes)]
-fn put_contents<O: Out>(topology: &SpelledTopology<'_>, shape: &TopoShape, out: &mut O)
+fn put_contents<O: Out>(topology: &LineSource<'_>, shape: &TopoShape, out: &mut O)
     requires { IsShape topology.now shape.now }
     ensures text { (decoded : Decoded) → shape_in topology.now shape.now ≡ Some decoded → O.text out.new ≡ O.text out.old ++ json_text (contents_value decoded) }
     ensures kept { (start : Start) → O.good out.old start → O.good out.new start }
@@ -41,7 +41,7 @@ fn put_contents<O: Out>(topology: &SpelledTopology<'_>, shape: &TopoShape, out: 
 
 /// Puts the geometries of a GeometryCollection.
 #[cycle(shapes)]
-fn put_shapes<O: Out>(topology: &SpelledTopology<'_>, shapes: &[TopoShape], out: &mut O)
+fn put_shapes<O: Out>(topology: &LineSource<'_>, shapes: &[TopoShape], out: &mut O)
     requires { AllByRecursion (IsShape topology.now) shapes.now }
     ensures text { O.text out.new ≡ O.text out.old ++ json_text (j.Array (map (λ s. geometry_value (shape_in topology.now s)) shapes.now)) }
     ensures kept { (start : Start) → O.good out.old start → O.good out.new start }
@@ -58,7 +58,7 @@ fn put_shapes<O: Out>(topology: &SpelledTopology<'_>, shapes: &[TopoShape], out:
 
 /// Puts the geometry that a geometry of the topology is decoded to.
 #[cycle(shapes)]
-pub fn put_shape<O: Out>(topology: &SpelledTopology<'_>, shape: &TopoShape, out: &mut O)
+pub fn put_shape<O: Out>(topology: &LineSource<'_>, shape: &TopoShape, out: &mut O)
     requires { IsShape topology.now shape.now }
     ensures text { O.text out.new ≡ O.text out.old ++ json_text (geometry_value (shape_in topology.now shape.now)) }
     ensures kept { (start : Start) → O.good out.old start → O.good out.new start }

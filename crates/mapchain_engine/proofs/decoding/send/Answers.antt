@@ -8,7 +8,7 @@ pub returns-in_err-sent : goal.returns-in_err-sent
 returns-in_err-sent g c =
     let p = err_from_is_err_and c.from_residual.result c.from_residual.ensures.1 in
     let text = features_text (object_in c.args.topology.now c.args.object.now) in
-    rw (p.1, p.2) (cut c.args.sink.now c.flush_after.new.sink text _ (c.in_err-sent.ensures c.args.sink.now 0 text c.write_spelled_object-written.ensures))
+    rw (p.1, p.2) (cut c.args.sink.now c.flush_after.new.sink text _ (c.in_err-sent.ensures c.args.sink.now 0 text c.write_object-written.ensures))
 
 pub returns : goal.returns
-returns g c = c.in_ok-sent.ensures c.args.sink.now 0 (features_text (object_in c.args.topology.now c.args.object.now)) c.write_spelled_object-written.ensures
+returns g c = c.in_ok-sent.ensures c.args.sink.now 0 (features_text (object_in c.args.topology.now c.args.object.now)) c.write_object-written.ensures

@@ -13,7 +13,7 @@ returns-in-Err c =
     let found = rw c.in-Some.is at c.in_ok-index.ensures in
     elim found.1 [
       | inl object ↦ part.object_stops c.args.keeping c.args.counts.now (prefix_value c.args.depth_left c.args.bytes.now) object.members _ object.prefix (λ p. p) c.parts_of.new.counts c.in-Err.stop
-          (c.in-Err.ensures.gives object.members object.index)
+          (c.in-Err.ensures.gives c.args.texts object.members object.index)
       | inr lost ↦ no_stop (kept_value_contents c.args.keeping) (prefix_value c.args.depth_left c.args.bytes.now) c.args.counts.now c.in-Err.stop lost.0
     ]
 
@@ -21,6 +21,6 @@ pub returns-in-Ok : goal.returns-in-Ok
 returns-in-Ok c =
     let found = rw c.in-Some.is at c.in_ok-index.ensures in
     elim found.1 [
-      | inl object ↦ part.object_reads c.args.keeping c.args.counts.now (prefix_value c.args.depth_left c.args.bytes.now) object.members _ object.prefix _ c.parts_of.new.counts (c.in-Ok.ensures.gives object.members object.index)
+      | inl object ↦ part.object_reads c.args.keeping c.args.counts.now (prefix_value c.args.depth_left c.args.bytes.now) object.members _ object.prefix _ c.parts_of.new.counts (c.in-Ok.ensures.gives c.args.texts object.members object.index)
       | inr lost ↦ absurd (c.in-Ok.ensures.there lost.1)
     ]

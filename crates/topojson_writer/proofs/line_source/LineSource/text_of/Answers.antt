@@ -4,8 +4,8 @@ use Rattle.json_value.specs.Text.{json_text}
 use Rattle.topojson_writer.specs.Decoded.{line_in}
 use Rattle.topojson_writer.specs.FeatureValues.{positions_value}
 use Rattle.topojson_writer.proofs.SpelledArcs.{spelled, line_spelled}
-use Rattle.topojson_writer.proofs.spelled_topology.SpelledTopology.text_of.Goals as goal
-use Rattle.topojson_writer.proofs.spelled_topology.SpelledTopology.text_of.Goals.{else-is_closed-via-then-is_closed+else-len-lt-RING_POSITIONS, else-is_closed-via-else-is_closed}
+use Rattle.topojson_writer.proofs.line_source.LineSource.text_of.Goals as goal
+use Rattle.topojson_writer.proofs.line_source.LineSource.text_of.Goals.{else-is_closed-via-then-is_closed+else-len-lt-RING_POSITIONS, else-is_closed-via-else-is_closed}
 
 pub bounds-arcs-number : goal.bounds-arcs-number
 bounds-arcs-number c =

@@ -2,7 +2,7 @@
 ghost use Rattle.std.specs.Prelude.{◌≡◌, IfSome, length};
 ghost use Rattle.std.specs.Option.{option_copied};
 ghost use Rattle.json_value.specs.Text.{json_text};
-ghost use Rattle.topojson_meaning.specs.ArcTexts.{AreTextsOf};
+ghost use Rattle.topojson_meaning.specs.ArcTexts.{AreArcTexts};
 ghost use Rattle.topojson_types.specs.Validity.{AreInRange, IsTopology};
 ghost use Rattle.topojson_writer.specs.Decoded.{line_in};
 ghost use Rattle.topojson_writer.specs.FeatureValues.{positions_value};
@@ -15,13 +15,13 @@ const RING_POSITIONS: usize = 4;
 
 /// A topology, and the texts of its arcs as far as they are known: what is written of an arc where there is no transform.
 #[derive(Debug, Drop)]
-pub struct SpelledTopology<'a> {
+pub struct LineSource<'a> {
     topology: &'a Topology,
     texts: &'a [Option<&'a [u8]>],
 }
 
-impl<'a> Model for SpelledTopology<'a> {
-    ghost use Rattle.topojson_meaning.specs.ArcTexts.{AreTextsOf};
+impl<'a> Model for LineSource<'a> {
+    ghost use Rattle.topojson_meaning.specs.ArcTexts.{AreArcTexts};
     ghost use Rattle.topojson_types.specs.Codes.{contents_code};
     ghost use Rattle.topojson_types.specs.Topologies.{Contents};
 
@@ -31,16 +31,16 @@ impl<'a> Model for SpelledTopology<'a> {
 
     ghost view = { λ t. t.topology.now };
 
-    ghost invariant = { λ t. AreTextsOf t.topology.now.transform t.topology.now.arcs t.texts.now };
+    ghost invariant = { λ t. AreArcTexts t.topology.now.transform t.topology.now.arcs t.texts.now };
 }
 
-impl<'a> SpelledTopology<'a> {
+impl<'a> LineSource<'a> {
     /// The topology with these texts of its first arcs.
-    pub fn of(topology: &'a Topology, texts: &'a [Option<&'a [u8]>]) -> SpelledTopology<'a>
-        requires { AreTextsOf topology.now.transform topology.now.arcs texts.now }
+    pub fn of(topology: &'a Topology, texts: &'a [Option<&'a [u8]>]) -> LineSource<'a>
+        requires { AreArcTexts topology.now.transform topology.now.arcs texts.now }
         ensures { result ≡ topology.now }
     {
-        SpelledTopology { topology, texts }
+        LineSource { topology, texts }
     }
 
     /// Its transform, if there is one.

@@ -1,5 +1,5 @@
 use Rattle.std.proofs.Common.{rules, sym}
-use Rattle.topojson_writer.proofs.topology_features.write_spelled_object.Goals as goal
+use Rattle.topojson_writer.proofs.topology_features.write_object.Goals as goal
 
 pub returns : goal.returns
 returns g c =

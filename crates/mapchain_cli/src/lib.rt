@@ -1,7 +1,8 @@
 //! The program `mapchain` over any files and streams: from the words of its command line to its exit status. It stands on
 //! `command_words` for the words, on `effective_area` for an area among them, on `mapchain_engine` for the work, with a reducer of
-//! `effective_area`, on `reports` for what is reported. A program above calls `command` with the words, the file system and its standard
-//! streams, and ends with the status that it answers, which is at most 3. What a run promises is `specs/Runs.antt`.
+//! `effective_area`, on `reports` for what is reported, on `explanations` and `fault_explanations` for what is said of a run in words. A program
+//! above calls `command` with the words, the file system and its standard streams, and ends with the status that it answers, which is at most 3.
+//! What a run promises is `specs/Runs.antt`.
 #![tactic(auto)]
 
 mod counts;

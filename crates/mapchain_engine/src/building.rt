@@ -95,12 +95,10 @@ fn build_layers<Q: Reducer, R: Feed, W: Drain, K: Watch>(
 
 /// Builds the topology (TopoJSON 1.0) of named layers (RFC 7946), each read from its source to the end, and writes it.
 ///
-/// A border that lines and rings of the layers share is one arc, which the reducer reduces once. Where no crossing may be made or shapes stay,
-/// all arcs are reduced at once in place of that. Names are looked at first, in order:
-/// up to there nothing is read. Then each layer is read, parsed and modelled before the next. Nothing is written before all layers
-/// are taken, so on each fault but `Write` the sink is as it was. On `Write` it took a prefix of the topology's text, of the length
-/// that is reported. At `Ok` the sink is flushed. The topology's
-/// memory is left to the end of the process.
+/// A border that lines and rings of the layers share is one arc, which is reduced once. Where no crossing may be made or shapes stay, all arcs are
+/// reduced at once in place of that. Names are looked at first, in order: up to there nothing is read. Then each layer is read, parsed and modelled
+/// before the next. Nothing is written before all layers are taken, so on each fault but `Write` the sink is as it was. On `Write` it took a prefix
+/// of the topology's text, of the length that is reported. At `Ok` the sink is flushed. The topology's memory is left to the end of the process.
 pub fn build<Q: Reducer, R: Feed, W: Drain>(
     alloc: Global,
     reducer: &mut Q,

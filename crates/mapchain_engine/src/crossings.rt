@@ -47,7 +47,7 @@ fn summary_with_crossings<K: Watch>(
 /// badly: they cross, lie on one another, or touch but at ends of both.
 ///
 /// Each pair of places counts once, and so do arcs that no line uses; equal neighbours make no segment. At `MOST_CROSSINGS` it stays. The
-/// topology is refused as by `stat`.
+/// topology is refused as by `stat`, and left in memory to the end of the process.
 pub fn stat_with_crossings<R: Feed>(
     alloc: Global,
     source: &mut Source<R>,

@@ -63,11 +63,10 @@ fn send<W: Drain>(topology: &Topology, sink: &mut Sink<W>) -> Result<u64, FileFa
 /// `guards` forbid crossings or keep shapes, all arcs are reduced at once in place of that, and so is a share reckoned. The cells that stay keep
 /// their numbers, and the transform stays. A line or ring that is left with too few positions is dropped, a ring of which twice the area is
 /// under `ring_limit` (in square units), and a ring of a polygon whose outer ring is, but where shapes stay not the largest outer ring of a
-/// feature; arcs that no line uses are left out. The report
-/// says what was counted in reading, what is dropped, of the arcs that are left how many positions stay and were removed, and the
-/// threshold, where it was chosen. The topology is refused as by `stat`. On each fault but `Write` the sink is as it was. On `Write` it took a prefix of the text, of
-/// the length that is reported. At `Ok` the sink is flushed. The topology's
-/// memory is left to the end of the process.
+/// feature; arcs that no line uses are left out. The report says what was counted in reading, what is dropped, of the arcs that are left how many
+/// positions stay and were removed, and the threshold, where it was chosen. The topology is refused as by `stat`. On each fault but `Write` the sink
+/// is as it was. On `Write` it took a prefix of the text, of the length that is reported. At `Ok` the sink is flushed. The topology's memory is left
+/// to the end of the process.
 pub fn simplify<Q: Reducer, R: Feed, W: Drain>(
     alloc: Global,
     reducer: &mut Q,

@@ -24,7 +24,7 @@ use topojson_types::Topology;
 ///
 /// The objects are in the topology's order. A file with more than `MAX_INPUT` bytes, one that is no JSON text (RFC 8259) nested at
 /// most `TOPOLOGY_DEPTH` deep, and one that is no topology are refused, with the first fault. One byte order mark before the text
-/// is skipped.
+/// is skipped. What was read of the topology is left in memory to the end of the process.
 pub fn stat<R: Feed>(alloc: Global, source: &mut Source<R>) -> Result<Summary, FileFault>
     // The bytes spell a topology, and the summary is that topology's.
     ensures reported { IfOk result (λ summary. IsSummarised source.old source.new summary) }

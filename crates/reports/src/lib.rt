@@ -1,6 +1,6 @@
 //! What is said beside a topology: the report of a build, the summary of a topology, the line of a fault and its exit status, and a whole
 //! run as JSON. It stands on `topojson_types`, whose topologies are counted, on `geojson_types` for what is dropped, on `inputs`, whose
-//! faults it says, and on `json_writer` and `byte_ends` for writing. The engine uses `summary_of` and `report_of`. A program uses
+//! faults it says, and on `json_writer` and `byte_ends` for writing. The engine uses `summary_with` and `report_of`. A program uses
 //! `report_text` and `summary_text`; `print_fault` and `print_file_fault`, which write the line to a sink and answer the status, at most 3;
 //! and `write_run_report`, whose contract says by `specs/RunReports.antt` which JSON value the run is (RFC 8259): its text is written, and
 //! a line feed after it.

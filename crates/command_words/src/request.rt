@@ -46,7 +46,7 @@ pub enum Request<'a> {
         ring_area: &'a str,
         /// No point is removed where lines would then cross.
         no_crossings: bool,
-        /// Each shape with a ring of four positions keeps its largest.
+        /// Each feature with an outer ring of four positions keeps the largest of these.
         keep_shapes: bool,
     },
     /// What is left of the topology in the file of this path where its lines are reduced.
@@ -59,7 +59,7 @@ pub enum Request<'a> {
         ring_area: &'a str,
         /// No point is removed where lines would then cross.
         no_crossings: bool,
-        /// Each shape with a ring of four positions keeps its largest.
+        /// Each feature with an outer ring of four positions keeps the largest of these.
         keep_shapes: bool,
         path: &'a str,
     },

@@ -142,7 +142,7 @@ pub fn add_label(
     }
 }
 
-/// What the feature that a value is is called, in the same way.
+/// What the feature that this value stands for is called, in the same way.
 pub fn label_of(alloc: Global, value: &Json) -> Result<String, AllocError> {
     let mut label = String::new(alloc);
     let Some(members) = value.as_object() else {

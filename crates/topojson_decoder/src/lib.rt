@@ -1,9 +1,9 @@
 //! Decoding topologies (TopoJSON 1.0): the reader of topologies straight from bytes, whatever their form and whatever their faults, and
 //! where a user of topologies begins. It stands on `json_cursor`, whose `Answers` says what a reader answers of the bytes, and on
-//! `topojson_meaning`, which says what a value stands for. A layer above calls `read_text`. `read_topology` reads a value through its
-//! text, by that reader. Beside it stand the GeoJSON features of an object, the walk along arcs and the types, of `topojson_types`. For who
-//! tells a person of a file that was read, it says what a feature is called, shows texts as a terminal can, and passes over members once
-//! more; that has no contracts.
+//! `topojson_meaning`, which says what a value stands for. A layer above calls `read_text`, or `read_spelled_text` for the texts of the arcs,
+//! too, or `read_parts`, of which less is kept. `read_topology` reads a value through its text, by that reader. Beside it stand the GeoJSON
+//! features of an object, the walk along arcs and the types, of `topojson_types`. For who tells a person of a file that was read, it says what
+//! a feature is called, shows texts as a terminal can, and passes over members once more; that has no contracts.
 #![tactic(auto)]
 
 mod arc_ends;

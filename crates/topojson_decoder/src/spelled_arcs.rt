@@ -72,6 +72,7 @@ impl<'a> SpelledArcs<'a> {
         self.texts.shrink_to_fit();
     }
 
+    /// The arcs.
     pub fn as_slice(&self) -> &[Items<Cell>]
         ensures { result.now ≡ self.now }
     {

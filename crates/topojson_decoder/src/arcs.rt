@@ -323,26 +323,6 @@ fn spelled_arcs_at<'a>(
     }
 }
 
-/// The arcs of the array at the front, and what follows it; or why reading stops.
-pub fn arcs_at<'a>(
-    alloc: Global,
-    depth_left: u32,
-    transform: Option<&Transform>,
-    bytes: &'a [u8],
-    counts: &mut Counts,
-) -> Result<(Items<Items<Cell>>, &'a [u8]), Stop<TopoFault>>
-    ensures { Answers (λ x. x) (spec.arc_list (option_copied transform.entry)) (prefix_value depth_left bytes.now) counts.old counts.new result }
-{
-    match spelled_arcs_at(alloc, depth_left, false, transform, bytes, counts) {
-        Err(stop) => Err(stop),
-        Ok((arcs, rest)) => {
-            let (list, texts) = arcs.into_parts();
-            drop(texts);
-            Ok((list, rest))
-        }
-    }
-}
-
 /// What is kept of the arcs of the array at the front, and what follows it; or why reading stops.
 pub(crate) fn kept_arcs_at<'a>(
     alloc: Global,

@@ -39,7 +39,7 @@ mod topologies;
 mod transforms;
 mod types;
 
-pub use arcs::{arc_at, arcs_at};
+pub use arcs::arc_at;
 pub use areas::polygon_at;
 pub use cells::place_at;
 pub use collected_features::feature_at;

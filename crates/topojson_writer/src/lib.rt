@@ -5,9 +5,7 @@
 //! that `topojson_types` has in `specs/Values.antt`; the second, of the value of a set of features (`specs/FeatureValues.antt`); the third,
 //! of the features that an object of a topology is decoded to: positions are written where a walk along the arcs reaches them, so that no
 //! list of them is made, and identifiers and properties stay where they are. Of the texts of arcs that the third's caller has
-//! (`specs/ArcTexts.antt` of `topojson_meaning`) one is copied where a line or a ring is that arc. Who has no features but what they are made of
-//! writes them by their parts, into an `Out`: `put_collection_head` puts the front of a collection,
-//! `put_feature_head` and `put_position` parts of a feature, and `head` is the front of a geometry.
+//! (`specs/ArcTexts.antt` of `topojson_meaning`) one is copied where a line or a ring is that arc.
 #![tactic(auto)]
 
 mod arc_writer;
@@ -27,9 +25,7 @@ mod topology_shapes;
 mod topology_writer;
 mod transform_writer;
 
-pub use feature_writer::{put_collection_head, put_feature_head, put_features, write_features};
+pub use feature_writer::{put_features, write_features};
 pub use laws::{features_text_is_utf8, features_text_spells_value};
-pub use position_writer::put_position;
-pub use shape_writer::head;
 pub use topology_features::write_object;
 pub use topology_writer::{put_topology, write_topology};

@@ -3,7 +3,9 @@ pub mod FeatureParts
 pub mod FeatureRows
 pub mod Features
 pub mod GeometryObjects
+pub mod LineTexts
 pub mod Objects
+pub mod PositionBytes
 pub mod Rules
 pub mod ShapeParts
 pub mod Shapes

@@ -1,5 +1,5 @@
 -- A line that is one arc whose text is known.
-use Rattle.std.proofs.Common.{◌≡◌, ℕ, zero, suc, ◌-◌, ◌<◌, ◌≤◌, ℤ, Bool, true, false, List, [], ◌∷◌, ◌++◌, length, get_or, Option, None, Some, refl, ap, sym, ◌∙◌, subst, arith, append-nil}
+use Rattle.std.proofs.Common.{◌≡◌, ℕ, zero, suc, ◌-◌, ◌<◌, ◌≤◌, ℤ, Bool, true, false, List, [], ◌∷◌, ◌++◌, length, get_or, Option, None, Some, refl, ap, sym, ◌∙◌, arith, append-nil}
 use Rattle.std.proofs.lemmas.List.{get_or_default}
 use Rattle.std.specs.Borrow.{Bor}
 use Rattle.json_value.specs.Text.{json_text}
@@ -10,7 +10,7 @@ use Rattle.topojson_types.specs.declared.transform.Transform.{Transform}
 use Rattle.topojson_types.specs.Decoding.{completed, repeated}
 use Rattle.topojson_types.specs.Topologies.{Contents}
 use Rattle.topojson_types.proofs.Opening.{arc_is}
-use Rattle.topojson_writer.specs.Decoded.{line_in}
+use Rattle.topojson_writer.specs.Decoded.{arc_in}
 use Rattle.topojson_writer.specs.FeatureValues.{positions_value}
 
 -- the text of the arc of this number, where there is no transform
@@ -32,24 +32,16 @@ spelled transform (arc ∷ arcs) (t ∷ texts) (suc number) text h within found 
     record { within = omega (arith, later.within); plain = later.plain; is = later.is }
 
 -- a ring of four positions or more is not filled up
-completed_long : (closed : Bool) (ps : List Point) → (closed ≡ true → 4 ≤ length ps) → completed closed ps ≡ ps
+pub completed_long : (closed : Bool) (ps : List Point) → (closed ≡ true → 4 ≤ length ps) → completed closed ps ≡ ps
 completed_long false ps long = refl
 completed_long true [] long = refl
 completed_long true (p ∷ ps) long =
     let none : 4 - length (p ∷ ps) ≡ 0 = omega (arith, long refl) in
     ap (λ n. (p ∷ ps) ++ repeated n p) none ∙ append-nil (p ∷ ps)
 
-only : (refs : List ℤ) (r : ℤ) → 1 ≤ length refs → length refs < 2 → r ≡ get_or refs 0 r → r ∷ [] ≡ refs
-only [] r some few is = absurd (omega arith)
-only (s ∷ []) r some few is = ap (λ x. x ∷ []) is
-only (s ∷ u ∷ refs) r some few is = absurd (omega arith)
-
-module _ (t : Contents) (refs : List ℤ) (r : ℤ) (one : 1 ≤ length refs) (alone : length refs < 2) (is : r ≡ get_or refs 0 r) (forwards : false ≡ is_reversed r) where
-  pub line_spelled : (closed : Bool) (number : ℕ) (text : List ℕ) → number ≡ number_of r → Spells t.transform t.arcs number text
-      → (closed ≡ true → 4 ≤ length (get_or t.arcs number [])) → text ≡ json_text (positions_value (line_in t closed refs))
-  line_spelled closed number text e h long =
+module _ (t : Contents) (r : ℤ) (number : ℕ) (text : List ℕ) (h : Spells t.transform t.arcs number text) where
+  pub arc_spelled : number ≡ number_of r → false ≡ is_reversed r → text ≡ json_text (positions_value (arc_in t r))
+  arc_spelled e forwards =
       let arc = get_or t.arcs number [] in
       let there : arc ≡ arc_at t.arcs r = arc_is t.arcs r number false arc (rw e at h.within) e forwards (get_or_default t.arcs number [] arc h.within) in
-      let line : completed closed (arc ++ []) ≡ arc = completed_long closed (arc ++ []) (rw (append-nil arc) long) ∙ append-nil arc in
-      subst (λ refs. text ≡ json_text (positions_value (line_in t closed refs))) (only refs r one alone is)
-      (rw (h.plain, ← there) (h.is ∙ ap (λ ps. json_text (positions_value ps)) (sym line)))
+      rw (h.plain, ← there) h.is

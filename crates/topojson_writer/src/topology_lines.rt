@@ -1,11 +1,12 @@
 // Cells, lines and rings of a topology, written as positions (RFC 7946, section 3.1).
-ghost use Rattle.std.specs.Prelude.{◌≡◌, ◌++◌, true, length, map};
+ghost use Rattle.std.specs.Prelude.{◌≡◌, ◌++◌, ◌∷◌, [], ℤ, false, true, length, map};
 ghost use Rattle.std.specs.List.{AllByRecursion};
 ghost use Rattle.std.specs.Option.{option_copied};
 ghost use Rattle.json_value.specs.Text.{json_text};
 ghost use Rattle.json_writer.specs.Standing.{Start};
 ghost use Rattle.topojson_writer.specs.FeatureValues.{positions_value, lines_value, polygons_value};
-ghost use Rattle.topojson_writer.specs.Decoded.{line_in};
+ghost use Rattle.topojson_writer.specs.Decoded.{arc_in, line_in};
+ghost use Rattle.topojson_writer.specs.LineTexts.{Begins, added, positions_text};
 ghost use Rattle.topojson_types.specs.Transforms.{place};
 ghost use Rattle.topojson_types.specs.Validity.{AreInRange, IsPlace};
 ghost use Rattle.topojson_types.specs.LinesAndRings.{IsLineOrRing};
@@ -14,7 +15,7 @@ use crate::line_source::LineSource;
 use crate::position_writer::put_position;
 use json_value::Items;
 use json_writer::{Out, put_comma};
-use topojson_types::{ArcRef, Cell, Transform, position_at};
+use topojson_types::{ArcRef, Cell, LineWalk, Transform, position_at};
 
 /// Puts where cells lie.
 pub fn put_cells<O: Out>(transform: Option<&Transform>, cells: &[Cell], out: &mut O)
@@ -33,6 +34,20 @@ pub fn put_cells<O: Out>(transform: Option<&Transform>, cells: &[Cell], out: &mu
     out.put(b"]");
 }
 
+/// Puts the positions of a walk, each behind a comma, but the first of a line.
+#[inline(always)]
+fn put_walk<O: Out>(walk: LineWalk<'_>, is_first: bool, out: &mut O)
+    ensures text { O.text out.new ≡ O.text out.old ++ positions_text is_first walk.entry }
+    ensures kept { (start : Start) → O.good out.old start → O.good out.new start }
+{
+    let mut is_first = is_first;
+    'positions: for position in walk {
+        put_comma(is_first, out);
+        is_first = false;
+        put_position(position, out);
+    }
+}
+
 /// Puts the positions of a line, or of a ring, if it is closed, one by one.
 fn put_positions<O: Out>(topology: &LineSource<'_>, refs: &[ArcRef], is_closed: bool, out: &mut O)
     requires { AreInRange (length topology.now.arcs) refs.now }
@@ -40,24 +55,52 @@ fn put_positions<O: Out>(topology: &LineSource<'_>, refs: &[ArcRef], is_closed: 
     ensures kept { (start : Start) → O.good out.old start → O.good out.new start }
 {
     out.put(b"[");
-    let mut is_first = true;
-    'positions: for position in topology.walk(refs, is_closed) {
-        put_comma(is_first, out);
-        is_first = false;
-        put_position(position, out);
+    put_walk(topology.walk(refs, is_closed), true, out);
+    out.put(b"]");
+}
+
+/// Puts what the arc of this only index adds to a line. Where its text is known, that is copied.
+fn put_arc<O: Out>(topology: &LineSource<'_>, arc: &[ArcRef], is_first: bool, out: &mut O)
+    requires { AreInRange (length topology.now.arcs) arc.now }
+    ensures text { (r : ℤ) → arc.now ≡ r ∷ [] → O.text out.new ≡ O.text out.old ++ added is_first (arc_in topology.now r) }
+    ensures kept { (start : Start) → O.good out.old start → O.good out.new start }
+{
+    if let Some(text) = topology.added_text(arc, is_first) {
+        out.put(text);
+        return;
+    }
+    let mut walk = topology.walk(arc, false);
+    if is_first {
+        out.put(b"[");
+    } else {
+        walk.next();
+    }
+    put_walk(walk, is_first, out);
+}
+
+/// Puts the positions of a line by its arcs.
+fn put_arcs<O: Out>(topology: &LineSource<'_>, refs: &[ArcRef], out: &mut O)
+    requires range { AreInRange (length topology.now.arcs) refs.now }
+    requires begins { Begins topology.now refs.now }
+    ensures text { O.text out.new ≡ O.text out.old ++ json_text (positions_value (line_in topology.now false refs.now)) }
+    ensures kept { (start : Start) → O.good out.old start → O.good out.new start }
+{
+    'arcs: for at in 0..refs.len() {
+        put_arc(topology, &refs[at..at + 1], at == 0, out);
     }
     out.put(b"]");
 }
 
-/// Puts the positions of a line, or of a ring, if it is closed. Where their text is known it is copied.
+/// Puts the positions of a line, or of a ring, if it is closed. Where texts of arcs are known they are copied.
 pub fn put_line<O: Out>(topology: &LineSource<'_>, refs: &[ArcRef], is_closed: bool, out: &mut O)
     requires { AreInRange (length topology.now.arcs) refs.now }
     ensures text { O.text out.new ≡ O.text out.old ++ json_text (positions_value (line_in topology.now is_closed refs.now)) }
     ensures kept { (start : Start) → O.good out.old start → O.good out.new start }
 {
-    match topology.text_of(refs, is_closed) {
-        Some(text) => out.put(text),
-        None => put_positions(topology, refs, is_closed, out),
+    if topology.is_of_arcs(refs, is_closed) {
+        put_arcs(topology, refs, out);
+    } else {
+        put_positions(topology, refs, is_closed, out);
     }
 }
 

@@ -1,5 +1,5 @@
 // The least box that holds the positions of a topology.
-ghost use Rattle.std.specs.Prelude.{◌≡◌};
+ghost use Rattle.std.specs.Prelude.{◌≡◌, Some};
 ghost use Rattle.std.specs.Int.{int_min, int_max};
 ghost use Rattle.std.specs.List.{AllByRecursion};
 ghost use Rattle.std.specs.Option.{option_copied};
@@ -43,6 +43,20 @@ fn widen(bounds: Option<Corners>, position: Position) -> Corners
     }
 }
 
+/// The box with where these cells lie.
+fn around_cells(transform: Option<&Transform>, corners: Corners, cells: &[Cell]) -> Corners
+    requires { AllByRecursion (IsPlace (option_copied transform)) cells.now }
+    ensures { Some result ≡ widened_by (option_copied transform.entry) (Some corners) cells.now }
+{
+    let (mut least, mut greatest) = corners;
+    'cells: for cell in cells {
+        let position = position_at(transform, *cell);
+        least = lesser(least, position);
+        greatest = greater(greatest, position);
+    }
+    (least, greatest)
+}
+
 /// With where these cells lie.
 fn with_cells(
     transform: Option<&Transform>,
@@ -52,11 +66,11 @@ fn with_cells(
     requires { AllByRecursion (IsPlace (option_copied transform)) cells.now }
     ensures { result ≡ widened_by (option_copied transform.entry) bounds cells.now }
 {
-    let mut all = bounds;
-    'cells: for cell in cells {
-        all = Some(widen(all, position_at(transform, *cell)));
-    }
-    all
+    let Some((first, later)) = cells.split_first() else {
+        return bounds;
+    };
+    let corners = widen(bounds, position_at(transform, *first));
+    Some(around_cells(transform, corners, later))
 }
 
 /// With where the cells of arcs lie.

@@ -40,8 +40,9 @@ is dropped as 'outer'. With '--keep-shapes' the largest outer ring of a feature 
 
 A topology that 'mapchain build' wrote without areas becomes, byte for byte, what
 'mapchain build' writes of the same files with the areas that are given here, and with
-'--no-crossings' and '--keep-shapes' where they are given; and so with '--keep', unless
-that topology has no arcs of a hole that was dropped as 'outer', and neither is given.",
+'--no-crossings' and '--keep-shapes' where they are given; and so with '--keep', if one
+of these two is given, or no arc ran only along holes that were dropped as 'outer':
+'mapchain build' counts such arcs, and that topology has none of them.",
     after: "Example:
   mapchain simplify --min-area 0.0001 map.topojson > small.topojson",
     after_long: "Example:

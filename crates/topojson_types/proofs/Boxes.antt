@@ -8,7 +8,7 @@ use Rattle.owned_values.proofs.Elements.{all_append, all_joined, all_map, all_pa
 use Rattle.owned_values.proofs.Lists.{drop_here}
 use Rattle.geometry.specs.Lists.{joined}
 use Rattle.geometry.specs.Points.{Point, IsPosition}
-use Rattle.geometry.specs.Units.{position_limit}
+use Rattle.geometry.specs.Units.{cell_limit, position_limit}
 use Rattle.topojson_types.specs.declared.feature.TopoFeature.{TopoFeature}
 use Rattle.topojson_types.specs.declared.object.TopoObject.{TopoObject}
 use Rattle.topojson_types.specs.declared.object.TopoObject.TheVariants.{One, Many}
@@ -28,42 +28,41 @@ max_within : (a x : ℤ) (bound : ℕ) → unsigned_abs a ≤ bound → unsigned
 max_within a x bound h k = omega (arith, ints, clamps, h, k)
 
 -- as they are passed and taken
-pub min_passed : (a x p q r : ℤ) → p ≡ a → q ≡ x → unsigned_abs p ≤ position_limit → unsigned_abs q ≤ position_limit
+pub min_passed : (a x p q r : ℤ) → p ≡ a → q ≡ x → unsigned_abs p ≤ cell_limit → unsigned_abs q ≤ cell_limit
     → r ≡ int_min (to_z w64 (of_z w64 p)) (to_z w64 (of_z w64 q)) → to_z w64 (of_z w64 r) ≡ int_min a x
 min_passed a x p q r e f h k is = omega (arith, ints, clamps, e, f, h, k, is)
 
-pub max_passed : (a x p q r : ℤ) → p ≡ a → q ≡ x → unsigned_abs p ≤ position_limit → unsigned_abs q ≤ position_limit
+pub max_passed : (a x p q r : ℤ) → p ≡ a → q ≡ x → unsigned_abs p ≤ cell_limit → unsigned_abs q ≤ cell_limit
     → r ≡ int_max (to_z w64 (of_z w64 p)) (to_z w64 (of_z w64 q)) → to_z w64 (of_z w64 r) ≡ int_max a x
 max_passed a x p q r e f h k is = omega (arith, ints, clamps, e, f, h, k, is)
 
 -- ---- loops
 
-module _ (transform : Option Transform) where
-  widened-append : (b : Option Corners) (cs ds : List Point) → widened_by transform b (cs ++ ds) ≡ widened_by transform (widened_by transform b cs) ds
-  widened-append b [] ds = refl
-  widened-append b (c ∷ cs) ds = widened-append (Some (widened b (place transform c))) cs ds
+widened-append : (b : Option Corners) (cs ds : List Point) → widened_by b (cs ++ ds) ≡ widened_by (widened_by b cs) ds
+widened-append b [] ds = refl
+widened-append b (c ∷ cs) ds = widened-append (Some (widened b c)) cs ds
 
-  both : (b arcs all : Option Corners) (cs ds : List Point) → arcs ≡ widened_by transform b cs → all ≡ widened_by transform arcs ds → all ≡ widened_by transform b (cs ++ ds)
-  both b arcs all cs ds e f = f ∙ ap (λ z. widened_by transform z ds) e ∙ sym (widened-append b cs ds)
+both : (b arcs all : Option Corners) (cs ds : List Point) → arcs ≡ widened_by b cs → all ≡ widened_by arcs ds → all ≡ widened_by b (cs ++ ds)
+both b arcs all cs ds e f = f ∙ ap (λ z. widened_by z ds) e ∙ sym (widened-append b cs ds)
 
 -- what comes of those that are left is what comes of all
-pub record Left {A : Type 0} (transform : Option Transform) (cells : A → List Point) (xs : List A) (i : ℕ) (b all : Option Corners) : Type 0 where
-  pub whole : widened_by transform all (joined (map cells (drop i xs))) ≡ widened_by transform b (joined (map cells xs))
+pub record Left {A : Type 0} (cells : A → List Point) (xs : List A) (i : ℕ) (b all : Option Corners) : Type 0 where
+  pub whole : widened_by all (joined (map cells (drop i xs))) ≡ widened_by b (joined (map cells xs))
 
-pub turns : {A : Type 0} (transform : Option Transform) (cells : A → List Point) (xs : List A) (i : ℕ) (b all with_x : Option Corners) (x : A) → i < length xs → x ≡ get_or xs i x
-    → Left transform cells xs i b all → with_x ≡ widened_by transform all (cells x) → Left transform cells xs (i + 1) b with_x
-turns transform cells xs i b all with_x x h is so e =
+pub turns : {A : Type 0} (cells : A → List Point) (xs : List A) (i : ℕ) (b all with_x : Option Corners) (x : A) → i < length xs → x ≡ get_or xs i x
+    → Left cells xs i b all → with_x ≡ widened_by all (cells x) → Left cells xs (i + 1) b with_x
+turns cells xs i b all with_x x h is so e =
     record {
       whole =
-          ap (λ z. widened_by transform z (joined (map cells (drop (i + 1) xs)))) e
-          ∙ sym (widened-append transform all (cells x) (joined (map cells (drop (i + 1) xs))))
-          ∙ sym (ap (λ ys. widened_by transform all (joined (map cells ys))) (drop_here xs i x h is))
+          ap (λ z. widened_by z (joined (map cells (drop (i + 1) xs)))) e
+          ∙ sym (widened-append all (cells x) (joined (map cells (drop (i + 1) xs))))
+          ∙ sym (ap (λ ys. widened_by all (joined (map cells ys))) (drop_here xs i x h is))
           ∙ so.whole;
     }
 
-pub ends : {A : Type 0} (transform : Option Transform) (cells : A → List Point) (xs : List A) (i : ℕ) (b all : Option Corners) → length xs ≤ i → Left transform cells xs i b all
-    → all ≡ widened_by transform b (joined (map cells xs))
-ends transform cells xs i b all h so = sym (at_drop_all (λ ys. widened_by transform all (joined (map cells ys))) xs i h) ∙ so.whole
+pub ends : {A : Type 0} (cells : A → List Point) (xs : List A) (i : ℕ) (b all : Option Corners) → length xs ≤ i → Left cells xs i b all
+    → all ≡ widened_by b (joined (map cells xs))
+ends cells xs i b all h so = sym (at_drop_all (λ ys. widened_by all (joined (map cells ys))) xs i h) ∙ so.whole
 
 -- ---- lists of cells
 
@@ -80,9 +79,9 @@ lists_of css = ap joined (map-id css)
 pub there : (X : Point → Type 0) (s t : TopoShape) (cs : List Point) → s ≡ t → places t ≡ cs → AllByRecursion X (places s) → AllByRecursion X cs
 there X s t cs is at h = subst (AllByRecursion X) (ap places is ∙ at) h
 
-pub of_kind : (transform : Option Transform) (b : Option Corners) (s t : TopoShape) (cs : List Point) (r : Option Corners) → s ≡ t → places t ≡ cs
-    → r ≡ widened_by transform b cs → r ≡ widened_by transform b (places s)
-of_kind transform b s t cs r is at e = e ∙ sym (ap (λ u. widened_by transform b (places u)) is ∙ ap (widened_by transform b) at)
+pub of_kind : (b : Option Corners) (s t : TopoShape) (cs : List Point) (r : Option Corners) → s ≡ t → places t ≡ cs
+    → r ≡ widened_by b cs → r ≡ widened_by b (places s)
+of_kind b s t cs r is at e = e ∙ sym (ap (λ u. widened_by b (places u)) is ∙ ap (widened_by b) at)
 
 -- ---- what the box is
 
@@ -94,22 +93,25 @@ from_corners b ps =
       record { x = fold int_max b.1.x xs; y = fold int_max b.1.y ys },
     )
 
-box_from : (transform : Option Transform) (b : Corners) (cs : List Point) → widened_by transform (Some b) cs ≡ Some (from_corners b (map (place transform) cs))
-box_from transform b [] = refl
-box_from transform b (c ∷ cs) = box_from transform (widened (Some b) (place transform c)) cs
+box_from : (b : Corners) (cs : List Point) → widened_by (Some b) cs ≡ Some (from_corners b cs)
+box_from b [] = refl
+box_from b (c ∷ cs) = box_from (widened (Some b) c) cs
 
-box_is : (transform : Option Transform) (cs : List Point) → widened_by transform None cs ≡ box (map (place transform) cs)
-box_is transform [] = refl
-box_is transform (c ∷ cs) = box_from transform (place transform c, place transform c) cs
+box_is : (cs : List Point) → widened_by None cs ≡ box cs
+box_is [] = refl
+box_is (c ∷ cs) = box_from (c, c) cs
 
-pub found : (t : Contents) (arcs all : Option Corners) → arcs ≡ widened_by t.transform None (joined t.arcs) → all ≡ widened_by t.transform arcs (objects_places t.objects) → all ≡ bounds t
-unfolding bounds
-found t arcs all e f = both t.transform None arcs all (joined t.arcs) (objects_places t.objects) e f ∙ box_is t.transform (joined t.arcs ++ objects_places t.objects)
+-- the cells of a topology
+abbrev pub cells_of : Contents → List Point
+cells_of t = joined t.arcs ++ objects_places t.objects
+
+pub found : (t : Contents) (arcs all : Option Corners) → arcs ≡ widened_by None (joined t.arcs) → all ≡ widened_by arcs (objects_places t.objects) → all ≡ box (cells_of t)
+found t arcs all e f = both None arcs all (joined t.arcs) (objects_places t.objects) e f ∙ box_is (cells_of t)
 
 -- ---- valid topologies
 
 module _ (t : Contents) (is : IsTopology t) where
-  pub arcs_there : AllByRecursion (IsPlace t.transform) (joined t.arcs)
+  arcs_there : AllByRecursion (IsPlace t.transform) (joined t.arcs)
   arcs_there = all_joined (IsPlace t.transform) t.arcs (all_weaker (IsArc t.transform) (AllByRecursion (IsPlace t.transform)) (λ cs h. h.1) t.arcs is.arcs)
 
   features_there : (fs : List TopoFeature) → AllByRecursion (IsFeature t.transform) fs → AllByRecursion (IsPlace t.transform) (features_places fs)
@@ -121,10 +123,13 @@ module _ (t : Contents) (is : IsTopology t) where
   object_there (One f) h = features_there (f ∷ []) (h.0, tt)
   object_there (Many fs) h = features_there fs h
 
-  pub objects_there : AllByRecursion (IsPlace t.transform) (objects_places t.objects)
+  objects_there : AllByRecursion (IsPlace t.transform) (objects_places t.objects)
   objects_there =
       all_parts (IsPlace t.transform) (λ (o : List ℕ × TopoObject). features_places (object_features o.1)) t.objects
       (all_weaker (λ (o : List ℕ × TopoObject). IsObject t.transform o.1) (λ o. AllByRecursion (IsPlace t.transform) (features_places (object_features o.1))) (λ o k. object_there o.1 k) t.objects is.objects)
+
+  pub cells_there : AllByRecursion (IsPlace t.transform) (cells_of t)
+  cells_there = all_append (IsPlace t.transform) (joined t.arcs) (objects_places t.objects) arcs_there objects_there
 
 placed_is : (transform : Option Transform) (c : Point) → IsPlace transform c → IsPosition (place transform c)
 placed_is None c h = h
@@ -132,9 +137,8 @@ placed_is (Some t) c h = h.1
 
 pub positions_are : (t : Contents) → IsTopology t → AllByRecursion IsPosition (positions t)
 positions_are t is =
-    all_map IsPosition (place t.transform) (joined t.arcs ++ objects_places t.objects)
-    (all_weaker (IsPlace t.transform) (λ c. IsPosition (place t.transform c)) (placed_is t.transform) (joined t.arcs ++ objects_places t.objects)
-    (all_append (IsPlace t.transform) (joined t.arcs) (objects_places t.objects) (arcs_there t is) (objects_there t is)))
+    all_map IsPosition (place t.transform) (cells_of t)
+    (all_weaker (IsPlace t.transform) (λ c. IsPosition (place t.transform c)) (placed_is t.transform) (cells_of t) (cells_there t is))
 
 -- ---- its corners are positions
 

@@ -5,6 +5,7 @@ pub mod Parts
 pub mod SumsBack
 pub mod ExactTexts
 pub mod FarUnits
+pub mod GridOrder
 pub mod Grids
 pub mod WholeNumbers
 pub mod Decoded

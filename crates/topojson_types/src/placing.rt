@@ -1,11 +1,12 @@
 // Where cells lie.
-ghost use Rattle.std.specs.Prelude.{◌≡◌, ◌≤◌, ◌^◌, ℤ, ◌+ℤ◌, ◌*ℤ◌, IfSome, IfNone, ◌<◌, unsigned_abs};
+ghost use Rattle.std.specs.Prelude.{◌≡◌, ◌≤◌, ◌^◌, ℤ, ◌+ℤ◌, ◌*ℤ◌, IfSome, IfNone, Some, ◌<◌, unsigned_abs};
 ghost use Rattle.std.specs.Option.{option_copied};
 ghost use Rattle.decimal_text.specs.Rounding.{nearest};
 ghost use Rattle.geometry.specs.Units.{fine_units, position_limit};
 ghost use Rattle.topojson_types.specs.Transforms as spec;
 ghost use Rattle.topojson_types.specs.TransformNumbers.{to_units, stands_for};
 ghost use Rattle.topojson_types.specs.Validity.{IsPlace};
+ghost use Rattle.topojson_types.specs.Widening.{widened};
 
 use crate::cell::Cell;
 use crate::transform::Transform;
@@ -126,4 +127,14 @@ pub fn position_at(transform: Option<&Transform>, cell: Cell) -> Position
         Some(position) => position,
         None => unreachable!(),
     }
+}
+
+/// The corner of the lesser numbers of two positions, and that of the greater.
+pub fn ordered(one: Position, other: Position) -> (Position, Position)
+    ensures { result ≡ widened (Some (one, one)) other }
+{
+    (
+        Position::at(one.x().min(other.x()), one.y().min(other.y())),
+        Position::at(one.x().max(other.x()), one.y().max(other.y())),
+    )
 }

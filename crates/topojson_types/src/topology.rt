@@ -8,7 +8,7 @@ ghost use Rattle.topojson_types.specs.Validity.{IsTopology};
 use crate::bounding::{with_arcs, with_objects};
 use crate::cell::Cell;
 use crate::object::TopoObject;
-use crate::placing::position_at;
+use crate::placing::{ordered, position_at};
 use crate::transform::Transform;
 use geojson_types::Position;
 use json_value::{Items, OwnText};
@@ -93,9 +93,13 @@ impl Topology {
     pub fn bounds(&self) -> Option<(Position, Position)>
         ensures { result ≡ bounds_of self.now }
     {
+        let of_arcs = with_arcs(None, self.lines.as_slice());
+        let (least, greatest) = with_objects(of_arcs, self.shown.as_slice())?;
         let transform = self.grid.as_ref();
-        let of_arcs = with_arcs(transform, None, self.lines.as_slice());
-        with_objects(transform, of_arcs, self.shown.as_slice())
+        Some(ordered(
+            position_at(transform, least),
+            position_at(transform, greatest),
+        ))
     }
 
     /// Its objects, its arcs and its transform, by value.

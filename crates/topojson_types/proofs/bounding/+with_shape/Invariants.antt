@@ -1,4 +1,3 @@
-use Rattle.std.specs.Option.{option_copied}
 use Rattle.geojson_types.specs.Nesting.{nesting}
 use Rattle.topojson_types.specs.Validity.{places}
 use Rattle.topojson_types.proofs.Boxes.{Left}
@@ -8,4 +7,4 @@ abbrev pub decreases-with_shape : goal.decreases-with_shape
 decreases-with_shape l = nesting l.shape.now
 
 abbrev pub invariant-shapes : goal.invariant-shapes
-invariant-shapes l = Left (option_copied l.transform) places l.shape-items l.shape-index l.fn.bounds l.all
+invariant-shapes l = Left places l.shape-items l.shape-index l.fn.bounds l.all

@@ -1,8 +1,7 @@
 use Rattle.std.proofs.Common.{Some, [], ◌∷◌}
-use Rattle.std.specs.Option.{option_copied}
 use Rattle.geometry.specs.Points.{Point}
 use Rattle.topojson_types.proofs.Boxes.{Left}
 use Rattle.topojson_types.proofs.bounding.around_cells.Given as goal
 
 abbrev pub invariant-cells : goal.invariant-cells
-invariant-cells l = Left (option_copied l.transform) (λ (c : Point). c ∷ []) l.cells l.cell-index (Some l.fn.corners) (Some (l.least, l.greatest))
+invariant-cells l = Left (λ (c : Point). c ∷ []) l.cells l.cell-index (Some l.fn.corners) (Some (l.least, l.greatest))

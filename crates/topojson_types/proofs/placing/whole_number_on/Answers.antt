@@ -1,4 +1,4 @@
-use Rattle.std.proofs.Common.{◌≡◌, ℤ, ◌*ℤ◌, ◌+ℤ◌, ◌∙◌, Option, Some, None, refl, to_z, of_z, arith, rules}
+use Rattle.std.proofs.Common.{◌≡◌, ℤ, ◌*ℤ◌, ◌∙◌, Option, Some, None, refl, to_z, of_z, arith, rules}
 use Rattle.std.proofs.lemmas.Int.{ints}
 use Rattle.std.specs.Option.{SomeIff, IfSome}
 use mir.Syntax.{w64}

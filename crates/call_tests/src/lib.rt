@@ -4,7 +4,7 @@
 //! `effective_area`, `sharing` tests what `junctions` and `arc_table` say of their tables, `simplifying` and `protecting` test `topo_model`,
 //! `finding` and `guarding` test `guarded_reduction`, `crossing` tests `segment_crossings`, `counting` tests how often the reducer is called that
 //! `mapchain_engine` is lent, and `unused` tests calls of `byte_ends`,
-//! `decimal_text`, `effective_area`, `linework` and `topojson_types`.
+//! `decimal_text`, `effective_area`, `linework`, `topo_model` and `topojson_types`.
 #![tactic(auto)]
 
 #[cfg(test)]

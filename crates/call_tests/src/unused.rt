@@ -1,10 +1,18 @@
 // The calls that may run out of memory and that no run of the program makes, and the numbers that two of them answer.
-use byte_ends::{MemoryDrain, Sink};
+ghost use Rattle.std.specs.Prelude.{◌≡◌, IfOk, map};
+ghost use Rattle.arc_table.specs.Arcs.{table_of};
+ghost use Rattle.cutter.specs.Slices.{split_of};
+ghost use Rattle.linework.specs.Linework.{linework};
+
+use arc_table::Table;
+use byte_ends::{Memory, MemoryDrain, Sink};
+use cutter::cut;
 use decimal_json::{Items, NumText};
 use effective_area::{HeapLinks, read_threshold, twice_area};
 use geojson_types::{Layer, Position};
-use linework::{Lines, OfLayers};
+use linework::{Lines, OfLayers, Vertices};
 use std::alloc::Global;
+use topo_model::assemble;
 use topojson_types::{Cell, SumFault, deltas, sums};
 
 fn memory_takes_bytes(alloc: Global) -> bool {
@@ -24,6 +32,23 @@ fn a_number_text_is_read(alloc: Global) -> bool {
 fn layers_without_names_have_lines(alloc: Global) -> bool {
     let features = Items::of(Vec::new(alloc));
     Lines::of(alloc, &[Layer { features }]).is_ok()
+}
+
+/// The arcs of the lines and rings of layers.
+fn table_of_layers(alloc: Global, layers: &[Layer]) -> Result<Table, Memory>
+    ensures { IfOk result (λ table. table ≡ table_of (map (split_of (linework layers.now)) (linework layers.now))) }
+{
+    let lines = Lines::of(alloc, layers)?;
+    let vertices = Vertices::of(alloc, &lines)?;
+    let pieces = cut(alloc, lines, &vertices)?;
+    Table::build(alloc, pieces)
+}
+
+fn no_layers_are_assembled(alloc: Global) -> bool {
+    match table_of_layers(alloc, &[]) {
+        Ok(table) => assemble(alloc, Vec::new(alloc), table, &[], 0).is_ok(),
+        Err(_) => false,
+    }
 }
 
 // The cells of an arc, and their differences (TopoJSON 1.0, section 2.1.3).
@@ -76,6 +101,7 @@ fn calls_answer(rt: HostRuntime) {
     assert!(rt; memory_takes_bytes(rt.alloc()));
     assert!(rt; a_number_text_is_read(rt.alloc()));
     assert!(rt; layers_without_names_have_lines(rt.alloc()));
+    assert!(rt; no_layers_are_assembled(rt.alloc()));
     assert!(rt; cells_and_differences_give_each_other(rt.alloc()));
     assert!(rt; a_sum_past_the_grid_is_refused(rt.alloc()));
     assert!(rt; areas_have_thresholds(rt.alloc()));

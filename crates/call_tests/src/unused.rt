@@ -4,16 +4,23 @@ ghost use Rattle.arc_table.specs.Arcs.{table_of};
 ghost use Rattle.cutter.specs.Slices.{split_of};
 ghost use Rattle.linework.specs.Linework.{linework};
 
+use crate::simplifying::topology_of;
 use arc_table::Table;
-use byte_ends::{Memory, MemoryDrain, Sink};
+use byte_ends::devices::{CutReader, Fault};
+use byte_ends::{FromRead, Memory, MemoryDrain, Sink, Source};
 use cutter::cut;
 use decimal_json::{Items, NumText};
 use effective_area::{HeapLinks, read_threshold, twice_area};
 use geojson_types::{Layer, Position};
 use linework::{Lines, OfLayers, Vertices};
+use mapchain_engine::stat_with_crossings;
 use std::alloc::Global;
 use topo_model::assemble;
-use topojson_types::{Cell, SumFault, deltas, sums};
+use topojson_types::{Cell, SumFault, deltas, features, sums};
+
+// One line that crosses itself, as an arc.
+const TOPOLOGY: &[u8] =
+    b"{\"type\":\"Topology\",\"objects\":{\"a\":{\"type\":\"LineString\",\"arcs\":[0]}},\"arcs\":[[[0,0],[2,0],[2,2],[1,-1]]]}";
 
 fn memory_takes_bytes(alloc: Global) -> bool {
     let mut sink = Sink::new(MemoryDrain::new(alloc));
@@ -49,6 +56,18 @@ fn no_layers_are_assembled(alloc: Global) -> bool {
         Ok(table) => assemble(alloc, Vec::new(alloc), table, &[], 0).is_ok(),
         Err(_) => false,
     }
+}
+
+fn an_object_has_features(alloc: Global) -> bool {
+    match topology_of(alloc, TOPOLOGY) {
+        Some(topology) => features(alloc, &topology, "a").is_ok(),
+        None => false,
+    }
+}
+
+fn a_file_has_crossings(alloc: Global) -> bool {
+    let mut source = Source::new(FromRead::new(CutReader::new(TOPOLOGY, 64, Fault::Never)));
+    stat_with_crossings(alloc, &mut source).is_ok()
 }
 
 // The cells of an arc, and their differences (TopoJSON 1.0, section 2.1.3).
@@ -102,6 +121,8 @@ fn calls_answer(rt: HostRuntime) {
     assert!(rt; a_number_text_is_read(rt.alloc()));
     assert!(rt; layers_without_names_have_lines(rt.alloc()));
     assert!(rt; no_layers_are_assembled(rt.alloc()));
+    assert!(rt; an_object_has_features(rt.alloc()));
+    assert!(rt; a_file_has_crossings(rt.alloc()));
     assert!(rt; cells_and_differences_give_each_other(rt.alloc()));
     assert!(rt; a_sum_past_the_grid_is_refused(rt.alloc()));
     assert!(rt; areas_have_thresholds(rt.alloc()));

@@ -1,14 +1,12 @@
 -- The order of corners is total and exact, so the least of several is the same in any order of them.
-use Rattle.std.proofs.Common.{◌≡◌, ℤ, Bool, true, false, List, [], ◌∷◌, ◌++◌, Option, Some, refl, ap, sym, ◌∙◌, if◌then◌else◌, arith}
+use Rattle.std.proofs.Common.{◌≡◌, Bool, true, false, List, [], ◌∷◌, ◌++◌, Option, Some, refl, ap, sym, ◌∙◌, if◌then◌else◌, arith}
 use Rattle.std.specs.Cmp.{IsTotalOrder, IsStrictWeakOrder}
-use Rattle.std.specs.Ordering.{ordering_then, ordering_reverse, is_lt}
-use Rattle.std.specs.declared.cmp.Ordering.{Ordering}
-use Rattle.std.specs.declared.cmp.Ordering.TheVariants.{Less, Equal, Greater}
+use Rattle.std.specs.Ordering.{is_lt}
+use Rattle.std.specs.declared.cmp.Ordering.TheVariants.{Equal}
 use Rattle.std.proofs.lemmas.Cmp.{on_total, then_total, nat_cmp_total, int_cmp_total}
 use Rattle.std.proofs.lemmas.List.MinMax.{ranks_by}
-use Rattle.std.proofs.lemmas.Map.Lookups.{exact_signed, exact_unsigned}
-use Rattle.geometry.specs.Order.{point_cmp}
-use Rattle.geometry.specs.Points.{Point}
+use Rattle.std.proofs.lemmas.Map.Lookups.{exact_unsigned}
+use Rattle.geometry.proofs.Points.{point_exact, then_equal}
 use Rattle.elimination_meaning.specs.Elimination.{Corner, corner_cmp, is_before, lesser, least}
 
 pub corner_total : IsTotalOrder corner_cmp
@@ -19,13 +17,6 @@ corner_total = then_total (on_total (λ c. c.area) nat_cmp_total) (then_total
 before_order : IsStrictWeakOrder is_before
 unfolding is_before
 before_order = ranks_by corner_total (λ c. c)
-
--- both parts of a compound comparison tie
-then_equal : (p q : Ordering) → ordering_then p q ≡ Equal → (p ≡ Equal) × (q ≡ Equal)
-then_equal p q h = grind arith
-
-pub point_exact : (p q : Point) → point_cmp p q ≡ Equal → p ≡ q
-point_exact p q h = grind (arith, then_equal, exact_signed)
 
 corner_exact : (c d : Corner) → corner_cmp c d ≡ Equal → c ≡ d
 corner_exact c d h = grind (arith, then_equal, exact_unsigned c.area d.area, exact_unsigned c.index d.index, point_exact c.point d.point)

@@ -7,7 +7,7 @@ use Rattle.geometry.specs.Lists.{map_some, interior, AreDistinct}
 use Rattle.geometry.specs.Order.{point_cmp}
 use Rattle.geometry.specs.Points.{Point}
 use Rattle.elimination_meaning.specs.Elimination.{Vertex, Corner, corner_at, corners_from, corners, is_before, lesser, least, without, without_under, next, eliminate}
-use Rattle.elimination_meaning.proofs.Order.{point_exact}
+use Rattle.geometry.proofs.Points.{point_exact}
 use Rattle.elimination_meaning.proofs.Steps.{vertex, vertex_of, Holds, least_holds, corner_vertices, next_sub}
 use Rattle.elimination_meaning.proofs.Sublists.{sub_tail, sub_all_but_last, sub_map, sub_apart}
 use Rattle.elimination_meaning.proofs.Turned.{go_on}

@@ -26,13 +26,13 @@ abbrev pub weigh_on : ℕ → ℕ → List Vertex → ℕ → Option Corner → 
 weigh_on n level vs i None = None
 weigh_on n level vs i (Some c) = if c.index == i then Some (max level c.area) else weight_from n (max level c.area) (without c.index vs) i
 
-over_test : (w t : ℕ) → t ≤ w → not (nat_lt w t) ≡ true
+pub over_test : (w t : ℕ) → t ≤ w → not (nat_lt w t) ≡ true
 over_test w t h = grind (arith, nat_tests)
 
-over_right : (w a t : ℕ) → t ≤ a → t ≤ max w a
+pub over_right : (w a t : ℕ) → t ≤ a → t ≤ max w a
 over_right w a t h = omega (arith, h)
 
-under_test : (w t : ℕ) → w < t → not (nat_lt w t) ≡ false
+pub under_test : (w t : ℕ) → w < t → not (nat_lt w t) ≡ false
 under_test w t h = grind (arith, nat_tests)
 
 -- from a level that isn't under the threshold on, all weights are so

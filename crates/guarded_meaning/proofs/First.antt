@@ -1,14 +1,11 @@
 -- Which corner is the next to go.
 use Rattle.std.proofs.Common.{ℕ, ◌≡◌, Bool, true, false, List, [], ◌∷◌, Option, Some, None, inl, inr, refl, ap, ◌∙◌, subst, if◌then◌else◌, arith}
-use Rattle.guarded_meaning.proofs.Names.{false_from_ne_true, both_ways, filter, in_filter, from_filter, ordering_then, ordering_reverse, is_lt, Equal, all_of, In, map_some, Vertex, NextLaw, NoNextLaw, ArcCorner, all_corners, without_at, left_by, earlier, first_corner, Guard, arc_corner_cmp, goes_before, goes, next_corner, next_arcs}
+use Rattle.guarded_meaning.proofs.Names.{false_from_ne_true, both_ways, filter, in_filter, from_filter, ordering_reverse, is_lt, Equal, all_of, In, map_some, Vertex, NextLaw, NoNextLaw, ArcCorner, all_corners, without_at, left_by, earlier, first_corner, Guard, arc_corner_cmp, goes_before, goes, next_corner, next_arcs}
 use Rattle.std.specs.declared.cmp.Ordering.{Ordering}
 use Rattle.std.proofs.lemmas.Map.Lookups.{exact_unsigned}
-use Rattle.elimination_meaning.proofs.Order.{point_exact}
+use Rattle.geometry.proofs.Points.{point_exact, then_equal}
 use Rattle.guarded_meaning.proofs.Lists.{none_passes}
 use Rattle.guarded_meaning.proofs.Order.{arc_corner_total, goes_order}
-
-then_equal : (p q : Ordering) → ordering_then p q ≡ Equal → (p ≡ Equal) × (q ≡ Equal)
-then_equal p q h = grind arith
 
 abbrev pub Alike : ArcCorner → ArcCorner → Type 0
 Alike c d = (c.arc ≡ d.arc) × (c.corner ≡ d.corner)

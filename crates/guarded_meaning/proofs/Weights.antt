@@ -1,7 +1,7 @@
 -- What stays at a threshold under a guard are the ends, what never goes, and what has a weight that isn't under it.
 use Rattle.std.proofs.Common.{◌≡◌, ℕ, zero, suc, ◌+◌, ◌<◌, ◌≤◌, max, Bool, true, false, not, ◌&&◌, ◌==◌, nat_lt, List, [], ◌∷◌, length, map, Option, Some, None, ◌⊎◌, inl, inr, refl, ap, sym, ◌∙◌, if◌then◌else◌, arith}
 use Rattle.guarded_meaning.proofs.Names.{and_parts, and_from, and_left, and_right, cases_lt, both_ways, ltb-true, lt-ltb, le-ltb, false_from_ne_true, nat_tests, filter_agree, filter, joined, Vertex, numbered, is_kept_at, ArcCorner, Place, place_at, is_place_of, without_at, left_by, Guard, goes_before, goes, next_corner, next_arcs, eliminate_arcs, KeptByWeight, weight_from, weight, passing}
-use Rattle.elimination_meaning.proofs.Weights.{filter_both, filter_all}
+use Rattle.elimination_meaning.proofs.Weights.{filter_both, filter_all, over_right, over_test, under_test}
 use Rattle.guarded_meaning.proofs.First.{next_law, no_next_law, next_is, none_is_next}
 
 -- ---- those that pass
@@ -49,15 +49,6 @@ weigh_on guard n level arcs x (Some c) = if is_place_of c x then Some (max level
 abbrev go_on : Guard → ℕ → ℕ → List (List Vertex) → Option (List (List Vertex)) → List (List Vertex)
 go_on guard n t arcs None = arcs
 go_on guard n t arcs (Some left) = eliminate_arcs guard n t left
-
-over_test : (w t : ℕ) → t ≤ w → not (nat_lt w t) ≡ true
-over_test w t h = grind (arith, nat_tests)
-
-under_test : (w t : ℕ) → w < t → not (nat_lt w t) ≡ false
-under_test w t h = grind (arith, nat_tests)
-
-over_right : (w a t : ℕ) → t ≤ a → t ≤ max w a
-over_right w a t h = omega (arith, h)
 
 less_first : (c d : ArcCorner) → d.corner.area < c.corner.area → goes_before d c ≡ true
 unfolding goes_before

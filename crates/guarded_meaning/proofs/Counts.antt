@@ -1,11 +1,11 @@
 -- No more pairs of segments meet badly when a corner that is free goes.
 use Rattle.std.proofs.Common.{◌≡◌, ℕ, ◌+◌, ◌≤◌, Bool, true, false, List, [], ◌∷◌, ◌++◌, length, map, ◌⊎◌, inl, inr, refl, ap, sym, ◌∙◌, subst, if◌then◌else◌, arith}
-use Rattle.guarded_meaning.proofs.Names.{and_parts, not-false, true≢false, length-append, map-append, filter-append, AllByRecursion, filter, all_of, all_made, each_of, in_left, in_right, same_is, In, joined, Point, same, sub_same, sub_chain, Vertex, numbered, Sublist, none, keep, skip, ArcCorner, arc_corner_at, all_corners, Neighbours, neighbours_at, segment_of, all_neighbours, is_pair_of, arc_segments, segments, crossings, left_by, points_of, HasOwnIndexes, remaining_arcs, reduced_arcs, is_free, keeps_rings, guarded_by, CrossingsNeverRise, NoneStaysNone, FewerArcsLaw, Segment, segment, has_length, meets_badly, bad_pairs}
+use Rattle.guarded_meaning.proofs.Names.{and_parts, not-false, true≢false, length-append, map-append, filter-append, AllByRecursion, filter, all_of, all_made, each_of, in_left, in_right, same_is, In, joined, Point, same, sub_same, sub_chain, Vertex, numbered, Sublist, none, keep, skip, ArcCorner, arc_corner_at, all_corners, Neighbours, neighbours_at, segment_of, all_neighbours, is_pair_of, arc_segments, segments, crossings, left_by, points_of, HasOwnIndexes, remaining_arcs, reduced_arcs, is_free, keeps_rings, guarded_by, CrossingsNeverRise, NoneStaysNone, FewerArcsLaw, Segment, segment, line_segments, has_length, meets_badly, bad_pairs}
 use Rattle.elimination_meaning.proofs.Higher.{sub_length}
 use Rattle.guarded_meaning.proofs.Lists.{passed_says, filter_map, sub_right, sub_both, sub_passed}
 use Rattle.guarded_meaning.proofs.Free.{Avoids, avoids, met_before}
 use Rattle.guarded_meaning.proofs.Kept.{eliminate_keeps, points_numbered}
-use Rattle.guarded_meaning.proofs.Neighbours.{AreParted, all_parted, all_segments, line_segments, segments_are}
+use Rattle.guarded_meaning.proofs.Neighbours.{AreParted, all_parted, all_segments, segments_are}
 use Rattle.guarded_meaning.proofs.Removal.{own_indexes_left, all_numbered_own}
 use Rattle.guarded_meaning.proofs.Step.{bad_back}
 

@@ -36,7 +36,7 @@ pub use Rattle.guarded_meaning.specs.Guards.{is_long, uses, guarded_by, has_empt
 unfoldable pub use Rattle.guarded_meaning.specs.Guards.{is_free, keeps_rings}
 pub use Rattle.guarded_meaning.specs.Laws.{RingsStay, IsInBox, BoxLaw, CountedByWeight, UnguardedLaw, UnguardedIndexLaw, ThinnedLaw, ArcsRise, NoneGoes, KeptByWeight, IsBeyondNone, SideLaw, EitherWay, StepLaw, CrossingsNeverRise, NoneStaysNone, FewerArcsLaw, HigherKeepsFewer, ShareIsGreatest, ShareStays, NoCrossingsLaw}
 pub use Rattle.guarded_meaning.specs.Lists.{EachTo, last_after, HasEndsOf, IsThinned}
-pub use Rattle.guarded_meaning.specs.Segments.{is_flat, is_between, segment, has_length, Segment, is_end, is_touched, bad_pairs}
+pub use Rattle.guarded_meaning.specs.Segments.{is_flat, is_between, segment, segments_from, line_segments, has_length, Segment, is_end, is_touched, bad_pairs}
 unfoldable pub use Rattle.guarded_meaning.specs.Segments.{is_on, same_ends, meets_badly, touches, separates, crosses}
 pub use Rattle.guarded_meaning.specs.Shares.{known, count_kept, keeps_share, greatest, chosen, IsGreatestShare}
 unfoldable pub use Rattle.guarded_meaning.specs.Shares.{share}

@@ -1,18 +1,10 @@
 -- The neighbours of arcs, and what a corner that goes makes of them: one pair in the place of its own two.
 use Rattle.std.proofs.Common.{◌≡◌, ◌≢◌, ℕ, suc, ◌<◌, ◌==◌, false, ◌&&◌, ◌||◌, List, [], ◌∷◌, ◌++◌, map, refl, ap, sym, ◌∙◌, subst, append_assoc, arith}
-use Rattle.guarded_meaning.proofs.Names.{and_right, or_from, ne_eqb, nat_tests, map-append, AllByRecursion, all_weaker, all_two, all_append, all_right, all_map, all_of_map, all_of, in_left, in_right, AreDistinct, In, Point, Vertex, without, ArcCorner, arc_corner_at, arc_corners, all_corners, Place, place_at, places, Neighbours, neighbours_at, segment_of, neighbours_from, neighbours, all_neighbours, is_pair_of, left_by, points_of, HasOwnIndexes, Segment, segment}
+use Rattle.guarded_meaning.proofs.Names.{and_right, or_from, ne_eqb, nat_tests, map-append, AllByRecursion, all_weaker, all_two, all_append, all_right, all_map, all_of_map, all_of, in_left, in_right, AreDistinct, In, Point, Vertex, without, ArcCorner, arc_corner_at, arc_corners, all_corners, Place, place_at, places, Neighbours, neighbours_at, segment_of, neighbours_from, neighbours, all_neighbours, is_pair_of, left_by, points_of, HasOwnIndexes, Segment, segment, segments_from, line_segments}
 use Rattle.guarded_meaning.proofs.Removal.{IsTaken, all_taken, in_next_arc, first_and_later}
 use Rattle.guarded_meaning.proofs.Thinned.{AreRising}
 
 -- ---- their segments, by their positions
-
-abbrev segments_from : Point → List Point → List Segment
-segments_from p [] = []
-segments_from p (q ∷ ps) = segment p q ∷ segments_from q ps
-
-abbrev pub line_segments : List Point → List Segment
-line_segments [] = []
-line_segments (p ∷ ps) = segments_from p ps
 
 abbrev pub all_segments : List (List Point) → List Segment
 all_segments [] = []

@@ -44,6 +44,16 @@ pub record Segment : Type 0 where
 abbrev pub segment : Point → Point → Segment
 segment a b = record { from = a; to = b }
 
+-- from a position on
+abbrev pub segments_from : Point → List Point → List Segment
+segments_from p [] = []
+segments_from p (q ∷ ps) = segment p q ∷ segments_from q ps
+
+-- between neighbours, also between equal ones
+abbrev pub line_segments : List Point → List Segment
+line_segments [] = []
+line_segments (p ∷ ps) = segments_from p ps
+
 -- its ends are two positions
 abbrev pub has_length : Segment → Bool
 has_length s = not (same s.from s.to)

@@ -13,11 +13,11 @@ use Rattle.guarded_meaning.specs.Elimination.{goes_before, remaining_arcs, reduc
 use Rattle.guarded_meaning.specs.Guards.{guarded_by, is_free, keeps_rings}
 use Rattle.guarded_meaning.specs.Laws.{NoCrossingsLaw}
 use Rattle.guarded_meaning.specs.Origins.{MetBefore}
-use Rattle.guarded_meaning.specs.Segments.{has_length, is_on, touches, separates, crosses, same_ends, meets_badly}
+use Rattle.guarded_meaning.specs.Segments.{line_segments, has_length, is_on, touches, separates, crosses, same_ends, meets_badly}
 use Rattle.guarded_meaning.specs.Triangles.{in_triangle}
 use Rattle.guarded_meaning.proofs.Counts.{segments_by_points}
 use Rattle.guarded_meaning.proofs.Lists.{filter_map}
-use Rattle.guarded_meaning.proofs.Neighbours.{line_segments, all_segments, segments_are}
+use Rattle.guarded_meaning.proofs.Neighbours.{all_segments, segments_are}
 use Rattle.guarded_meaning.proofs.Thinned.{remaining_thinned}
 use Rattle.layer_topology.specs.Guarded.{HasOrigins}
 use Rattle.build_meaning.specs.Guarded.{arc_positions, guarded_contents, guarded_indexes}

@@ -8,13 +8,12 @@ use Rattle.owned_values.proofs.Lists.{drop_here}
 use Rattle.geometry.specs.Points.{Point}
 use Rattle.geometry.specs.Rings.{same}
 use Rattle.guarded_meaning.specs.Arcs.{segments}
-use Rattle.guarded_meaning.specs.Segments.{Segment, segment, has_length}
+use Rattle.guarded_meaning.specs.Segments.{Segment, segment, segments_from, line_segments, has_length}
 use Rattle.guarded_meaning.proofs.Counts.{segments_by_points}
 use Rattle.guarded_meaning.proofs.Neighbours.{all_segments}
-use Rattle.guarded_meaning.proofs.Neighbours as pairs
 use Rattle.segment_crossings.specs.declared.line.Line.{Line}
 use Rattle.segment_crossings.specs.Gathering.{arc_lines}
-use Rattle.segment_crossings.specs.Lines.{as_segment, line_segments, segments_from}
+use Rattle.segment_crossings.specs.Lines.{as_segment}
 
 -- ---- an arc
 
@@ -91,21 +90,5 @@ arc_parted ps first end h w =
 
 -- ---- all arcs
 
-abbrev pub segments_in : List (List Point) → List Segment
-segments_in [] = []
-segments_in (ps ∷ arcs) = line_segments ps ++ segments_in arcs
-
-same_from : (p : Point) (ps : List Point) → segments_from p ps ≡ pairs.line_segments (p ∷ ps)
-same_from p [] = refl
-same_from p (q ∷ ps) = ap (λ ss. segment p q ∷ ss) (same_from q ps)
-
-same_lines : (ps : List Point) → line_segments ps ≡ pairs.line_segments ps
-same_lines [] = refl
-same_lines (p ∷ ps) = same_from p ps
-
-all_same : (arcs : List (List Point)) → segments_in arcs ≡ all_segments arcs
-all_same [] = refl
-all_same (ps ∷ arcs) = ap (λ ss. ss ++ segments_in arcs) (same_lines ps) ∙ ap (λ ss. pairs.line_segments ps ++ ss) (all_same arcs)
-
-pub all_put : (arcs : List (List Point)) (i : ℕ) (ss : List Segment) → length arcs ≤ i → ss ++ filter has_length (segments_in (drop i arcs)) ≡ filter has_length (segments_in arcs) → ss ≡ segments arcs
-all_put arcs i ss h was = sym (append-nil ss) ∙ ap (λ ts. ss ++ ts) (sym (ap (λ rs. filter has_length (segments_in rs)) (drop_all i arcs h))) ∙ was ∙ ap (filter has_length) (all_same arcs) ∙ sym (segments_by_points arcs)
+pub all_put : (arcs : List (List Point)) (i : ℕ) (ss : List Segment) → length arcs ≤ i → ss ++ filter has_length (all_segments (drop i arcs)) ≡ filter has_length (all_segments arcs) → ss ≡ segments arcs
+all_put arcs i ss h was = sym (append-nil ss) ∙ ap (λ ts. ss ++ ts) (sym (ap (λ rs. filter has_length (all_segments rs)) (drop_all i arcs h))) ∙ was ∙ sym (segments_by_points arcs)

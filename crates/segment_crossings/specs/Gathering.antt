@@ -2,9 +2,8 @@
 use Rattle.std.specs.Prelude.{◌≡◌, ℕ, List, sum_by}
 use Rattle.std.specs.List.{filter}
 use Rattle.geometry.specs.Points.{Point}
-use Rattle.guarded_meaning.specs.Segments.{Segment, has_length}
+use Rattle.guarded_meaning.specs.Segments.{Segment, has_length, line_segments}
 use Rattle.segment_crossings.specs.declared.gathering.Stretch.{Stretch}
-use Rattle.segment_crossings.specs.Lines.{line_segments}
 
 -- the same segments, each as often: the same sum of whatever is said of each
 pub record AreSame (ss ts : List Segment) : Type 0 where

@@ -1,5 +1,5 @@
 -- The segments of arcs.
-use Rattle.std.specs.Prelude.{ℕ, zero, suc, ◌+◌, ◌-◌, pos, List, [], ◌∷◌, length, map, drop, slice_index_or}
+use Rattle.std.specs.Prelude.{ℕ, zero, suc, ◌+◌, ◌-◌, pos, List, length, map, drop, slice_index_or}
 use Rattle.std.specs.List.{filter}
 use Rattle.geometry.specs.Points.{Point}
 use Rattle.guarded_meaning.specs.Segments.{Segment, segment, meets_badly}
@@ -18,16 +18,6 @@ no_line = record { from = no_point; to = no_point }
 
 unfoldable pub line_at : List Line → ℕ → Line
 line_at ls i = slice_index_or ls i no_line
-
--- from a position on
-abbrev pub segments_from : Point → List Point → List Segment
-segments_from p [] = []
-segments_from p (q ∷ ps) = segment p q ∷ segments_from q ps
-
--- between neighbours, also between equal ones
-abbrev pub line_segments : List Point → List Segment
-line_segments [] = []
-line_segments (p ∷ ps) = segments_from p ps
 
 -- how many of these meet it badly
 abbrev pub bad_among : Segment → List Segment → ℕ

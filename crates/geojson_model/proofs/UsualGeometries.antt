@@ -27,7 +27,7 @@ use Rattle.json_cursor.specs.declared.stop.Stop.TheVariants as stop
 use Rattle.json_cursor.specs.Answers.{Reads, Stops}
 use Rattle.json_cursor.specs.Arrays.{prefix_value}
 use Rattle.json_cursor.specs.Members.{Members, prefix_member}
-use Rattle.json_cursor.proofs.Openings.{members_fail, some_members}
+use Rattle.json_cursor.proofs.Openings.{first_byte, members_fail, some_members}
 use Rattle.json_cursor.proofs.Steps.{bound, made, unmade}
 use Rattle.geojson_model.specs.declared.leading.Seen.{Seen}
 use Rattle.geojson_model.specs.declared.occurrence.Occurrence.{Occurrence}
@@ -35,10 +35,6 @@ use Rattle.geojson_model.specs.declared.occurrence.Occurrence.TheVariants.{Never
 use Rattle.geojson_model.specs.Members.{IsLed, IsOccurrence, IsSeen, LeadsGeometry, RepeatsIn, first_fault, is_again, twice}
 use Rattle.geojson_model.proofs.GeometryParts.{object_reads, object_stops}
 use Rattle.geojson_model.proofs.MemberOccurrences.{judged_read}
-
-pub one_byte : (byte : ℕ) (bytes rest : List ℕ) → Some rest ≡ after_word (byte ∷ []) bytes → bytes ≡ byte ∷ rest
-unfolding after_word
-one_byte byte bytes rest h = grind arith
 
 nothing_before : (o : Option (Members × List ℕ)) → with_prefix [] o ≡ o
 nothing_before None = refl
@@ -54,7 +50,7 @@ two_members d inside m k rest more after end first comma second close long =
     let total = list_at 125 (prefix_member d) n inside in
     let all : n - 0 ≡ n = omega arith in
     let start : with_prefix [] (list_at 125 (prefix_member d) (n - 0) inside) ≡ total = nothing_before _ ∙ ap (λ i. list_at 125 (prefix_member d) i inside) all in
-    let one = turns.at_comma _ 125 (prefix_member d) [] n 0 inside total start m rest (omega (arith, long)) first 44 more (one_byte 44 (skip rest) more comma) refl in
+    let one = turns.at_comma _ 125 (prefix_member d) [] n 0 inside total start m rest (omega (arith, long)) first 44 more (first_byte 44 (skip rest) more comma) refl in
     turns.at_end _ 125 (prefix_member d) (m ∷ []) n 1 more total one k after (omega (arith, long)) second 125 end close (omega (arith)) refl
 
 -- ---- what it is read as
@@ -101,7 +97,7 @@ module _ (d : ℕ) (inside : List ℕ) (m : List ℕ × Json) (rest more name pr
       → (w : Json) × ((after : List ℕ) × ((others : Members) × ((prefix_value d prefix ≡ Some (w, after)) × (ms ≡ m ∷ (name, w) ∷ others))))
   begin_so ms end h =
       let n = length inside in
-      let u = unmade (λ ys. m ∷ ys) (list_at 125 (prefix_member d) (n - 1) more) ms end (sym (goes_on (prefix_member d) n inside (omega (arith, long)) m rest more first (one_byte 44 (skip rest) more comma)) ∙ h) in
+      let u = unmade (λ ys. m ∷ ys) (list_at 125 (prefix_member d) (n - 1) more) ms end (sym (goes_on (prefix_member d) n inside (omega (arith, long)) m rest more first (first_byte 44 (skip rest) more comma)) ∙ h) in
       let b = bound (prefix_member d (skip more)) (λ x after. list_after 125 (list_at 125 (prefix_member d) (n - 1 - 1)) x (skip after)) u.0 end (sym (one_turn (prefix_member d) (n - 1) more (omega (arith, long))) ∙ u.1.0) in
       let k = unmade (λ v. (name, v)) (prefix_value d prefix) b.0 b.1.0 (sym second ∙ b.1.1.0) in
       let t = begins (list_at 125 (prefix_member d) (n - 1 - 1)) b.0 (skip b.1.0) u.0 end b.1.1.1 in

@@ -9,6 +9,7 @@ use Rattle.json_reading.proofs.ListLoop as turns
 use Rattle.json_reading.proofs.StringLoop.{with_prefix}
 use Rattle.json_cursor.specs.Arrays.{prefix_value}
 use Rattle.json_cursor.specs.Members.{Made, Members, TakesMember, TakesMembers, prefix_member}
+use Rattle.json_cursor.proofs.Openings.{first_byte}
 
 -- ---- a member's name
 
@@ -39,10 +40,6 @@ module _ (bytes inside : List ℕ) (opens : Some inside ≡ after_word (34 ∷ [
 
 -- ---- the loop
 
-one_byte : (byte : ℕ) (bytes rest : List ℕ) → Some rest ≡ after_word (byte ∷ []) bytes → bytes ≡ byte ∷ rest
-unfolding after_word
-one_byte byte bytes rest h = grind arith
-
 module _ {S : Type 0} (Holds : Made S) (d n : ℕ) (total : Option (Members × List ℕ)) (start : S) where
   -- what was made of these members, and how more of them go on
   pub record MembersSoFar (i : ℕ) (rest : List ℕ) (now : S) : Type 0 where
@@ -62,14 +59,14 @@ module _ {S : Type 0} (Holds : Made S) (d n : ℕ) (total : Option (Members × L
         pub ends : (end : List ℕ) → Some end ≡ after_word (125 ∷ []) (skip after) → TakesMembers Holds total start next end
         ends end h = record {
           members = s.members ++ t.member ∷ [];
-          prefix = turns.at_end _ 125 (prefix_member d) s.members n i rest total s.so_far t.member after lt t.prefix 125 end (one_byte 125 (skip after) end h) (omega arith) refl;
+          prefix = turns.at_end _ 125 (prefix_member d) s.members n i rest total s.so_far t.member after lt t.prefix 125 end (first_byte 125 (skip after) end h) (omega arith) refl;
           holds = λ k. t.holds s.members (s.holds k);
         }
 
         pub goes_on : (more : List ℕ) → Some more ≡ after_word (44 ∷ []) (skip after) → MembersSoFar (i + 1) more next
         goes_on more h = record {
           members = s.members ++ t.member ∷ [];
-          so_far = turns.at_comma _ 125 (prefix_member d) s.members n i rest total s.so_far t.member after lt t.prefix 44 more (one_byte 44 (skip after) more h) refl;
+          so_far = turns.at_comma _ 125 (prefix_member d) s.members n i rest total s.so_far t.member after lt t.prefix 44 more (first_byte 44 (skip after) more h) refl;
           holds = λ k. t.holds s.members (s.holds k);
         }
 

@@ -1,5 +1,6 @@
 use Rattle.json_cursor.specs.Arrays.{prefix_value}
-use Rattle.geojson_model.proofs.UsualGeometries.{is_usual, led_faulty, led_nothing, led_read, led_twice, one_byte}
+use Rattle.json_cursor.proofs.Openings.{first_byte}
+use Rattle.geojson_model.proofs.UsualGeometries.{is_usual, led_faulty, led_nothing, led_read, led_twice}
 use Rattle.geojson_model.proofs.GeometryParts as part
 use Rattle.geojson_model.proofs.leading.led_geometry_at.Goals as goal
 
@@ -16,7 +17,7 @@ returns-in-Some c =
 pub returns-in-Some-after_byte : goal.returns-in-Some-after_byte
 returns-in-Some-after_byte c =
     let r = c.in-Ok.ensures in
-    let begins = c.requires.begins r.value _ c.in-Some-after_byte.rest.now r.prefix_is (one_byte 125 _ _ (rw c.skip.ensures at c.in-Some-after_byte.ensures)) in
+    let begins = c.requires.begins r.value _ c.in-Some-after_byte.rest.now r.prefix_is (first_byte 125 _ _ (rw c.skip.ensures at c.in-Some-after_byte.ensures)) in
     is_usual c.args.exact r.value begins.0 c.args.counts.now c.args.kind begins.1 _ c.coordinates_at.new.counts r.means (prefix_value c.args.depth_left c.args.bytes.now) c.in-Some-after_byte.rest.now begins.2
 
 pub returns-in-Ok-None : goal.returns-in-Ok-None

@@ -2,11 +2,13 @@
 pub use Rattle.std.proofs.lemmas.Str.Ascii.{IsAscii-cons as ascii_cons}
 use Rattle.std.proofs.Common.{◌≡◌, ℕ, zero, suc, ◌+◌, ◌/◌, ◌%◌, ◌^◌, ◌<◌, ℤ, pos, int_lt, unsigned_abs, Bool, true, false, if◌then◌else◌, decimal, List, [], ◌∷◌, ◌++◌, sym, subst, arith}
 use Rattle.std.specs.Fmt.{digit_glyph, digits_onto, digits}
+use Rattle.std.specs.List.{AllByRecursion}
 use Rattle.std.specs.Prelude.{◌==◌, IsUtf8}
 use Rattle.std.specs.Str.{IsAscii}
 use Rattle.std.proofs.lemmas.Bool.Decides.{nat_tests}
 use Rattle.std.proofs.lemmas.Str.{IsAscii-append, IsUtf8-from_ascii}
 use Rattle.std.proofs.lemmas.Str.Ascii.{IsAscii-nil}
+use Rattle.owned_values.proofs.Elements.{all_append}
 use Rattle.decimal_text.specs.Grammar.{is_digit, AllDigits, IsMinus, IsWhole, IsFraction, IsExponent, IsNumber, number_of}
 use Rattle.decimal_text.specs.Parts.{sign_text, fraction_text}
 use Rattle.decimal_text.specs.Scaling.{units_text}
@@ -42,45 +44,55 @@ number_utf8 {t} h = IsUtf8-from_ascii t (number_ascii h)
 pub same_utf8 : (s t : List ℕ) → s ≡ t → IsNumber t → IsUtf8 s
 same_utf8 s t e h = subst (λ b. IsUtf8 b) (sym e) (number_utf8 h)
 
--- ---- the text of units, however many there are
+-- ---- the text of units, however many there are: no byte of it comes after the digits
 
-either_ascii : (b : Bool) (xs ys : List ℕ) → IsAscii xs → IsAscii ys → IsAscii (if b then xs else ys)
-either_ascii true xs ys h k = h
-either_ascii false xs ys h k = k
+abbrev AreSmall : List ℕ → Type 0
+AreSmall bs = AllByRecursion (λ b. b < 58) bs
 
-digits_onto_ascii : (k n : ℕ) (acc : List ℕ) → IsAscii acc → IsAscii (digits_onto k 10 false n acc)
-digits_onto_ascii zero n acc h = h
-digits_onto_ascii (suc k) n acc h =
-    let more = ascii_cons (digit_glyph false (n % 10)) acc (grind (arith, nat_tests)) h in
-    either_ascii (n / 10 == 0) _ _ more (digits_onto_ascii k (n / 10) (digit_glyph false (n % 10) ∷ acc) more)
+either_small : (b : Bool) (xs ys : List ℕ) → AreSmall xs → AreSmall ys → AreSmall (if b then xs else ys)
+either_small true xs ys h k = h
+either_small false xs ys h k = k
 
-decimal_ascii : (n : ℕ) → IsAscii (decimal n)
-decimal_ascii n = unfold digits in digits_onto_ascii 64 n [] IsAscii-nil
+digits_onto_small : (k n : ℕ) (acc : List ℕ) → AreSmall acc → AreSmall (digits_onto k 10 false n acc)
+digits_onto_small zero n acc h = h
+digits_onto_small (suc k) n acc h =
+    let more : AreSmall (digit_glyph false (n % 10) ∷ acc) = (grind (arith, nat_tests), h) in
+    either_small (n / 10 == 0) _ _ more (digits_onto_small k (n / 10) (digit_glyph false (n % 10) ∷ acc) more)
 
-fixed_ascii : (places n : ℕ) → IsAscii (fixed places n)
-fixed_ascii zero n = IsAscii-nil
-fixed_ascii (suc places) n = IsAscii-append (fixed places (n / 10)) _ (fixed_ascii places (n / 10)) (ascii_cons (48 + n % 10) [] (omega arith) IsAscii-nil)
+decimal_small : (n : ℕ) → AreSmall (decimal n)
+decimal_small n = unfold digits in digits_onto_small 64 n [] tt
+
+fixed_small : (places n : ℕ) → AreSmall (fixed places n)
+fixed_small zero n = tt
+fixed_small (suc places) n = all_append (λ b. b < 58) (fixed places (n / 10)) ((48 + n % 10) ∷ []) (fixed_small places (n / 10)) (omega arith, tt)
 
 -- a digit before those that are left
-before_ascii : (c : ℕ) (ds : List ℕ) → c < 128 → IsAscii ds → IsAscii (before_trimmed c ds)
-before_ascii c [] small h = either_ascii (c == 48) [] (c ∷ []) IsAscii-nil (ascii_cons c [] small IsAscii-nil)
-before_ascii c (d ∷ ds) small h = ascii_cons c (d ∷ ds) small h
+before_small : (c : ℕ) (ds : List ℕ) → c < 58 → AreSmall ds → AreSmall (before_trimmed c ds)
+before_small c [] small h = either_small (c == 48) [] (c ∷ []) tt (small, tt)
+before_small c (d ∷ ds) small h = (small, h)
 
-trimmed_ascii : (ds : List ℕ) → IsAscii ds → IsAscii (trimmed ds)
-trimmed_ascii [] h = h
-trimmed_ascii (c ∷ cs) h = before_ascii c (trimmed cs) (h 0) (trimmed_ascii cs (λ i. h (suc i)))
+trimmed_small : (ds : List ℕ) → AreSmall ds → AreSmall (trimmed ds)
+trimmed_small [] h = h
+trimmed_small (c ∷ cs) h = before_small c (trimmed cs) h.0 (trimmed_small cs h.1)
 
-fraction_text_ascii : (ds : List ℕ) → IsAscii ds → IsAscii (fraction_text ds)
-fraction_text_ascii [] h = IsAscii-nil
-fraction_text_ascii (d ∷ ds) h = ascii_cons 46 (d ∷ ds) (omega arith) h
+fraction_small : (ds : List ℕ) → AreSmall ds → AreSmall (fraction_text ds)
+fraction_small [] h = tt
+fraction_small (d ∷ ds) h = (omega arith, h)
 
-sign_text_ascii : (negative : Bool) → IsAscii (sign_text negative)
-sign_text_ascii true = ascii_cons 45 [] (omega arith) IsAscii-nil
-sign_text_ascii false = IsAscii-nil
+sign_small : (negative : Bool) → AreSmall (sign_text negative)
+sign_small true = (omega arith, tt)
+sign_small false = tt
+
+pub units_small : (units : ℤ) (places : ℕ) → AllByRecursion (λ b. b < 58) (units_text units places)
+units_small units places = unfold units_text in
+    let size : ℕ = unsigned_abs units in
+    let prefix = all_append (λ b. b < 58) (sign_text (int_lt units (pos 0))) (decimal (size / 10 ^ places)) (sign_small (int_lt units (pos 0))) (decimal_small (size / 10 ^ places)) in
+    let rest = fraction_small (trimmed (fixed places (size % 10 ^ places))) (trimmed_small (fixed places (size % 10 ^ places)) (fixed_small places (size % 10 ^ places))) in
+    all_append (λ b. b < 58) (sign_text (int_lt units (pos 0)) ++ decimal (size / 10 ^ places)) (fraction_text (trimmed (fixed places (size % 10 ^ places)))) prefix rest
+
+small_ascii : (bs : List ℕ) → AreSmall bs → IsAscii bs
+small_ascii [] h = IsAscii-nil
+small_ascii (b ∷ bs) h = ascii_cons b bs (omega (arith, h.0)) (small_ascii bs h.1)
 
 pub units_utf8 : (units : ℤ) (places : ℕ) → IsUtf8 (units_text units places)
-units_utf8 units places = unfold units_text in
-    let size : ℕ = unsigned_abs units in
-    let prefix = IsAscii-append (sign_text (int_lt units (pos 0))) (decimal (size / 10 ^ places)) (sign_text_ascii (int_lt units (pos 0))) (decimal_ascii (size / 10 ^ places)) in
-    let rest = fraction_text_ascii (trimmed (fixed places (size % 10 ^ places))) (trimmed_ascii (fixed places (size % 10 ^ places)) (fixed_ascii places (size % 10 ^ places))) in
-    IsUtf8-from_ascii _ (IsAscii-append (sign_text (int_lt units (pos 0)) ++ decimal (size / 10 ^ places)) (fraction_text (trimmed (fixed places (size % 10 ^ places)))) prefix rest)
+units_utf8 units places = IsUtf8-from_ascii _ (small_ascii (units_text units places) (units_small units places))

@@ -1,13 +1,11 @@
 -- The bytes of a position: but for its own brackets there is none that closes.
-use Rattle.std.proofs.Common.{◌≡◌, ℕ, zero, suc, ◌+◌, ◌/◌, ◌%◌, ◌^◌, ◌<◌, ℤ, pos, int_lt, unsigned_abs, Bool, true, false, if◌then◌else◌, decimal, List, [], ◌∷◌, ◌++◌, refl, ap, ◌∙◌, append_assoc, append-nil, arith}
-use Rattle.std.specs.Fmt.{digit_glyph, digits_onto, digits}
+use Rattle.std.proofs.Common.{◌≡◌, ℕ, ◌<◌, ℤ, false, List, [], ◌∷◌, ◌++◌, refl, ap, ◌∙◌, append_assoc, append-nil, arith}
 use Rattle.std.specs.List.{AllByRecursion}
 use Rattle.std.specs.Prelude.{◌==◌, codes}
 use Rattle.std.proofs.lemmas.Bool.Decides.{nat_tests}
-use Rattle.owned_values.proofs.Elements.{all_append}
-use Rattle.decimal_text.specs.Parts.{sign_text, fraction_text}
+use Rattle.owned_values.proofs.Elements.{all_append, all_weaker}
+use Rattle.decimal_text.proofs.NumberBytes.{units_small}
 use Rattle.decimal_text.specs.Scaling.{units_text}
-use Rattle.decimal_text.specs.Units.{fixed, before_trimmed, trimmed}
 use Rattle.json_value.specs.Text.{json_text}
 use Rattle.json_value.proofs.Texts.{text-array, text-number}
 use Rattle.geometry.specs.Points.{Point}
@@ -19,45 +17,8 @@ use Rattle.topojson_writer.specs.LineTexts.{behind_bracket}
 abbrev AreLess : List ℕ → Type 0
 AreLess bs = AllByRecursion (λ b. b < 93) bs
 
-either_less : (b : Bool) (xs ys : List ℕ) → AreLess xs → AreLess ys → AreLess (if b then xs else ys)
-either_less true xs ys h k = h
-either_less false xs ys h k = k
-
-digits_onto_less : (k n : ℕ) (acc : List ℕ) → AreLess acc → AreLess (digits_onto k 10 false n acc)
-digits_onto_less zero n acc h = h
-digits_onto_less (suc k) n acc h =
-    let more : AreLess (digit_glyph false (n % 10) ∷ acc) = (grind (arith, nat_tests), h) in
-    either_less (n / 10 == 0) _ _ more (digits_onto_less k (n / 10) (digit_glyph false (n % 10) ∷ acc) more)
-
-decimal_less : (n : ℕ) → AreLess (decimal n)
-decimal_less n = unfold digits in digits_onto_less 64 n [] tt
-
-fixed_less : (places n : ℕ) → AreLess (fixed places n)
-fixed_less zero n = tt
-fixed_less (suc places) n = all_append (λ b. b < 93) (fixed places (n / 10)) ((48 + n % 10) ∷ []) (fixed_less places (n / 10)) (omega arith, tt)
-
-before_less : (c : ℕ) (ds : List ℕ) → c < 93 → AreLess ds → AreLess (before_trimmed c ds)
-before_less c [] small h = either_less (c == 48) [] (c ∷ []) tt (small, tt)
-before_less c (d ∷ ds) small h = (small, h)
-
-trimmed_less : (ds : List ℕ) → AreLess ds → AreLess (trimmed ds)
-trimmed_less [] h = h
-trimmed_less (c ∷ cs) h = before_less c (trimmed cs) h.0 (trimmed_less cs h.1)
-
-fraction_less : (ds : List ℕ) → AreLess ds → AreLess (fraction_text ds)
-fraction_less [] h = tt
-fraction_less (d ∷ ds) h = (omega arith, h)
-
-sign_less : (negative : Bool) → AreLess (sign_text negative)
-sign_less true = (omega arith, tt)
-sign_less false = tt
-
 units_less : (units : ℤ) (places : ℕ) → AreLess (units_text units places)
-units_less units places = unfold units_text in
-    let size : ℕ = unsigned_abs units in
-    let prefix = all_append (λ b. b < 93) (sign_text (int_lt units (pos 0))) (decimal (size / 10 ^ places)) (sign_less (int_lt units (pos 0))) (decimal_less (size / 10 ^ places)) in
-    let rest = fraction_less (trimmed (fixed places (size % 10 ^ places))) (trimmed_less (fixed places (size % 10 ^ places)) (fixed_less places (size % 10 ^ places))) in
-    all_append (λ b. b < 93) (sign_text (int_lt units (pos 0)) ++ decimal (size / 10 ^ places)) (fraction_text (trimmed (fixed places (size % 10 ^ places)))) prefix rest
+units_less units places = all_weaker (λ b. b < 58) (λ b. b < 93) (λ b h. omega (arith, h)) (units_text units places) (units_small units places)
 
 -- ---- behind the bracket
 

@@ -44,6 +44,7 @@ impl Feature {
         }
     }
 
+    /// Its identifier, where it has one.
     pub fn id(&self) -> Option<&Id>
         ensures { option_copied result ≡ self.now.id }
     {
@@ -57,6 +58,7 @@ impl Feature {
         self.properties.as_ref()
     }
 
+    /// Its geometry, where that is not null.
     pub fn shape(&self) -> Option<&Shape>
         ensures value { option_copied result ≡ self.now.shape }
         ensures proper { is_proper_option self.now.shape ≡ true }

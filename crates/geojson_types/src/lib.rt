@@ -1,5 +1,5 @@
 //! What GeoJSON layers (RFC 7946) are made of beside their geometry: features, identifiers, layers, and the counts of what was
-//! read with a change. It stands on `json_value` for identifiers, on `json_value`, and on `geometry`; it passes on the types of
+//! read with a change. It stands on `json_value` for identifiers and properties, and on `geometry`; it passes on the types of
 //! these two, and the definitions of `geometry`. `specs/Features.antt` says what contracts see of a feature, `specs/Nesting.antt` how deep it nests as JSON.
 #![tactic(auto)]
 

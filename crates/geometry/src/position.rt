@@ -47,6 +47,7 @@ impl Position {
         Position { x, y }
     }
 
+    /// Its x (longitude), in units.
     pub fn x(self) -> i64
         ensures x { result ≡ self.x }
         ensures within { unsigned_abs result ≤ position_limit }
@@ -54,6 +55,7 @@ impl Position {
         self.x
     }
 
+    /// Its y (latitude), in units.
     pub fn y(self) -> i64
         ensures y { result ≡ self.y }
         ensures within { unsigned_abs result ≤ position_limit }

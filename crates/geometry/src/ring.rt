@@ -33,6 +33,7 @@ impl Ring {
         Ring { positions }
     }
 
+    /// Its positions, the last of them equal to the first.
     pub fn as_slice(&self) -> &[Position]
         ensures value { result.now ≡ self.now }
         ensures ring { is_ring self.now ≡ true }

@@ -19,6 +19,7 @@ const MOST: usize = 1000;
 /// So many in a slow one, of which there is one for each `MOST` places before boxes take the place of cells.
 const MOST_SLOW: usize = 16 * MOST;
 
+/// The positions of places: listed without an index, or in an index of cells or of boxes.
 #[derive(Drop)]
 pub enum Places {
     Listed {

@@ -1,7 +1,7 @@
 //! From layers to the topology that is written of them: on the grid that is asked for, cut into arcs, these reduced at the level that is
 //! asked for, and put together again. On a grid cells stand in place of positions, by the grid's transform. It stands on `linework`,
 //! `cutter` and `arc_table` for the arcs, on a reducer and the weights of `effective_area`, on `topo_model` for the topology, and on
-//! `grid_snap` for the grid; on `build_meaning` and `build_meaning` for what that topology is. The engine uses the contract of
+//! `grid_snap` for the grid; on `build_meaning` for what that topology is. The engine uses the contract of
 //! `topology_of_layers` and the laws of `laws.rt`.
 #![tactic(auto)]
 

@@ -40,6 +40,7 @@ impl<'a> Model for Renumbered<'a> {
 }
 
 impl<'a> Renumbered<'a> {
+    /// By this list, which has the new index of each arc.
     pub fn by(renumbering: &'a [ArcRef]) -> Renumbered<'a>
         ensures { result ≡ renumbering.now }
     {

@@ -59,6 +59,7 @@ pub fn digits_at(start: u64, bytes: &[u8]) -> Option<(u64, &[u8])>
     Some((value, rest))
 }
 
+/// Whether there is a first byte and it is a digit.
 #[inline(always)]
 pub fn starts_with_digit(bytes: &[u8]) -> bool
     ensures { result ≡ starts_digit bytes.now }

@@ -14,7 +14,7 @@ use Rattle.geometry.specs.Units.{area_limit}
 use Rattle.effective_area.proofs.HeapLaws.{contains_cases, contains_here, contains_later}
 use Rattle.guarded_reduction.specs.declared.query.Corner.{Corner}
 use Rattle.guarded_reduction.specs.Blocking.{is_blocked_by, is_joined_at, joins_ends, leads_on}
-use Rattle.guarded_reduction.specs.Indexes.{Meets, NoneMeets, is_left_at, point_at}
+use Rattle.guarded_reduction.specs.Indexes.{NoneMeets, is_left_at, point_at}
 use Rattle.guarded_reduction.specs.Tests.{is_held_by}
 use Rattle.guarded_reduction.proofs.Indexes.{left_before}
 use Rattle.guarded_reduction.specs.declared.entry.Entry.{Entry}
@@ -26,16 +26,6 @@ use Rattle.guarded_reduction.specs.Waiting.{KeepsWaits, Waiting, WaitsOn}
 use Rattle.guarded_reduction.proofs.Unlinking.{same_at}
 
 -- ---- a place is waited on
-
-pub held_inside : (s : Linked) (w : Waiting) (v h : ℕ) (q : Corner) (p : Point) → s.no_crossings ≡ true → Meets s.positions s.left (blocks s v) h → WaitsOn w h v → q ≡ corner_in s v → p ≡ point_at s.positions h → is_held_by q h p ≡ true → IsHeld s w v
-held_inside s w v h q p asked meets waits eq ep held = record {
-  asked = asked;
-  holder = h;
-  within = meets.within;
-  left = meets.left;
-  waits = waits;
-  holds = inl (subst (λ (r : Point). is_held_by (corner_in s v) h r ≡ true) ep (subst (λ (r : Corner). is_held_by r h p ≡ true) eq held));
-}
 
 pub still_held : (s : Linked) (old new : Waiting) (v : ℕ) → KeepsWaits old new → IsHeld s old v → IsHeld s new v
 still_held s old new v k h = record { asked = h.asked; holder = h.holder; within = h.within; left = h.left; waits = k.has h.holder v h.waits; holds = on h.holds }

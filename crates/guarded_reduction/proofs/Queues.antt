@@ -56,9 +56,6 @@ goes_first xs ys x y m u h = (
   λ e. let k : Contains [] x = subst (λ l. Contains l x) e m in absurd (omega (arith, k.1)),
 )
 
-pub before_nothing : (xs ys : List (Reverse Entry)) → ys ≡ [] → GoesFirst xs ys
-before_nothing xs ys z = (λ e b. subst (λ l. IsUpperBound turned_cmp e l) (sym z) tt, λ _. z)
-
 -- the top of the heap and the last of those that are sorted, compared
 pub top_first : (xs ys : List (Reverse Entry)) (last top : Reverse Entry) → IsSorted turned_cmp xs → 0 < length xs → last ≡ get_or xs (length xs - 1) last → Contains ys top → under last top ≡ true → GoesFirst ys xs
 top_first xs ys last top s n e m h = goes_first ys xs top last m (last_bound xs last s n e) (turned_order.one_way last top h)

@@ -1,7 +1,7 @@
 -- Which rings an arc's moves are counted in.
 use Rattle.std.proofs.Common.{◌≡◌, ◌≢◌, ℕ, zero, suc, ℤ, ◌+◌, ◌-◌, ◌<◌, ◌≤◌, ◌==◌, Bool, true, false, not, ◌||◌, ◌&&◌, nat_le, List, [], ◌∷◌, get_or, length, length-append, map, replicate, slice_index, slice_index_or, slice_set, length-set, get_or-set_same, get_or-set_other, refl, ap, sym, ◌∙◌, subst, ◌⊎◌, inl, inr, arith}
 use Rattle.std.specs.List.{AllByRecursion, Contains, list_all}
-use Rattle.std.proofs.lemmas.Bool.{and_parts, both_ways, cases_Bool, cases_lt, false_from_ne_true, or_cases}
+use Rattle.std.proofs.lemmas.Bool.{and_parts, both_ways, cases_Bool, cases_lt, false_from_ne_true, or_cases, eqb-true}
 use Rattle.std.proofs.lemmas.Bool.Decides.{nat_tests}
 use Rattle.std.proofs.lemmas.List.{get_or_append_left, get_or-append_right, get_or-replicate, length-map, length-replicate, set-get_or}
 use Rattle.effective_area.proofs.HeapLaws.{contains_cases, contains_here, contains_later}
@@ -14,9 +14,6 @@ use Rattle.guarded_reduction.proofs.Moves.{long_is}
 use Rattle.guarded_reduction.proofs.Users.{read}
 
 -- ---- one ring
-
-test_eq : (m n : ℕ) → (m == n) ≡ true → m ≡ n
-test_eq m n e = grind (arith, nat_tests)
 
 test_other : (m n : ℕ) → (m == n) ≡ false → m ≢ n
 test_other m n e = grind (arith, nat_tests)
@@ -40,7 +37,7 @@ moves_along ms k v [] w h = absurd (both_ways false refl h)
 moves_along ms k v (r ∷ refs) w h = on (or_cases (number_of r == k) (uses k refs) h) (moves_along ms k v refs w)
   where
     on : ((number_of r == k) ≡ true) ⊎ (uses k refs ≡ true) → (uses k refs ≡ true → v ≤ ring_moves (slice_set ms k v) refs) → v ≤ ring_moves (slice_set ms k v) (r ∷ refs)
-    on (inl e) g = let f = ap (λ n. slice_index_or (slice_set ms k v) n 0) (test_eq (number_of r) k e) ∙ get_or-set_same ms k v 0 w in omega (arith, f)
+    on (inl e) g = let f = ap (λ n. slice_index_or (slice_set ms k v) n 0) (eqb-true (number_of r) k e) ∙ get_or-set_same ms k v 0 w in omega (arith, f)
     on (inr u) g = let f = g u in omega (arith, f)
 
 enough : (n m : ℕ) → 3 ≤ n → n ≤ m → nat_le 3 m ≡ true

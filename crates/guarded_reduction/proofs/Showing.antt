@@ -1,8 +1,7 @@
 -- What lists that show arcs say of their corners.
 use Rattle.std.proofs.Common.{◌≡◌, ◌≢◌, ℕ, suc, ◌<◌, ◌==◌, Bool, true, false, ◌&&◌, ◌||◌, List, [], ◌∷◌, length, map, slice_index, refl, ap, sym, ◌∙◌, subst, ◌⊎◌, inl, inr, arith}
 use Rattle.std.specs.List.{AllByRecursion}
-use Rattle.std.proofs.lemmas.Bool.{and_parts, or_cases, false_from_ne_true}
-use Rattle.std.proofs.lemmas.Bool.Decides.{nat_tests}
+use Rattle.std.proofs.lemmas.Bool.{and_parts, or_cases, false_from_ne_true, eqb-true, eq-eqb}
 use Rattle.owned_values.proofs.Elements.{each_of}
 use Rattle.owned_values.proofs.Members.{in_right}
 use Rattle.geometry.specs.Areas.{twice_area}
@@ -65,20 +64,14 @@ module _ (arcs : List (List Point)) (bs : List Bool) where
 
 -- ---- the own place and pairs
 
-eq_test : (m n : ℕ) → m ≡ n → (m == n) ≡ true
-eq_test m n e = grind (arith, nat_tests)
-
-test_eq : (m n : ℕ) → (m == n) ≡ true → m ≡ n
-test_eq m n e = grind (arith, nat_tests)
-
 pub place_of : (c : ArcCorner) (x : Place) → x.arc ≡ c.arc → x.vertex.index ≡ c.corner.index → is_place_of c x ≡ true
-place_of c x e f = ap (λ b. b && (x.vertex.index == c.corner.index)) (eq_test x.arc c.arc e) ∙ eq_test x.vertex.index c.corner.index f
+place_of c x e f = ap (λ b. b && (x.vertex.index == c.corner.index)) (eq-eqb x.arc c.arc e) ∙ eq-eqb x.vertex.index c.corner.index f
 
 pair_from : (c : ArcCorner) (j : Neighbours) → j.arc ≡ c.arc → j.from.index ≡ c.corner.index → is_pair_of c j ≡ true
-pair_from c j e f = ap (λ b. b && ((j.from.index == c.corner.index) || (j.to.index == c.corner.index))) (eq_test j.arc c.arc e) ∙ ap (λ b. b || (j.to.index == c.corner.index)) (eq_test j.from.index c.corner.index f)
+pair_from c j e f = ap (λ b. b && ((j.from.index == c.corner.index) || (j.to.index == c.corner.index))) (eq-eqb j.arc c.arc e) ∙ ap (λ b. b || (j.to.index == c.corner.index)) (eq-eqb j.from.index c.corner.index f)
 
 pair_to : (c : ArcCorner) (j : Neighbours) → j.arc ≡ c.arc → j.to.index ≡ c.corner.index → is_pair_of c j ≡ true
-pair_to c j e f = ap (λ b. b && ((j.from.index == c.corner.index) || (j.to.index == c.corner.index))) (eq_test j.arc c.arc e) ∙ right (j.from.index == c.corner.index) (j.to.index == c.corner.index) (eq_test j.to.index c.corner.index f)
+pair_to c j e f = ap (λ b. b && ((j.from.index == c.corner.index) || (j.to.index == c.corner.index))) (eq-eqb j.arc c.arc e) ∙ right (j.from.index == c.corner.index) (j.to.index == c.corner.index) (eq-eqb j.to.index c.corner.index f)
   where
     right : (a b : Bool) → b ≡ true → (a || b) ≡ true
     right a b h = grind arith
@@ -100,15 +93,15 @@ module _ (arcs : List (List Point)) (bs : List Bool) (c : ArcCorner) (there : Ha
   -- a place of its number is its own
   pub other_place : (x : Place) → (number arcs x.arc x.vertex.index ≡ own → ⊥) → is_place_of c x ≡ false
   other_place x n = false_from_ne_true (is_place_of c x) (λ h. let r = and_parts (x.arc == c.arc) (x.vertex.index == c.corner.index) h in
-      n (ap (λ k. number arcs k x.vertex.index) (test_eq x.arc c.arc r.0) ∙ ap (λ i. number arcs c.arc i) (test_eq x.vertex.index c.corner.index r.1)))
+      n (ap (λ k. number arcs k x.vertex.index) (eqb-true x.arc c.arc r.0) ∙ ap (λ i. number arcs c.arc i) (eqb-true x.vertex.index c.corner.index r.1)))
 
   pub other_pair : (j : Neighbours) → (number arcs j.arc j.from.index ≡ own → ⊥) → (number arcs j.arc j.to.index ≡ own → ⊥) → is_pair_of c j ≡ false
   other_pair j n m = false_from_ne_true (is_pair_of c j) (λ h. let r = and_parts (j.arc == c.arc) ((j.from.index == c.corner.index) || (j.to.index == c.corner.index)) h in
-      by (test_eq j.arc c.arc r.0) (or_cases (j.from.index == c.corner.index) (j.to.index == c.corner.index) r.1))
+      by (eqb-true j.arc c.arc r.0) (or_cases (j.from.index == c.corner.index) (j.to.index == c.corner.index) r.1))
     where
       by : j.arc ≡ c.arc → ((j.from.index == c.corner.index) ≡ true) ⊎ ((j.to.index == c.corner.index) ≡ true) → ⊥
-      by e (inl f) = n (ap (λ k. number arcs k j.from.index) e ∙ ap (λ i. number arcs c.arc i) (test_eq j.from.index c.corner.index f))
-      by e (inr f) = m (ap (λ k. number arcs k j.to.index) e ∙ ap (λ i. number arcs c.arc i) (test_eq j.to.index c.corner.index f))
+      by e (inl f) = n (ap (λ k. number arcs k j.from.index) e ∙ ap (λ i. number arcs c.arc i) (eqb-true j.from.index c.corner.index f))
+      by e (inr f) = m (ap (λ k. number arcs k j.to.index) e ∙ ap (λ i. number arcs c.arc i) (eqb-true j.to.index c.corner.index f))
 
 -- ---- corners
 

@@ -1,8 +1,7 @@
 -- Which rings use which arcs, and how often arcs move on, as loops count it.
 use Rattle.std.proofs.Common.{◌≡◌, ◌≢◌, ℕ, ℤ, ◌+◌, ◌-◌, ◌<◌, ◌≤◌, ◌==◌, Bool, true, false, nat_le, ◌&&◌, List, [], ◌∷◌, ◌++◌, length, map, take, drop, get_or, slice_index_or, slice_set, length-set, get_or-set_same, get_or-set_other, refl, ap, sym, ◌∙◌, subst, ◌⊎◌, inl, inr, arith}
 use Rattle.std.specs.List.{Contains, list_all}
-use Rattle.std.proofs.lemmas.Bool.{both_ways, cases_eq, cases_lt, or_cases}
-use Rattle.std.proofs.lemmas.Bool.Decides.{nat_tests}
+use Rattle.std.proofs.lemmas.Bool.{both_ways, cases_eq, cases_lt, or_cases, eqb-true}
 use Rattle.std.proofs.lemmas.List.{get_or_default, get_or-map, length-drop, length-map, map-set}
 use Rattle.std.proofs.lemmas.Grind.{common_steps}
 use Rattle.std.proofs.lemmas.List.Elements.{Contains-append_cases, Contains-append_left, Contains-append_right}
@@ -18,9 +17,6 @@ take_whole : {X : Type 0} (i : ℕ) (xs : List X) → length xs ≤ i → take i
 take_whole i xs h = grind (arith, common_steps)
 
 -- ---- a ring is listed with one arc more
-
-test_eq : (m n : ℕ) → (m == n) ≡ true → m ≡ n
-test_eq m n e = grind (arith, nat_tests)
 
 module _ {X : Type 0} (f : X → List ℕ) (ring : ℕ) (first us : List X) (x y : X) (refs : List ℤ) (i : ℕ) (r : ℤ) (l : i < length refs) (r_is : r ≡ get_or refs i r) (within : number_of r < length us)
     (x_is : x ≡ get_or us (number_of r) x) (y_is : f y ≡ f x ++ (ring ∷ [])) where
@@ -83,7 +79,7 @@ module _ {X : Type 0} (f : X → List ℕ) (ring : ℕ) (first us : List X) (x y
       on (inr h) = by (or_cases (arc == k) false h)
         where
           by : ((arc == k) ≡ true) ⊎ (false ≡ true) → (uses k (take i refs) ≡ true) ⊎ (k ≡ arc)
-          by (inl e) = inr (sym (test_eq arc k e))
+          by (inl e) = inr (sym (eqb-true arc k e))
           by (inr e) = absurd (both_ways false refl e)
 
   pub adds_one : AddsUser ring (take i refs) (map f first) old → AddsUser ring (take (i + 1) refs) (map f first) new

@@ -21,12 +21,13 @@ use crate::sharing::shared_topology;
 use build_meaning::indexes_reach;
 use byte_ends::Memory;
 use effective_area::Reducer;
+use elimination_meaning::indexes_rise;
 use geojson_types::{Counts, Dropped, Position};
 use json_value::Items;
 use layer_topology::{Guards, Level, reduced_line};
 use reports::{Report, report_of};
 use std::alloc::Global;
-use topo_model::{position_counts, reassemble, retained_cells};
+use topo_model::{position_counts, reassemble, retained_arc};
 use topojson_types::{Cell, Topology, Transform, positions};
 
 /// The positions of an arc without a transform, which are its cells. The arc is freed.
@@ -37,24 +38,28 @@ fn own_positions(alloc: Global, arc: Items<Cell>) -> Result<Items<Position>, Mem
     positions(alloc, None, arc.as_slice())
 }
 
-/// The cells of an arc that stay where the positions that they stand for are reduced.
+/// The cells of an arc that stay where the positions that they stand for are reduced. Where none goes it is this arc.
 fn reduced_cells<Q: Reducer>(
     alloc: Global,
     reducer: &mut Q,
     transform: Option<&Transform>,
-    cells: &[Cell],
+    arc: Items<Cell>,
     t: u128,
 ) -> Result<Items<Cell>, Memory>
-    requires { IsArc (option_copied transform) cells.now }
-    ensures retained { IfOk result (λ stay. stay ≡ retained (reduce t (placed_cells (option_copied transform.entry) cells.now)) cells.now) }
-    ensures called { IfOk result (λ _. Q.calls reducer.new ≡ Q.calls reducer.old ++ call_at t (placed_cells (option_copied transform.entry) cells.now) ∷ []) }
+    requires { IsArc (option_copied transform) arc }
+    ensures retained { IfOk result (λ stay. stay ≡ retained (reduce t (placed_cells (option_copied transform.entry) arc)) arc) }
+    ensures called { IfOk result (λ _. Q.calls reducer.new ≡ Q.calls reducer.old ++ call_at t (placed_cells (option_copied transform.entry) arc) ∷ []) }
 {
-    let line = positions(alloc, transform, cells)?;
+    indexes_rise();
+    let line = positions(alloc, transform, arc.as_slice())?;
     let kept = reducer.kept(alloc, line.as_slice(), t)?;
-    retained_cells(alloc, &kept, cells)
+    retained_arc(alloc, &kept, arc)
 }
 
-/// The cells of an arc that stay where the positions that they stand for are reduced. An arc without a transform is copied as positions and
+/// A longer arc without a transform is freed before it is reduced.
+const SHORT_ARC: usize = 1024;
+
+/// The cells of an arc that stay where the positions that they stand for are reduced. A long arc without a transform is copied as positions and
 /// freed before it is reduced, so that it isn't held beside them meanwhile.
 fn reduced_arc<Q: Reducer>(
     alloc: Global,
@@ -67,13 +72,11 @@ fn reduced_arc<Q: Reducer>(
     ensures retained { IfOk result (λ stay. stay ≡ retained (reduce t (placed_cells (option_copied transform.entry) arc)) arc) }
     ensures called { IfOk result (λ _. Q.calls reducer.new ≡ Q.calls reducer.old ++ call_at t (placed_cells (option_copied transform.entry) arc) ∷ []) }
 {
-    match transform {
-        None => {
-            let line = own_positions(alloc, arc)?;
-            reduced_line(alloc, reducer, line.as_slice(), t)
-        }
-        Some(_) => reduced_cells(alloc, reducer, transform, arc.as_slice(), t),
+    if transform.is_some() || arc.len() <= SHORT_ARC {
+        return reduced_cells(alloc, reducer, transform, arc, t);
     }
+    let line = own_positions(alloc, arc)?;
+    reduced_line(alloc, reducer, line.as_slice(), t)
 }
 
 /// Of each arc the cells that stay. No arc is held while the next one is reduced.

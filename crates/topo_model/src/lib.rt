@@ -2,7 +2,7 @@
 //! and simplifying a topology in the same way. Layers are taken apart and become a draft, in which each line and ring is replaced by its arc
 //! indexes (`specs/Drafts.antt`); a topology is a draft as it is. There is one way to finish a draft: lines and rings that are left with too few
 //! positions or enclose too little are dropped, arcs that no kept line uses are left out, and the others have new indexes. What is left of
-//! an arc is made of it alone (`retained_positions`, `retained_cells`), so that it can be freed before the next is reduced; `assemble` and
+//! an arc is made of it alone (`retained_positions`, `retained_arc`), so that it can be freed before the next is reduced; `assemble` and
 //! `Reduces::reduce` are for who has the numbers of all arcs at once. Where in each feature a ring is protected, it is named by the way to its
 //! polygon, and stays (`reassemble_sparing`, `assemble_draft_sparing`); where none is, no ways are given. `rings_to_stay` finds the rings of a
 //! topology that are protected. It stands on `build_meaning`, which says what topology that is and when it is what is built of the
@@ -48,7 +48,7 @@ pub use protecting::{protected_rings, rings_to_stay};
 pub use pruning::Keeps;
 pub use reassembling::{reassemble, reassemble_sparing};
 pub use reducing::Reduces;
-pub use retaining::{retained_cells, retained_positions};
+pub use retaining::{retained_arc, retained_positions};
 pub use sparing::assemble_draft_sparing;
 pub use taking_apart::take_apart;
 pub use topojson_types::{

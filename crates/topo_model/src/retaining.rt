@@ -1,6 +1,7 @@
 // Arcs of which only some positions stay.
-ghost use Rattle.std.specs.Prelude.{◌≡◌, IfOk};
+ghost use Rattle.std.specs.Prelude.{◌≡◌, IfOk, length};
 ghost use Rattle.build_meaning.specs.Simplified.{retained};
+ghost use Rattle.elimination_meaning.specs.Rising.{RisesOver};
 
 use geojson_types::Position;
 use json_value::Items;
@@ -42,4 +43,19 @@ pub fn retained_cells(
         stay.push(*cell)?;
     }
     Ok(Items::of(stay))
+}
+
+/// The cells of an arc with these numbers, which rise from its first to its last. Where none goes the arc itself is given back.
+pub fn retained_arc(
+    alloc: Global,
+    numbers: &[usize],
+    arc: Items<Cell>,
+) -> Result<Items<Cell>, Memory>
+    requires { RisesOver (length arc) numbers.now }
+    ensures { IfOk result (λ stay. stay ≡ retained numbers.now arc) }
+{
+    if numbers.len() == arc.len() {
+        return Ok(arc);
+    }
+    retained_cells(alloc, numbers, arc.as_slice())
 }

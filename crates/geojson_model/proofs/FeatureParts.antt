@@ -36,8 +36,8 @@ use Rattle.geojson_model.specs.Members.{IsOccurrence, IsType, Sees, type_in}
 use Rattle.geojson_model.specs.declared.features.Drawn.{Drawn}
 use Rattle.geojson_model.specs.declared.features.Fields.{Fields}
 use Rattle.geojson_model.specs.declared.geometries.Start.{Start}
-use Rattle.geojson_model.specs.declared.occurrence.Occurrence.{Occurrence}
-use Rattle.geojson_model.specs.declared.occurrence.Occurrence.TheVariants.{Never, Once, Again}
+use Rattle.json_cursor.specs.declared.occurrence.Occurrence.{Occurrence}
+use Rattle.json_cursor.specs.declared.occurrence.Occurrence.TheVariants.{Never, Once, Again}
 
 -- ---- the value of `geometry`
 

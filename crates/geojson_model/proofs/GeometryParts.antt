@@ -34,8 +34,8 @@ use Rattle.std.specs.Borrow.{Bor}
 use Rattle.json_cursor.specs.declared.stop.Stop.{Stop}
 use Rattle.json_cursor.specs.declared.stop.Stop.TheVariants as stop
 use Rattle.geojson_model.specs.Members.{IsOccurrence, IsType, Judges, geometry_kind, kind_of, type_in}
-use Rattle.geojson_model.specs.declared.occurrence.Occurrence.{Occurrence}
-use Rattle.geojson_model.specs.declared.occurrence.Occurrence.TheVariants.{Never, Once, Again}
+use Rattle.json_cursor.specs.declared.occurrence.Occurrence.{Occurrence}
+use Rattle.json_cursor.specs.declared.occurrence.Occurrence.TheVariants.{Never, Once, Again}
 
 -- readers that answer the same are judged by the same
 pub judges_same : {C E B : Type 0} (r s : Counting C E B) (old new : C) → r old ≡ s old → (result : Result B (Stop E)) → Judges s old new result → Judges r old new result

@@ -36,8 +36,8 @@ use Rattle.geojson_model.specs.declared.features.Fields.{Fields}
 use Rattle.geojson_model.specs.declared.geometries.Parts.{Parts}
 use Rattle.geojson_model.specs.declared.geometries.Start.{Start}
 use Rattle.geojson_model.specs.declared.layers.Collected.{Collected}
-use Rattle.geojson_model.specs.declared.occurrence.Occurrence.{Occurrence}
-use Rattle.geojson_model.specs.declared.occurrence.Occurrence.TheVariants.{Never, Once, Again}
+use Rattle.json_cursor.specs.declared.occurrence.Occurrence.{Occurrence}
+use Rattle.json_cursor.specs.declared.occurrence.Occurrence.TheVariants.{Never, Once, Again}
 use Rattle.geojson_model.proofs.FeatureParts.{fields_pass}
 use Rattle.geojson_model.proofs.MemberOccurrences.{not_other, passes}
 

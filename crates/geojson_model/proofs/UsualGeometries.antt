@@ -30,8 +30,8 @@ use Rattle.json_cursor.specs.Members.{Members, prefix_member}
 use Rattle.json_cursor.proofs.Openings.{first_byte, members_fail, some_members}
 use Rattle.json_cursor.proofs.Steps.{bound, made, unmade}
 use Rattle.geojson_model.specs.declared.leading.Seen.{Seen}
-use Rattle.geojson_model.specs.declared.occurrence.Occurrence.{Occurrence}
-use Rattle.geojson_model.specs.declared.occurrence.Occurrence.TheVariants.{Never, Once, Again}
+use Rattle.json_cursor.specs.declared.occurrence.Occurrence.{Occurrence}
+use Rattle.json_cursor.specs.declared.occurrence.Occurrence.TheVariants.{Never, Once, Again}
 use Rattle.geojson_model.specs.Members.{IsLed, IsOccurrence, IsSeen, LeadsGeometry, RepeatsIn, first_fault, is_again, twice}
 use Rattle.geojson_model.proofs.GeometryParts.{object_reads, object_stops}
 use Rattle.geojson_model.proofs.MemberOccurrences.{judged_read}

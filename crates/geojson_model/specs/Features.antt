@@ -21,8 +21,8 @@ use Rattle.geojson_model.specs.declared.features.Drawn.{Drawn}
 use Rattle.geojson_model.specs.declared.features.FeatureParts.{FeatureParts}
 use Rattle.geojson_model.specs.declared.features.Fields.{Fields}
 use Rattle.geojson_model.specs.declared.geometries.Start.{Start}
-use Rattle.geojson_model.specs.declared.occurrence.Occurrence.{Occurrence}
-use Rattle.geojson_model.specs.declared.occurrence.Occurrence.TheVariants.{Never, Once, Again}
+use Rattle.json_cursor.specs.declared.occurrence.Occurrence.{Occurrence}
+use Rattle.json_cursor.specs.declared.occurrence.Occurrence.TheVariants.{Never, Once, Again}
 
 -- ---- the members of a feature
 

@@ -23,8 +23,8 @@ use Rattle.geojson_model.specs.Members.{IsParts, IsOccurrence}
 use Rattle.geojson_model.specs.declared.geometries.Start.{Start}
 use Rattle.geojson_model.specs.declared.layers.Collected.{Collected}
 use Rattle.geojson_model.specs.declared.layers.LayerParts.{LayerParts}
-use Rattle.geojson_model.specs.declared.occurrence.Occurrence.{Occurrence}
-use Rattle.geojson_model.specs.declared.occurrence.Occurrence.TheVariants.{Never, Once, Again}
+use Rattle.json_cursor.specs.declared.occurrence.Occurrence.{Occurrence}
+use Rattle.json_cursor.specs.declared.occurrence.Occurrence.TheVariants.{Never, Once, Again}
 
 -- why reading stops, in the feature of this number, or in none
 abbrev pub stop_in : Option ℕ → Stop GeoFaultKind → Stop GeoFault

@@ -1,5 +1,5 @@
 -- Members of objects that are looked up, as they were seen among the others.
-use Rattle.std.specs.Prelude.{◌≡◌, ℕ, ◌-◌, Bool, true, false, if◌then◌else◌, ◌||◌, List, [], ◌∷◌, ◌++◌, Option, Some, None, Result, Ok, Err, codes}
+use Rattle.std.specs.Prelude.{◌≡◌, ℕ, ◌-◌, Bool, if◌then◌else◌, ◌||◌, List, [], ◌∷◌, ◌++◌, Option, Some, None, Result, Ok, Err, codes}
 use Rattle.std.specs.Borrow.{Bor}
 use Rattle.json_value.specs.declared.json.Json.{Json}
 use Rattle.json_value.specs.Kinds.{object_of, text_of}
@@ -11,7 +11,6 @@ use Rattle.geojson_types.specs.declared.counts.Counts.{Counts}
 use Rattle.geojson_types.specs.Features.{Shape}
 use Rattle.geojson_meaning.specs.Geometries.{coordinates_shape, shapes}
 use Rattle.geojson_meaning.specs.Members.{named}
-use Rattle.json_value.specs.Readers.{Counting}
 use Rattle.geojson_meaning.specs.Reader.{or_fail}
 use Rattle.geojson_meaning.specs.Types.{geojson_type, geometry_type}
 use Rattle.geojson_meaning.specs.declared.fault.GeoFaultKind.{GeoFaultKind}
@@ -21,13 +20,13 @@ use Rattle.geojson_meaning.specs.declared.types.GeoJsonType.{GeoJsonType}
 use Rattle.geojson_meaning.specs.declared.types.GeoJsonType.TheVariants as type
 use Rattle.geojson_meaning.specs.declared.types.GeometryType.{GeometryType}
 use Rattle.geojson_meaning.specs.declared.types.GeometryType.TheVariants as kinds
-use Rattle.json_cursor.specs.declared.stop.Stop.{Stop}
-use Rattle.json_cursor.specs.declared.stop.Stop.TheVariants as stop
+pub use Rattle.json_cursor.specs.Answers.{Judges}
 use Rattle.json_cursor.specs.Arrays.{prefix_value}
 use Rattle.json_cursor.specs.Held.{IsHeld}
 use Rattle.json_cursor.specs.Members.{Made, Members}
-use Rattle.geojson_model.specs.declared.occurrence.Occurrence.{Occurrence}
-use Rattle.geojson_model.specs.declared.occurrence.Occurrence.TheVariants.{Never, Once, Again}
+pub use Rattle.json_cursor.specs.Occurrences.{BeginsAt, IsOccurrence, is_again, see}
+use Rattle.json_cursor.specs.declared.occurrence.Occurrence.{Occurrence}
+use Rattle.json_cursor.specs.declared.occurrence.Occurrence.TheVariants.{Never, Once, Again}
 use Rattle.geojson_model.specs.declared.coordinate_members.Coordinates.{Coordinates}
 use Rattle.geojson_model.specs.declared.geometries.Group.{Group}
 use Rattle.geojson_model.specs.declared.geometries.Parts.{Parts}
@@ -35,39 +34,11 @@ use Rattle.geojson_model.specs.declared.coordinate_members.Read.{Read}
 use Rattle.geojson_model.specs.declared.geometries.Start.{Start}
 use Rattle.geojson_model.specs.declared.leading.Seen.{Seen}
 
--- these are the values of a name that was seen so
-abbrev pub IsOccurrence : {A : Type 0} → (Json → A → Type 0) → List Json → Occurrence A → Type 0
-IsOccurrence Is vs Never = vs ≡ []
-IsOccurrence Is vs (Once x) = (v : Json) × (vs ≡ v ∷ []) × Is v x
-IsOccurrence Is vs Again = (v : Json) × (w : Json) × (us : List Json) × (vs ≡ v ∷ w ∷ us)
-
--- a name that stood once more among members, with what is known of its value
-abbrev pub see : {A : Type 0} → Occurrence A → A → Occurrence A
-see Never x = Once x
-see (Once y) x = Again
-see Again x = Again
-
-abbrev pub is_again : {A : Type 0} → Occurrence A → Bool
-is_again Never = false
-is_again (Once x) = false
-is_again Again = true
-
--- the value begins there
-abbrev pub BeginsAt : ℕ → Json → Bor (List ℕ) → Type 0
-BeginsAt d v prefix = (rest : List ℕ) × (prefix_value d prefix.now ≡ Some (v, rest))
-
 -- A value stands there, and then the rest, and what holds of members goes on to hold with a member of this name and that value. Or none
 -- stands there, or nothing is said.
 abbrev pub Sees : {S : Type 0} → Made S → ℕ → List ℕ → List ℕ → S → S → Result (Bor (List ℕ)) Fault → Type 0
 Sees Holds d name value before after (Ok rest) = (v : Json) × (prefix_value d value ≡ Some (v, rest.now)) × ((ms : Members) → Holds ms before → Holds (ms ++ (name, v) ∷ []) after)
 Sees Holds d name value before after (Err fault) = Fails fault (prefix_value d value)
-
--- this is read, or the fault is the reader's, or nothing is said
-abbrev pub Judges : {C E B : Type 0} → Counting C E B → C → C → Result B (Stop E) → Type 0
-Judges read old new (Ok x) = read old ≡ Ok (x, new)
-Judges read old new (Err (stop.Fault e)) = read old ≡ Err e
-Judges read old new (Err stop.NoValue) = ⊥
-Judges read old new (Err stop.Memory) = Unit {0}
 
 -- ---- the members of a geometry
 

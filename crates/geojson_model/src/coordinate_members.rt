@@ -10,11 +10,10 @@ ghost use Rattle.geojson_model.specs.Members.{IsCoordinates, IsOccurrence, IsRea
 ghost use Rattle.geojson_model.specs.declared.geometries.Start.{Start as Begun};
 
 use crate::geometries::Start;
-use crate::occurrence::Occurrence;
 use crate::shapes::coordinates_at;
 use geojson_meaning::{CoordinatesType, GeoFaultKind, GeoJsonType, GeometryType};
 use geojson_types::{Counts, Shape};
-use json_cursor::Stop;
+use json_cursor::{Occurrence, Stop};
 use json_reading::{Fault, Why, after_value};
 use std::alloc::Global;
 

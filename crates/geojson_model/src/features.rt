@@ -15,11 +15,10 @@ ghost use Rattle.geojson_model.specs.Members.{IsOccurrence, Judges, Sees};
 ghost use Rattle.geojson_model.specs.declared.geometries.Start.{Start as Begun};
 
 use crate::geometries::{Start, geometry_at, type_at};
-use crate::occurrence::Occurrence;
 use geojson_meaning::{GeoFaultKind, GeoJsonType, identifier};
 use geojson_types::{Counts, Feature, Id, Properties, Shape};
 use json_cursor::{
-    Kind, Members, Name, Stop, kind_at, name_at, named_at, object_into, read_properties,
+    Kind, Members, Name, Occurrence, Stop, kind_at, name_at, named_at, object_into, read_properties,
 };
 use json_reading::{Fault, Why, after_value, value_at};
 use std::alloc::Global;

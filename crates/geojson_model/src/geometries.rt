@@ -15,11 +15,12 @@ ghost use Rattle.geojson_model.specs.declared.geometries.Start.{Start as Begun};
 
 use crate::coordinate_members::{Coordinates, coordinates_member, coordinates_of};
 use crate::leading::{led_at, led_geometry_at};
-use crate::occurrence::Occurrence;
 use crate::type_names::type_name_at;
 use geojson_meaning::{GeoFaultKind, GeoJsonType, GeometryType, geojson_type};
 use geojson_types::{Counts, Shape};
-use json_cursor::{Mark, Name, Stop, after_byte, after_others, broken, mark_at, name_at};
+use json_cursor::{
+    Mark, Name, Occurrence, Stop, after_byte, after_others, broken, mark_at, name_at,
+};
 use json_reading::{Fault, after_value, skip};
 use json_value::Items;
 use std::alloc::{AllocFailed, Global};

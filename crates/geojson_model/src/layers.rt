@@ -15,10 +15,9 @@ ghost use Rattle.geojson_model.specs.declared.geometries.Start.{Start as Begun};
 
 use crate::features::{Fields, feature_at, feature_of, is_field};
 use crate::geometries::{Parts, Start, member_value, shape_of};
-use crate::occurrence::Occurrence;
 use geojson_meaning::{GeoFault, GeoFaultKind, GeoJsonType};
 use geojson_types::{Counts, Feature};
-use json_cursor::{Elements, Members, Stop, held_array_at, name_at, object_into};
+use json_cursor::{Elements, Members, Occurrence, Stop, held_array_at, name_at, object_into};
 use json_reading::{Fault, Why, after_value};
 use json_value::Items;
 use std::alloc::{AllocFailed, Global};

@@ -9,12 +9,11 @@ ghost use Rattle.geojson_meaning.specs.declared.types.GeometryType.TheVariants a
 ghost use Rattle.geojson_model.specs.Members.{BeginsGeometry, IsSeen, LeadsGeometry, Repeats};
 ghost use Rattle.geojson_model.specs.Members as spec;
 
-use crate::occurrence::Occurrence;
 use crate::shapes::coordinates_at;
 use crate::type_names::type_name_at;
 use geojson_meaning::{CoordinatesType, GeoFaultKind, GeometryType, geometry_type};
 use geojson_types::{Counts, Shape};
-use json_cursor::{Members, Stop, after_byte, name_at, named_at, object_into};
+use json_cursor::{Members, Occurrence, Stop, after_byte, name_at, named_at, object_into};
 use json_reading::{Fault, after_value, skip};
 use std::alloc::Global;
 

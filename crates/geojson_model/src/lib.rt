@@ -11,7 +11,6 @@ mod geometries;
 mod layers;
 mod leading;
 mod lines;
-mod occurrence;
 mod positions;
 mod shapes;
 mod texts;

@@ -9,6 +9,7 @@ pub mod PrefixKinds
 pub mod LedParts
 pub mod Lists
 pub mod MemberParts
+pub mod Occurrences
 pub mod Openings
 pub mod Quoted
 pub mod SpanParts

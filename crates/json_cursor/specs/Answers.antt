@@ -28,3 +28,10 @@ Stops read prefix old Memory = Unit {0}
 abbrev pub Answers : {C E V B X : Type 0} → (X → B) → (V → Counting C E B) → Option (V × List ℕ) → C → C → Result (X × Bor (List ℕ)) (Stop E) → Type 0
 Answers view read prefix old new (Ok x) = Reads read prefix (view x.0) x.1.now old new
 Answers view read prefix old new (Err stop) = Stops read prefix old stop
+
+-- this is read, or the fault is the reader's, or nothing is said
+abbrev pub Judges : {C E B : Type 0} → Counting C E B → C → C → Result B (Stop E) → Type 0
+Judges read old new (Ok x) = read old ≡ Ok (x, new)
+Judges read old new (Err (Fault e)) = read old ≡ Err e
+Judges read old new (Err NoValue) = ⊥
+Judges read old new (Err Memory) = Unit {0}

@@ -7,5 +7,6 @@ pub mod Held
 pub mod Kinds
 pub mod Members
 pub mod Names
+pub mod Occurrences
 pub mod Spans
 pub mod Texts

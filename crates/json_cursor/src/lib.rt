@@ -1,8 +1,8 @@
 //! A cursor over JSON text (RFC 8259): arrays are read element by element and objects member by member, whatever is made of them;
 //! properties are copied as the text that is written for them. No value is made. It stands on `json_reading`. The layers above use the
 //! contract `Answers` of `specs/Answers.antt`: what stands at the front is read so, or has this first fault whatever value it is, or is no
-//! value; of objects the contracts of `specs/Members.antt`; and the one of `read_properties`. The top of a reader calls `read_text`, which
-//! puts what is malformed before what the value has of faults.
+//! value; of objects the contracts of `specs/Members.antt`, with an `Occurrence` for each name that is looked for; and the one of
+//! `read_properties`. The top of a reader calls `read_text`, which puts what is malformed before what the value has of faults.
 #![tactic(auto)]
 
 mod copied_strings;
@@ -14,6 +14,7 @@ mod kinds;
 mod marks;
 mod members;
 mod names;
+mod occurrence;
 mod passing;
 mod properties;
 mod room;
@@ -28,6 +29,7 @@ pub use kinds::{Kind, kind_at};
 pub use marks::{Mark, Opening, after_byte, mark_at, opening_at};
 pub use members::{Members, broken, object_at, object_into};
 pub use names::{Name, name_at, named_at, string_at, word_at};
+pub use occurrence::Occurrence;
 pub use passing::{after_elements, after_others};
 pub use properties::read_properties;
 pub use room::{arrays_ahead, numbers_ahead};

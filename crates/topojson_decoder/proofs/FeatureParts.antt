@@ -33,8 +33,8 @@ use Rattle.topojson_decoder.specs.declared.geometry_parts.GeometryParts.{Geometr
 use Rattle.topojson_decoder.specs.declared.geometry_parts.Start.{Start}
 use Rattle.topojson_decoder.specs.declared.keeping.Keeping.{Keeping}
 use Rattle.topojson_decoder.specs.declared.keeping.Keeping.TheVariants.{Whole, Shapes, Blank}
-use Rattle.topojson_decoder.specs.declared.occurrence.Occurrence.{Occurrence}
-use Rattle.topojson_decoder.specs.declared.occurrence.Occurrence.TheVariants.{Never}
+use Rattle.json_cursor.specs.declared.occurrence.Occurrence.{Occurrence}
+use Rattle.json_cursor.specs.declared.occurrence.Occurrence.TheVariants.{Never}
 use Rattle.topojson_decoder.specs.Features.{IsFeature, IsFound, IsMemberAt, blank_identifier, blank_members, found, found_in, kept_identifier, kept_members, member_name, typed_feature}
 use Rattle.topojson_decoder.specs.Geometries.{IsParts}
 use Rattle.topojson_decoder.specs.Kept.{of_option, of_read}

@@ -9,8 +9,8 @@ use Rattle.topojson_meaning.specs.declared.fault.TopoFault.{TopoFault}
 use Rattle.topojson_decoder.specs.declared.index.By.{By}
 use Rattle.topojson_decoder.specs.declared.index.FoundArcs.{FoundArcs}
 use Rattle.topojson_decoder.specs.declared.index.Index.{Index}
-use Rattle.topojson_decoder.specs.declared.occurrence.Occurrence.{Occurrence}
-use Rattle.topojson_decoder.specs.declared.occurrence.Occurrence.TheVariants.{Never, Once, Again}
+use Rattle.json_cursor.specs.declared.occurrence.Occurrence.{Occurrence}
+use Rattle.json_cursor.specs.declared.occurrence.Occurrence.TheVariants.{Never, Once, Again}
 use Rattle.topojson_decoder.specs.Index.{AreArcs, IsIndex, transform_by, unread}
 use Rattle.topojson_decoder.specs.Members.{BeginsAt, IsOccurrence, see}
 use Rattle.topojson_decoder.specs.Transforms.{IsTransformOf}

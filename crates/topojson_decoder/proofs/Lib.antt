@@ -17,7 +17,6 @@ pub mod LeapTurns
 pub mod LeastArcs
 pub mod LostParts
 pub mod NamedLaws
-pub mod NamedMembers
 pub mod NamedSeen
 pub mod NumberParts
 pub mod ObjectSeen

@@ -23,8 +23,8 @@ use Rattle.topojson_types.specs.declared.transform.Transform.{Transform}
 use Rattle.topojson_decoder.specs.declared.index.By.{By}
 use Rattle.topojson_decoder.specs.declared.index.FoundArcs.{FoundArcs}
 use Rattle.topojson_decoder.specs.declared.index.Index.{Index}
-use Rattle.topojson_decoder.specs.declared.occurrence.Occurrence.{Occurrence}
-use Rattle.topojson_decoder.specs.declared.occurrence.Occurrence.TheVariants.{Never, Once, Again}
+use Rattle.json_cursor.specs.declared.occurrence.Occurrence.{Occurrence}
+use Rattle.json_cursor.specs.declared.occurrence.Occurrence.TheVariants.{Never, Once, Again}
 use Rattle.topojson_decoder.specs.Index.{EndsAt, FindsArcs, GoesOnOrLoses, IsIndex, IsLost, NoArcs, NoObjects, TakesAllOrLoses, TakesOrLoses, unread}
 use Rattle.topojson_decoder.specs.Members.{see}
 use Rattle.topojson_decoder.proofs.MemberOccurrences.{member_goes_on}

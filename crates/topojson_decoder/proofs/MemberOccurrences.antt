@@ -1,5 +1,5 @@
 -- Members that are looked up, seen one after another.
-use Rattle.std.proofs.Common.{◌≡◌, ℕ, Bool, true, false, List, [], ◌∷◌, ◌++◌, Option, Some, Ok, Err, refl, sym, subst, ap, ◌∙◌}
+use Rattle.std.proofs.Common.{◌≡◌, ℕ, Bool, true, false, List, [], ◌∷◌, ◌++◌, Option, Some, Ok, Err, refl, sym, subst, ◌∙◌}
 use Rattle.std.specs.Prelude.{bytes_eq, Result}
 use Rattle.std.proofs.lemmas.Slice.Eq.{bytes_eq-Decides}
 use Rattle.std.specs.Borrow.{Bor}
@@ -8,7 +8,6 @@ use Rattle.json_value.specs.Reading.{◌>>=◌}
 use Rattle.json_value.specs.Members.{Members, named}
 use Rattle.json_reading.specs.declared.fault.Fault.{Fault}
 use Rattle.json_reading.specs.declared.fault.Fault.TheVariants as text
-use Rattle.json_reading.proofs.Steps.{pair_is}
 use Rattle.json_cursor.proofs.Steps.{found_stops}
 use Rattle.geojson_types.specs.declared.counts.Counts.{Counts}
 use Rattle.topojson_meaning.specs.Reader.{Reader}
@@ -18,39 +17,9 @@ use Rattle.json_cursor.specs.declared.stop.Stop.{Stop}
 use Rattle.json_cursor.specs.declared.stop.Stop.TheVariants as stop
 use Rattle.json_cursor.specs.Arrays.{prefix_value}
 use Rattle.json_cursor.specs.Members.{GoesOn, Made, prefix_member}
-use Rattle.topojson_decoder.specs.declared.occurrence.Occurrence.{Occurrence}
-use Rattle.topojson_decoder.specs.declared.occurrence.Occurrence.TheVariants.{Never, Once, Again}
-use Rattle.topojson_decoder.specs.Members.{GoesOnWith, IsOccurrence, IsOnly, Judges, see}
-use Rattle.topojson_decoder.proofs.NamedMembers.{named_append, foreign_named, other_named}
-
--- a name that is this word is no other
-pub no_other : (n a b : List ℕ) → bytes_eq n a ≡ true → bytes_eq a b ≡ false → bytes_eq n b ≡ false
-no_other n a b h k = let same : n ≡ a = (bytes_eq-Decides n a).0 h in ap (λ z. bytes_eq z b) same ∙ k
-
-module _ (name : List ℕ) (ms : Members) (v : Json) where
-  same_one : (n : List ℕ) → bytes_eq n name ≡ true → named name ((n, v) ∷ []) ≡ v ∷ []
-  unfolding named
-  same_one n h = rw h refl
-
-  one_more : (n : List ℕ) → bytes_eq n name ≡ true → named name (ms ++ (n, v) ∷ []) ≡ named name ms ++ v ∷ []
-  one_more n h = named_append name ms ((n, v) ∷ []) ∙ ap (λ z. named name ms ++ z) (same_one n h)
-
-  no_more : (n : List ℕ) → bytes_eq n name ≡ false → named name (ms ++ (n, v) ∷ []) ≡ named name ms
-  no_more n h = other_named name ms (n, v) (named name ms) refl (foreign_named name (n, v) h)
-
-one_seen : {A : Type 0} (Is : Json → A → Type 0) (vs : List Json) (s : Occurrence A) (v : Json) (x : A) → IsOccurrence Is vs s → Is v x → IsOccurrence Is (vs ++ v ∷ []) (see s x)
-one_seen Is vs Never v x h is = (v, ap (λ us. us ++ v ∷ []) h, is)
-one_seen Is vs (Once y) v x (w, same, k) is = (w, v, [], ap (λ us. us ++ v ∷ []) same)
-one_seen Is vs Again v x (w, u, us, same) is = (w, u, us ++ v ∷ [], ap (λ ws. ws ++ v ∷ []) same)
-
-module _ {A : Type 0} (Is : Json → A → Type 0) (word : List ℕ) (ms : Members) (name : List ℕ) (v : Json) (s : Occurrence A) (h : IsOccurrence Is (named word ms) s) where
-  -- a member of this name
-  pub sees : (x : A) → bytes_eq name word ≡ true → Is v x → IsOccurrence Is (named word (ms ++ (name, v) ∷ [])) (see s x)
-  sees x same is = subst (λ us. IsOccurrence Is us (see s x)) (sym (one_more word ms v name same)) (one_seen Is (named word ms) s v x h is)
-
-  -- a member of another name
-  pub passes : bytes_eq name word ≡ false → IsOccurrence Is (named word (ms ++ (name, v) ∷ [])) s
-  passes other = subst (λ us. IsOccurrence Is us s) (sym (no_more word ms v name other)) h
+pub use Rattle.json_cursor.proofs.Occurrences.{judged, judged_read, not_other as no_other, passes, sees}
+use Rattle.json_cursor.proofs.Occurrences.{member_found, no_more, one_more}
+use Rattle.topojson_decoder.specs.Members.{GoesOnWith, IsOnly, Judges}
 
 -- ---- values of which one alone counts
 
@@ -85,27 +54,11 @@ pub by_word : {S : Type 0} (Holds : Made S) (d : ℕ) (name word : List ℕ) →
     → GoesOnWith Holds d word before after bytes answer → GoesOnWith Holds d name before after bytes answer
 by_word Holds d name word same before after bytes answer h = let is : name ≡ word = (bytes_eq-Decides name word).0 same in subst (λ n. GoesOnWith Holds d n before after bytes answer) (sym is) h
 
-member_found : (d : ℕ) (bytes name value rest : List ℕ) (v : Json) → prefix_member d bytes ≡ (prefix_value d value >>= λ x. Some ((name, x.0), x.1)) → prefix_value d value ≡ Some (v, rest)
-    → prefix_member d bytes ≡ Some ((name, v), rest)
-member_found d bytes name value rest v named found = named ∙ rw found refl
-
 pub member_goes_on : {S : Type 0} (Holds : Made S) (d : ℕ) (before after : S) (bytes name value : List ℕ) → prefix_member d bytes ≡ (prefix_value d value >>= λ x. Some ((name, x.0), x.1))
     → (answer : Result (Bor (List ℕ)) Fault) → GoesOnWith Holds d name before after value answer → GoesOn Holds d before after bytes answer
 member_goes_on Holds d before after bytes name value named (Ok rest) h = record { member = (name, h.value); prefix = member_found d bytes name value rest.now h.value named h.prefix; holds = h.holds }
 member_goes_on Holds d before after bytes name value named (Err (text.Malformed why left)) h = named ∙ rw h refl
 member_goes_on Holds d before after bytes name value named (Err text.Memory) h = tt
-
--- ---- what is answered of the value that is known to stand at a front
-
-pub judged : {B : Type 0} (read : Json → Reader B) (prefix : Option (Json × List ℕ)) (v : Json) (rest : List ℕ) (old new : Counts) → prefix ≡ Some (v, rest)
-    → (why : Stop TopoFault) → Stops read prefix old why → Judges (read v) old new (Err why)
-judged read prefix v rest old new is (stop.Fault e) h = h v rest is
-judged read prefix v rest old new is stop.NoValue h = let wrong = sym h ∙ is in cc
-judged read prefix v rest old new is stop.Memory h = tt
-
-pub judged_read : {B : Type 0} (read : Json → Reader B) (prefix : Option (Json × List ℕ)) (v : Json) (rest : List ℕ) (old new : Counts) → prefix ≡ Some (v, rest)
-    → (x : B) (end : List ℕ) → Reads read prefix x end old new → read v old ≡ Ok (x, new)
-judged_read read prefix v rest old new is x end r = ap (λ w. read w old) (pair_is v rest (r.value, end) (sym is ∙ r.prefix_is)).0 ∙ r.means
 
 -- readers that answer the same are judged by the same
 pub judges_same : {B : Type 0} (r s : Reader B) (old new : Counts) → r old ≡ s old → (result : Result B (Stop TopoFault)) → Judges s old new result → Judges r old new result

@@ -28,8 +28,8 @@ use Rattle.topojson_decoder.specs.declared.geometry_parts.Start.{Start}
 use Rattle.topojson_decoder.specs.declared.keeping.Keeping.{Keeping}
 use Rattle.topojson_decoder.specs.declared.object_parts.Features.{Features}
 use Rattle.topojson_decoder.specs.declared.object_parts.ObjectParts.{ObjectParts}
-use Rattle.topojson_decoder.specs.declared.occurrence.Occurrence.{Occurrence}
-use Rattle.topojson_decoder.specs.declared.occurrence.Occurrence.TheVariants.{Never}
+use Rattle.json_cursor.specs.declared.occurrence.Occurrence.{Occurrence}
+use Rattle.json_cursor.specs.declared.occurrence.Occurrence.TheVariants.{Never}
 use Rattle.topojson_decoder.specs.Features.{IsFeature}
 use Rattle.topojson_decoder.specs.Kept.{kept_object, making, of_object}
 use Rattle.topojson_decoder.specs.Members.{GoesOnWith, IsOccurrence, Judges, see}

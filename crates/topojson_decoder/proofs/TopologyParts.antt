@@ -31,7 +31,7 @@ use Rattle.json_cursor.specs.Arrays.{prefix_value}
 use Rattle.json_cursor.proofs.Steps.{found_stops}
 use Rattle.topojson_decoder.specs.declared.keeping.Keeping.{Keeping}
 use Rattle.topojson_decoder.specs.declared.topologies.Parts.{Parts}
-use Rattle.topojson_decoder.specs.declared.occurrence.Occurrence.TheVariants.{Once}
+use Rattle.json_cursor.specs.declared.occurrence.Occurrence.TheVariants.{Once}
 use Rattle.topojson_decoder.specs.Kept.{kept_contents, kept_value_contents, making, of_contents}
 use Rattle.topojson_decoder.specs.Members.{BeginsAt, IsOccurrence, Judges}
 use Rattle.topojson_decoder.specs.Topologies.{Gives, NeededAt, type_in, transform_in}

@@ -22,8 +22,8 @@ use Rattle.json_reading.specs.Passes.{Passes}
 use Rattle.json_cursor.specs.Folds.{fold}
 use Rattle.json_cursor.specs.Held.{IsHeld}
 use Rattle.json_cursor.specs.Kinds.{kind_in, kind_of}
-use Rattle.topojson_decoder.specs.declared.occurrence.Occurrence.{Occurrence}
-use Rattle.topojson_decoder.specs.declared.occurrence.Occurrence.TheVariants.{Never, Once, Again}
+use Rattle.json_cursor.specs.declared.occurrence.Occurrence.{Occurrence}
+use Rattle.json_cursor.specs.declared.occurrence.Occurrence.TheVariants.{Never, Once, Again}
 use Rattle.topojson_decoder.specs.declared.transforms.NumberTexts.{NumberTexts}
 use Rattle.topojson_decoder.specs.declared.transforms.TransformParts.{TransformParts}
 use Rattle.topojson_decoder.specs.Members.{GoesOnWith, IsOccurrence, see}

@@ -19,8 +19,8 @@ use Rattle.topojson_decoder.specs.declared.index.By.{By}
 use Rattle.topojson_decoder.specs.declared.index.FoundArcs.{FoundArcs}
 use Rattle.topojson_decoder.specs.declared.index.Index.{Index}
 use Rattle.topojson_decoder.specs.declared.index.ReadArcs.{ReadArcs}
-use Rattle.topojson_decoder.specs.declared.occurrence.Occurrence.{Occurrence}
-use Rattle.topojson_decoder.specs.declared.occurrence.Occurrence.TheVariants.{Never, Once, Again}
+use Rattle.json_cursor.specs.declared.occurrence.Occurrence.{Occurrence}
+use Rattle.json_cursor.specs.declared.occurrence.Occurrence.TheVariants.{Never, Once, Again}
 
 -- the transform of a topology of whose member `transform` this was seen, unless it has a fault
 abbrev pub transform_by : Occurrence (Result (Option Transform) TopoFault) → Option (Option Transform)

@@ -12,8 +12,8 @@ use Rattle.topojson_meaning.specs.Transforms.{texts, transform_if}
 use Rattle.json_cursor.specs.declared.kinds.Kind.{Kind}
 use Rattle.json_cursor.specs.declared.kinds.Kind.TheVariants.{Null}
 use Rattle.topojson_decoder.specs.Members.{IsOccurrence}
-use Rattle.topojson_decoder.specs.declared.occurrence.Occurrence.{Occurrence}
-use Rattle.topojson_decoder.specs.declared.occurrence.Occurrence.TheVariants.{Never, Once, Again}
+use Rattle.json_cursor.specs.declared.occurrence.Occurrence.{Occurrence}
+use Rattle.json_cursor.specs.declared.occurrence.Occurrence.TheVariants.{Never, Once, Again}
 use Rattle.topojson_decoder.specs.declared.transforms.NumberTexts.{NumberTexts}
 use Rattle.topojson_decoder.specs.declared.transforms.TransformParts.{TransformParts}
 

@@ -16,9 +16,8 @@ ghost use Rattle.topojson_decoder.specs.declared.geometry_parts.Start.{Start as 
 use crate::geometry_parts::{GeometryParts, Group, PartType, Start, kind_of, part_of};
 use crate::index::is_name;
 use crate::keeping::Keeping;
-use crate::occurrence::Occurrence;
 use geojson_types::Counts;
-use json_cursor::{Mark, Stop, after_byte, after_others, broken, mark_at, name_at};
+use json_cursor::{Mark, Occurrence, Stop, after_byte, after_others, broken, mark_at, name_at};
 use json_reading::{Fault, after_value, skip};
 use json_value::Items;
 use std::alloc::{AllocFailed, Global};

@@ -14,11 +14,10 @@ ghost use Rattle.topojson_decoder.specs.declared.geometry_parts.Start.{Start as 
 use crate::held::held_stop;
 use crate::index::is_name;
 use crate::keeping::Keeping;
-use crate::occurrence::Occurrence;
 use crate::shapes::{arcs_shape_at, places_shape_at};
 use crate::types::{geometry_type, plain_type_at};
 use geojson_types::Counts;
-use json_cursor::{Kind, Stop, kind_at, string_at};
+use json_cursor::{Kind, Occurrence, Stop, kind_at, string_at};
 use json_reading::{Fault, after_value};
 use json_value::Items;
 use std::alloc::Global;

@@ -29,7 +29,6 @@ mod named_objects;
 mod next_cells;
 mod numbers;
 mod object_parts;
-mod occurrence;
 mod pairs;
 mod reading;
 mod shapes;

@@ -9,11 +9,11 @@ ghost use Rattle.topojson_decoder.specs.Transforms.{IsTexts, IsTransform, IsTran
 ghost use Rattle.topojson_decoder.specs.Transforms as spec;
 
 use crate::held::held;
-use crate::occurrence::Occurrence;
 use decimal_text::NumText;
 use geojson_types::Counts;
 use json_cursor::{
-    Elements, Kind, Members, Stop, folded_array_at, kind_at, name_at, object_at as members_at,
+    Elements, Kind, Members, Occurrence, Stop, folded_array_at, kind_at, name_at,
+    object_at as members_at,
 };
 use json_reading::{Fault, after_value, value_at};
 use std::alloc::Global;

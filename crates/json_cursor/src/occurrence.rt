@@ -1,6 +1,6 @@
 // How often a name stood among members.
 ghost use Rattle.std.specs.Prelude.{◌≡◌};
-ghost use Rattle.topojson_decoder.specs.Members as spec;
+ghost use Rattle.json_cursor.specs.Occurrences as spec;
 
 /// How often a name stood among members, and what is known of its value where it stood once.
 #[derive(Drop)]
@@ -13,7 +13,7 @@ pub enum Occurrence<T> {
 impl<T: Drop> Occurrence<T> {
     /// Goes on with one more, of whose value this is known.
     #[inline(always)]
-    pub(crate) fn see(&mut self, one: T)
+    pub fn see(&mut self, one: T)
         ensures { self.new ≡ spec.see self.old one }
     {
         match self {
@@ -21,5 +21,12 @@ impl<T: Drop> Occurrence<T> {
             Occurrence::Once(_) => *self = Occurrence::Again,
             Occurrence::Again => {}
         }
+    }
+
+    /// Whether it stood more than once.
+    pub fn is_again(&self) -> bool
+        ensures { result ≡ spec.is_again self.now }
+    {
+        matches!(self, Occurrence::Again)
     }
 }

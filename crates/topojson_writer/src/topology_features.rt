@@ -85,7 +85,7 @@ fn put_object<O: Out>(topology: &LineSource<'_>, object: &TopoObject, out: &mut 
 
 /// Writes the GeoJSON text of the features that an object of the topology stands for, as `write_features` does of features that are
 /// there: each position is written where a walk along the arcs reaches it. This takes no memory. These texts of the topology's first
-/// arcs are copied where a line or a ring is one of them, forwards.
+/// arcs are copied where a line or a ring goes along one of them forwards, but for a ring that is filled up.
 pub fn write_object<W: Drain>(
     topology: &Topology,
     texts: &[Option<&[u8]>],

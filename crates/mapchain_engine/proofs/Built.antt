@@ -86,7 +86,7 @@ module _ (laws : BuildingLaws) (o : Options) where
 
     module _ (sink_old sink_new : Drained) where
       pub cut_short : (e : BuildFault) → Sends sink_old sink_new (text_for o ls) (Err e) → IsLateFault o olds news sink_old sink_new e
-      cut_short (Write sent) s = record { layers = ls; counts = cs; text = text_for o ls; builds = builds; many = s.many; written = s.took; counted = omega (arith, s.counted); failed = s.failed }
+      cut_short (Write sent) s = record { layers = ls; counts = cs; text = text_for o ls; builds = builds; written = s }
       cut_short (EmptyName i) s = absurd s
       cut_short (DuplicateName i) s = absurd s
       cut_short (Read i f) s = absurd s

@@ -147,16 +147,13 @@ pub record IsBuilt (o : Options) (olds news : Sources) (sink_old sink_new : Drai
   pub flushed : sink_new.flushed ≡ true
   pub reported : report ≡ report_of o layers counts
 
--- the device failed when it had taken a prefix of the text of the topology
+-- the device had taken a prefix of the text of the topology when it failed; a sink that was broken before stays as it was
 pub record IsCutShort (o : Options) (olds news : Sources) (sink_old sink_new : Drained) (sent : ℕ) : Type 0 where
   pub layers : Named
   pub counts : List Counts
   pub text : List ℕ
   pub builds : Builds o olds news layers counts text
-  pub many : ℕ
-  pub written : Takes sink_old sink_new text many
-  pub counted : sent ≡ saturated many
-  pub failed : 0 < sink_new.failures
+  pub written : WritesPrefix sink_old sink_new 0 text sent
 
 -- why nothing is built once the names are taken: nothing is written unless the device failed
 abbrev pub IsLateFault : Options → Sources → Sources → Drained → Drained → BuildFault → Type 0

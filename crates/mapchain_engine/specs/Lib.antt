@@ -8,6 +8,7 @@ pub mod FileOutcomes
 pub mod Files
 pub mod Geo
 pub mod Laws
+pub mod Numbered
 pub mod Ranges
 pub mod Simplified
 pub mod SimplifyLaws

@@ -9,10 +9,12 @@ ghost use Rattle.topojson_decoder.specs.Kept.{of_contents, parts_contents};
 ghost use Rattle.topojson_decoder.specs.declared.keeping.Keeping.{Keeping as Kept};
 ghost use Rattle.mapchain_engine.specs.FileOutcomes.{FileHasOutcome, FollowsSummary, summarised};
 ghost use Rattle.mapchain_engine.specs.Files.{FailsToGive, IsSummarised};
+ghost use Rattle.mapchain_engine.specs.Numbered.{numbered};
 
 use crate::file_reading::read_kept;
 use byte_ends::{Feed, Memory, Source};
 use inputs::{FileFault, Unwatched, Watch};
+use json_value::OwnText;
 use reports::{Summary, summary_with};
 use std::alloc::Global;
 use std::mem;
@@ -41,6 +43,19 @@ pub fn stat<R: Feed>(alloc: Global, source: &mut Source<R>) -> Result<Summary, F
     Ok(summary?)
 }
 
+/// Puts these numbers of features in the place of those that were counted of objects. There may be fewer.
+fn put_features(objects: &mut [(OwnText, u64)], features: &[u64])
+    ensures { objects.new ≡ numbered features.now objects.old }
+{
+    let mut rest = features;
+    'objects: for object in objects.iter_mut() {
+        if let Some((count, following)) = rest.split_first() {
+            object.1 = *count;
+            rest = following;
+        }
+    }
+}
+
 /// The summary of a topology of which this is kept.
 fn summary_of_kept(alloc: Global, parts: &Parts) -> Result<Summary, Memory>
     ensures { (keeping : Kept) (t : Contents) → parts.now ≡ of_contents keeping t → IfOk result (λ summary. summary ≡ summary_of t) }
@@ -52,6 +67,9 @@ fn summary_of_kept(alloc: Global, parts: &Parts) -> Result<Summary, Memory>
         parts.transform.is_some(),
     )?;
     summary.positions = parts.positions.unwrap_or(summary.positions);
+    if let Some(features) = &parts.features {
+        put_features(summary.objects.as_mut_slice(), features.as_slice());
+    }
     Ok(summary)
 }
 

@@ -1,6 +1,7 @@
 -- Features one after another.
-use Rattle.std.proofs.Common.{◌≡◌, ℕ, List, [], ◌∷◌, ◌++◌, Option, Some, None, Result, Ok, Err, refl, ap, sym, ◌∙◌}
+use Rattle.std.proofs.Common.{◌≡◌, ℕ, List, [], ◌∷◌, ◌++◌, length, Option, Some, None, Result, Ok, Err, refl, ap, sym, ◌∙◌}
 use Rattle.std.specs.Prelude.{map}
+use Rattle.std.proofs.lemmas.List.{length-map}
 use Rattle.json_value.specs.declared.json.Json.{Json}
 use Rattle.json_value.specs.declared.json.Json.TheVariants as j
 use Rattle.json_value.specs.Kinds.{array_of, object_of}
@@ -23,8 +24,9 @@ use Rattle.json_cursor.specs.declared.stop.Stop.{Stop}
 use Rattle.json_cursor.specs.declared.stop.Stop.TheVariants as stop
 use Rattle.topojson_decoder.specs.declared.keeping.Keeping.{Keeping}
 use Rattle.topojson_decoder.specs.Features.{typed_feature}
-use Rattle.topojson_decoder.specs.Kept.{kept_feature, kept_features, making, of_feature}
-use Rattle.topojson_decoder.proofs.KeptParts.{made_alike, made_each, made_fault}
+use Rattle.topojson_decoder.specs.Kept.{held_features, kept_elements, kept_feature, kept_features, listed, making, of_feature}
+use Rattle.topojson_decoder.specs.declared.collected_features.KeptFeatures.{KeptFeatures}
+use Rattle.topojson_decoder.proofs.KeptParts.{made, made_alike, made_each, made_fault, none_listed, unmade, unmade_fault}
 
 module _ (k : Keeping) (t : Option Transform) (arcs : List (List Point)) where
   -- ---- a feature by its object
@@ -45,21 +47,48 @@ module _ (k : Keeping) (t : Option Transform) (arcs : List (List Point)) where
 
   -- ---- the features of an array
 
-  by_elements : (read : List Json → Reader (List TopoFeature)) (o : Option (List Json)) (c : Counts) → (pure (or_fail WrongKind o) >>= read) c ≡ list_by WrongKind read o c
+  by_elements : {B : Type 0} (read : List Json → Reader B) (o : Option (List Json)) (c : Counts) → (pure (or_fail WrongKind o) >>= read) c ≡ list_by WrongKind read o c
   by_elements read None c = refl
   by_elements read (Some vs) c = refl
 
-  kept_elements : (r : Result (List Json) TopoFault) (c : Counts) → (pure r >>= each (kept_feature k t arcs)) c ≡ making (map (of_feature k)) (pure r >>= each (feature_element t arcs)) c
-  kept_elements (Ok vs) c = made_each (of_feature k) (feature_element t arcs) vs c
-  kept_elements (Err e) c = refl
+  found_elements : (r : Result (List Json) TopoFault) (c : Counts) → (pure r >>= kept_elements k t arcs) c ≡ making (held_features k) (pure r >>= each (feature_element t arcs)) c
+  found_elements (Ok vs) c = refl
+  found_elements (Err e) c = refl
 
-  pub features_are : (v : Json) (c : Counts) → array_by WrongKind (each (kept_feature k t arcs)) v c ≡ kept_features k t arcs v c
+  pub features_are : (v : Json) (c : Counts) → array_by WrongKind (kept_elements k t arcs) v c ≡ kept_features k t arcs v c
   unfolding features elements array_by
-  features_are v c = sym (by_elements (each (kept_feature k t arcs)) (array_of v) c) ∙ kept_elements (or_fail WrongKind (array_of v)) c
+  features_are v c = sym (by_elements (kept_elements k t arcs) (array_of v) c) ∙ found_elements (or_fail WrongKind (array_of v)) c
 
-  pub no_features : (c : Counts) → each (kept_feature k t arcs) [] c ≡ Ok ([], c)
+  abbrev as_held : Counts → List TopoFeature → ℕ → Result (KeptFeatures × Counts) TopoFault
+  as_held c fs n = Ok (record { list = fs; count = n }, c)
+
+  pub no_features : (c : Counts) → kept_elements k t arcs [] c ≡ Ok (record { list = []; count = 0 }, c)
   unfolding gather
-  no_features c = refl
+  no_features c = ap (λ fs. as_held c fs 0) (none_listed k)
+
+  -- ---- what is kept of each, and of all of them
+
+  elements_are : (vs : List Json) (c : Counts) → making (map (of_feature k)) (each (feature_element t arcs) vs) c ≡ each (kept_feature k t arcs) vs c
+  elements_are vs c = sym (made_each (of_feature k) (feature_element t arcs) vs c)
+
+  module _ (prefix : Option (List Json × List ℕ)) (old : Counts) where
+    pub elements_stop : (why : Stop TopoFault) → Stops (each (kept_feature k t arcs)) prefix old why → Stops (kept_elements k t arcs) prefix old why
+    elements_stop (stop.Fault e) h = λ vs rest found.
+        made_fault (held_features k) (each (feature_element t arcs) vs) old e (unmade_fault (map (of_feature k)) (each (feature_element t arcs) vs) old e (elements_are vs old ∙ h vs rest found))
+    elements_stop stop.NoValue h = h
+    elements_stop stop.Memory h = tt
+
+    pub elements_read : (fs : List TopoFeature) (rest : List ℕ) (new : Counts) → Reads (each (kept_feature k t arcs)) prefix fs rest old new
+        → (list : List TopoFeature) → list ≡ listed k fs → (n : ℕ) → n ≡ length fs → Reads (kept_elements k t arcs) prefix (record { list = list; count = n }) rest old new
+    elements_read fs rest new r list is n many =
+        let u = unmade (map (of_feature k)) (each (feature_element t arcs) r.value) old fs new (elements_are r.value old ∙ r.means) in
+        record {
+          value = r.value;
+          prefix_is = r.prefix_is;
+          means = made (held_features k) (each (feature_element t arcs) r.value) old u.whole new u.reads
+              ∙ ap (λ xs. as_held new xs (length u.whole)) (ap (listed k) (sym u.is) ∙ sym is)
+              ∙ ap (λ m. as_held new list m) (sym (length-map u.whole (of_feature k)) ∙ ap length (sym u.is) ∙ sym many);
+        }
 
 -- ---- one more
 

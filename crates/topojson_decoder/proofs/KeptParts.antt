@@ -2,6 +2,7 @@
 use Rattle.std.proofs.Common.{◌≡◌, ◌⊎◌, inl, inr, ℕ, List, [], ◌∷◌, ◌++◌, Option, Some, None, Result, Ok, Err, refl, ap, sym, ◌∙◌}
 use Rattle.std.specs.Prelude.{map}
 use Rattle.std.specs.Borrow.{Bor}
+use Rattle.std.proofs.lemmas.List.{map-append}
 use Rattle.json_value.specs.declared.json.Json.{Json}
 use Rattle.geojson_types.specs.declared.counts.Counts.{Counts}
 use Rattle.geometry.specs.Points.{Point}
@@ -16,7 +17,7 @@ use Rattle.json_cursor.specs.declared.stop.Stop.{Stop}
 use Rattle.json_cursor.specs.declared.stop.Stop.TheVariants as stop
 use Rattle.topojson_decoder.specs.declared.keeping.Keeping.{Keeping}
 use Rattle.topojson_decoder.specs.declared.keeping.Keeping.TheVariants.{Whole, Shapes, Blank}
-use Rattle.topojson_decoder.specs.Kept.{held_arcs, making, of_contents, of_feature, of_named, of_object, of_option, parts_contents}
+use Rattle.topojson_decoder.specs.Kept.{features_in, features_of, held_arcs, if_blank, listed, making, of_contents, of_feature, of_named, of_object, of_option, parts_contents}
 use Rattle.topojson_decoder.specs.Members.{Judges}
 
 -- ---- what is made of what is read
@@ -130,6 +131,33 @@ whole_objects (o ∷ os) = rw (whole_named o, whole_objects os) refl
 
 pub whole_contents : (t : Contents) → parts_contents (of_contents Whole t) ≡ t
 whole_contents t = ap (λ z. record { objects = z; arcs = t.arcs; transform = t.transform }) (whole_objects t.objects)
+
+-- ---- lists of features, and how many these are
+
+pub none_listed : (k : Keeping) → listed k [] ≡ []
+none_listed Whole = refl
+none_listed Shapes = refl
+none_listed Blank = refl
+
+pub listed_more : (k : Keeping) (fs : List TopoFeature) (f : TopoFeature) → listed k (fs ++ f ∷ []) ≡ listed k fs ++ listed k (f ∷ [])
+listed_more Whole fs f = refl
+listed_more Shapes fs f = refl
+listed_more Blank fs f = refl
+
+abbrev numbers_in : List ℕ → Option (List ℕ) → List ℕ
+numbers_in ns None = ns
+numbers_in ns (Some ms) = ms
+
+pub counted_more : (k : Keeping) (os : List (List ℕ × TopoObject)) (o : List ℕ × TopoObject) (ns after : List ℕ) → features_of k os ≡ if_blank k ns → if_blank k after ≡ if_blank k (ns ++ features_in o.1 ∷ []) → features_of k (os ++ o ∷ []) ≡ if_blank k after
+counted_more Whole os o ns after h is = refl
+counted_more Shapes os o ns after h is = refl
+counted_more Blank os o ns after h is =
+    ap Some (map-append (λ p. features_in p.1) os (o ∷ [])) ∙ ap (λ ms. Some (ms ++ features_in o.1 ∷ [])) (ap (numbers_in ns) h) ∙ sym is
+
+pub none_counted : (k : Keeping) → features_of k [] ≡ if_blank k []
+none_counted Whole = refl
+none_counted Shapes = refl
+none_counted Blank = refl
 
 -- ---- the names of objects
 

@@ -18,7 +18,7 @@ use Rattle.topojson_meaning.specs.Objects.{is_met, object, objects, objects_afte
 use Rattle.topojson_meaning.specs.Reader.{Reader, ◌>>=◌, and_then, each, gather, give, or_fail, pure}
 use Rattle.topojson_decoder.proofs.Repeating.{names_of}
 use Rattle.topojson_decoder.specs.declared.keeping.Keeping.{Keeping}
-use Rattle.topojson_decoder.specs.Kept.{kept_objects, making, of_named}
+use Rattle.topojson_decoder.specs.Kept.{held_objects, kept_objects, making}
 use Rattle.topojson_decoder.specs.Names.{names_before_repeat}
 use Rattle.topojson_decoder.proofs.KeptParts.{made_alike, made_fault}
 
@@ -223,8 +223,8 @@ module _ (t : Option Transform) (arcs : List (List Point)) where
 -- ---- what is kept of them, by their value
 
 module _ (k : Keeping) (t : Option Transform) (arcs : List (List Point)) where
-  pub objects_are : (ms : Members) (c : Counts) → kept_objects k t arcs (j.Object ms) c ≡ making (map (of_named k)) (objects_after t arcs [] ms) c
-  objects_are ms c = made_alike (map (of_named k)) (objects t arcs (j.Object ms)) c (objects_after t arcs [] ms) (whole t arcs ms c)
+  pub objects_are : (ms : Members) (c : Counts) → kept_objects k t arcs (j.Object ms) c ≡ making (held_objects k) (objects_after t arcs [] ms) c
+  objects_are ms c = made_alike (held_objects k) (objects t arcs (j.Object ms)) c (objects_after t arcs [] ms) (whole t arcs ms c)
 
   pub no_objects : (v : Json) (c : Counts) → object_of v ≡ None → kept_objects k t arcs v c ≡ Err WrongKind
-  no_objects v c h = made_fault (map (of_named k)) (objects t arcs v) c WrongKind (none t arcs v c h)
+  no_objects v c h = made_fault (held_objects k) (objects t arcs v) c WrongKind (none t arcs v c h)

@@ -31,7 +31,7 @@ use Rattle.topojson_decoder.specs.declared.object_parts.ObjectParts.{ObjectParts
 use Rattle.json_cursor.specs.declared.occurrence.Occurrence.{Occurrence}
 use Rattle.json_cursor.specs.declared.occurrence.Occurrence.TheVariants.{Never}
 use Rattle.topojson_decoder.specs.Features.{IsFeature}
-use Rattle.topojson_decoder.specs.Kept.{kept_object, making, of_object}
+use Rattle.topojson_decoder.specs.Kept.{held_object, kept_object, making}
 use Rattle.topojson_decoder.specs.Members.{GoesOnWith, IsOccurrence, Judges, see}
 use Rattle.topojson_decoder.specs.Geometries.{IsType}
 use Rattle.topojson_decoder.specs.ObjectParts.{AreFeatures, IsObject, simple, typed_object}
@@ -134,8 +134,8 @@ module _ (t : Option Transform) (arcs : List (List Point)) where
 -- ---- what is kept of it, by its value
 
 module _ (k : Keeping) (t : Option Transform) (arcs : List (List Point)) where
-  pub object_is : (ms : Members) (c : Counts) → kept_object k t arcs (j.Object ms) c ≡ making (of_object k) (typed_object t arcs ms) c
-  object_is ms c = made_alike (of_object k) (objects.object t arcs (j.Object ms)) c (typed_object t arcs ms) (whole t arcs ms c)
+  pub object_is : (ms : Members) (c : Counts) → kept_object k t arcs (j.Object ms) c ≡ making (held_object k) (typed_object t arcs ms) c
+  object_is ms c = made_alike (held_object k) (objects.object t arcs (j.Object ms)) c (typed_object t arcs ms) (whole t arcs ms c)
 
   pub no_object : (v : Json) (c : Counts) → object_of v ≡ None → kept_object k t arcs v c ≡ Err WrongKind
-  no_object v c h = made_fault (of_object k) (objects.object t arcs v) c WrongKind (none t arcs v c h)
+  no_object v c h = made_fault (held_object k) (objects.object t arcs v) c WrongKind (none t arcs v c h)

@@ -1,9 +1,10 @@
--- What is kept of what is read: all of it, or of each feature its geometry alone, or only that it is there, and then of each arc its ends.
-use Rattle.std.specs.Prelude.{ℕ, List, Option, Some, None, Result, Ok, Err, map}
+-- What is kept of what is read: all of it, or of each feature its geometry alone, or of each object only how many features it has, and then
+-- of each arc its ends.
+use Rattle.std.specs.Prelude.{ℕ, List, [], Option, Some, None, Result, Ok, Err, length, map}
 use Rattle.json_value.specs.declared.json.Json.{Json}
 use Rattle.json_value.specs.Members.{Members}
 use Rattle.geometry.specs.Points.{Point}
-use Rattle.topojson_types.specs.Topologies.{Contents, TopoShape}
+use Rattle.topojson_types.specs.Topologies.{Contents, TopoShape, object_features}
 use Rattle.topojson_types.specs.Validity.{IsTopology}
 use Rattle.topojson_types.specs.declared.feature.TopoFeature.{TopoFeature}
 use Rattle.topojson_types.specs.declared.object.TopoObject.{TopoObject}
@@ -13,12 +14,15 @@ use Rattle.topojson_meaning.specs.declared.fault.TopoFault.{TopoFault}
 use Rattle.topojson_meaning.specs.Arcs.{arc_list}
 use Rattle.topojson_meaning.specs.Features.{feature_element}
 use Rattle.topojson_meaning.specs.Objects as objects
-use Rattle.topojson_meaning.specs.Reader.{Reader, ◌>>=◌, give}
+use Rattle.topojson_meaning.specs.Reader.{Reader, ◌>>=◌, each, give}
 use Rattle.topojson_meaning.specs.Topologies as topologies
 use Rattle.topojson_decoder.specs.ArcEnds.{all_positions, ends}
 use Rattle.topojson_decoder.specs.declared.arc_ends.KeptArcs.{KeptArcs}
+use Rattle.topojson_decoder.specs.declared.collected_features.KeptFeatures.{KeptFeatures}
 use Rattle.topojson_decoder.specs.declared.keeping.Keeping.{Keeping}
 use Rattle.topojson_decoder.specs.declared.keeping.Keeping.TheVariants.{Whole, Shapes, Blank}
+use Rattle.topojson_decoder.specs.declared.named_objects.KeptObjects.{KeptObjects}
+use Rattle.topojson_decoder.specs.declared.object_parts.KeptObject.{KeptObject}
 use Rattle.topojson_decoder.specs.declared.topologies.Parts.{Parts}
 
 -- ---- what is kept
@@ -48,13 +52,45 @@ of_read keeping (Err e) = Err e
 abbrev pub of_feature : Keeping → TopoFeature → TopoFeature
 of_feature keeping f = record { id = of_option keeping f.id; properties = of_option keeping f.properties; shape = of_shape keeping f.shape }
 
+-- of the list of the features of a collection
+abbrev pub listed : Keeping → List TopoFeature → List TopoFeature
+listed Whole fs = fs
+listed Shapes fs = fs
+listed Blank fs = []
+
+-- of the features of a collection, and how many these are
+abbrev pub of_features : Keeping → List TopoFeature → List TopoFeature
+of_features keeping fs = listed keeping (map (of_feature keeping) fs)
+
+abbrev pub held_features : Keeping → List TopoFeature → KeptFeatures
+held_features keeping fs = record { list = of_features keeping fs; count = length fs }
+
 -- of an object, and of one with its name
 abbrev pub of_object : Keeping → TopoObject → TopoObject
 of_object keeping (One f) = One (of_feature keeping f)
-of_object keeping (Many fs) = Many (map (of_feature keeping) fs)
+of_object keeping (Many fs) = Many (of_features keeping fs)
 
 abbrev pub of_named : Keeping → List ℕ × TopoObject → List ℕ × TopoObject
 of_named keeping o = (o.0, of_object keeping o.1)
+
+-- how many features an object has, which is kept beside it
+abbrev pub features_in : TopoObject → ℕ
+features_in o = length (object_features o)
+
+abbrev pub held_object : Keeping → TopoObject → KeptObject
+held_object keeping o = record { object = of_object keeping o; features = features_in o }
+
+-- how many each of the objects has, where no features of collections are kept
+abbrev pub if_blank : {A : Type 0} → Keeping → A → Option A
+if_blank Whole x = None
+if_blank Shapes x = None
+if_blank Blank x = Some x
+
+abbrev pub features_of : Keeping → List (List ℕ × TopoObject) → Option (List ℕ)
+features_of keeping os = if_blank keeping (map (λ o. features_in o.1) os)
+
+abbrev pub held_objects : Keeping → List (List ℕ × TopoObject) → KeptObjects
+held_objects keeping os = record { list = map (of_named keeping) os; features = features_of keeping os }
 
 -- of arcs: of each its ends, where not all of it, and then how many positions they have
 abbrev pub of_arcs : Keeping → List (List Point) → List (List Point)
@@ -63,16 +99,20 @@ of_arcs Shapes arcs = arcs
 of_arcs Blank arcs = map ends arcs
 
 abbrev pub positions_of : Keeping → List (List Point) → Option ℕ
-positions_of Whole arcs = None
-positions_of Shapes arcs = None
-positions_of Blank arcs = Some (all_positions arcs)
+positions_of keeping arcs = if_blank keeping (all_positions arcs)
 
 abbrev pub held_arcs : Keeping → List (List Point) → KeptArcs
 held_arcs keeping arcs = record { list = of_arcs keeping arcs; positions = positions_of keeping arcs }
 
 -- of a topology
 abbrev pub of_contents : Keeping → Contents → Parts
-of_contents keeping t = record { objects = map (of_named keeping) t.objects; arcs = of_arcs keeping t.arcs; transform = t.transform; positions = positions_of keeping t.arcs }
+of_contents keeping t = record {
+  objects = map (of_named keeping) t.objects;
+  arcs = of_arcs keeping t.arcs;
+  transform = t.transform;
+  positions = positions_of keeping t.arcs;
+  features = features_of keeping t.objects;
+}
 
 -- the topology of these parts, where all of its arcs is kept
 abbrev pub parts_contents : Parts → Contents
@@ -90,19 +130,22 @@ making f read = do
   x ← read
   give (f x)
 
--- what is kept of a member of a collection, and of all members of one
+-- what is kept of a member of a collection, of all members of one, and of the features that a value is
 abbrev pub kept_feature : Keeping → Option Transform → List (List Point) → Json → Reader TopoFeature
 kept_feature keeping transform arcs v = making (of_feature keeping) (feature_element transform arcs v)
 
-abbrev pub kept_features : Keeping → Option Transform → List (List Point) → Json → Reader (List TopoFeature)
-kept_features keeping transform arcs v = making (map (of_feature keeping)) (objects.features transform arcs v)
+abbrev pub kept_elements : Keeping → Option Transform → List (List Point) → List Json → Reader KeptFeatures
+kept_elements keeping transform arcs vs = making (held_features keeping) (each (feature_element transform arcs) vs)
+
+abbrev pub kept_features : Keeping → Option Transform → List (List Point) → Json → Reader KeptFeatures
+kept_features keeping transform arcs v = making (held_features keeping) (objects.features transform arcs v)
 
 -- of an object, and of all objects by name
-abbrev pub kept_object : Keeping → Option Transform → List (List Point) → Json → Reader TopoObject
-kept_object keeping transform arcs v = making (of_object keeping) (objects.object transform arcs v)
+abbrev pub kept_object : Keeping → Option Transform → List (List Point) → Json → Reader KeptObject
+kept_object keeping transform arcs v = making (held_object keeping) (objects.object transform arcs v)
 
-abbrev pub kept_objects : Keeping → Option Transform → List (List Point) → Json → Reader (List (List ℕ × TopoObject))
-kept_objects keeping transform arcs v = making (map (of_named keeping)) (objects.objects transform arcs v)
+abbrev pub kept_objects : Keeping → Option Transform → List (List Point) → Json → Reader KeptObjects
+kept_objects keeping transform arcs v = making (held_objects keeping) (objects.objects transform arcs v)
 
 -- of all arcs
 abbrev pub kept_arc_list : Keeping → Option Transform → Json → Reader KeptArcs

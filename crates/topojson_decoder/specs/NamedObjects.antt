@@ -8,8 +8,9 @@ use Rattle.topojson_types.specs.declared.object.TopoObject.{TopoObject}
 use Rattle.topojson_meaning.specs.declared.fault.TopoFault.{TopoFault}
 use Rattle.topojson_meaning.specs.Objects as objects
 use Rattle.topojson_meaning.specs.Reader.{Reader, ◌>>=◌, give, each}
-use Rattle.topojson_decoder.specs.Kept.{making, of_named}
+use Rattle.topojson_decoder.specs.Kept.{features_of, held_objects, if_blank, making, of_named}
 use Rattle.topojson_decoder.specs.declared.geometry_parts.Start.{Start}
+use Rattle.topojson_decoder.specs.declared.named_objects.KeptObjects.{KeptObjects}
 use Rattle.topojson_decoder.specs.declared.named_objects.NamedObjects.{NamedObjects}
 
 -- what a value is read as, and what a member is, by its name
@@ -36,12 +37,13 @@ abbrev pub AreRead : Start → Members → List (List ℕ × TopoObject) → Cou
 AreRead start ms os counts None = each (named_object start) ms start.counts ≡ Ok (os, counts)
 AreRead start ms os counts (Some failed) = FailsAfter start ms os failed
 
--- these are what is kept of such objects
+-- these are what is kept of such objects, and how many features these have, where that is kept
 pub record AreObjects (start : Start) (d : ℕ) (ms : Members) (occurrence : NamedObjects) : Type 0 where
   pub whole : List (List ℕ × TopoObject)
   pub kept : occurrence.list.items ≡ map (of_named start.keeping) whole
+  pub counted : features_of start.keeping whole ≡ if_blank start.keeping occurrence.features.items
   pub read : AreRead start ms whole occurrence.counts occurrence.failed
 
 -- what is kept of the objects by name with these members
-abbrev pub kept_objects_after : Start → Members → Reader (List (List ℕ × TopoObject))
-kept_objects_after start ms = making (map (of_named start.keeping)) (objects.objects_after (option_copied start.transform) start.arcs.now [] ms)
+abbrev pub kept_objects_after : Start → Members → Reader KeptObjects
+kept_objects_after start ms = making (held_objects start.keeping) (objects.objects_after (option_copied start.transform) start.arcs.now [] ms)

@@ -5,26 +5,27 @@ use Rattle.json_value.specs.declared.json.Json.{Json}
 use Rattle.json_value.specs.Members.{Members, named}
 use Rattle.geometry.specs.Points.{Point}
 use Rattle.json_cursor.specs.Held.{IsHeld}
-use Rattle.topojson_types.specs.declared.feature.TopoFeature.{TopoFeature}
 use Rattle.topojson_types.specs.declared.object.TopoObject.{TopoObject}
 use Rattle.topojson_types.specs.declared.transform.Transform.{Transform}
 use Rattle.topojson_meaning.specs.GeometryTypes.{is_collection, object_type}
 use Rattle.topojson_meaning.specs.Objects as objects
 use Rattle.topojson_meaning.specs.Reader.{Reader, ◌>>=◌, pure}
 use Rattle.topojson_decoder.specs.Features.{IsFeature}
-use Rattle.topojson_decoder.specs.Kept.{kept_features, making, of_object}
+use Rattle.topojson_decoder.specs.Kept.{held_object, kept_features, making}
 use Rattle.topojson_decoder.specs.Members.{BeginsAt, IsOccurrence}
+use Rattle.topojson_decoder.specs.declared.collected_features.KeptFeatures.{KeptFeatures}
 use Rattle.topojson_decoder.specs.declared.geometry_parts.Start.{Start}
 use Rattle.topojson_decoder.specs.declared.object_parts.Features.{Features}
+use Rattle.topojson_decoder.specs.declared.object_parts.KeptObject.{KeptObject}
 use Rattle.topojson_decoder.specs.declared.object_parts.ObjectParts.{ObjectParts}
 use Rattle.topojson_decoder.specs.declared.object_parts.ReadFeatures.{ReadFeatures}
 
 -- what is kept of the features that the value of `geometries` is, and of the collection with these members
-abbrev pub features : Start → Json → Reader (List TopoFeature)
+abbrev pub features : Start → Json → Reader KeptFeatures
 features start v = kept_features start.keeping (option_copied start.transform) start.arcs.now v
 
-abbrev pub collection : Start → Members → Reader TopoObject
-collection start ms = making (of_object start.keeping) (objects.collection (option_copied start.transform) start.arcs.now ms)
+abbrev pub collection : Start → Members → Reader KeptObject
+collection start ms = making (held_object start.keeping) (objects.collection (option_copied start.transform) start.arcs.now ms)
 
 -- what the value of `geometries` was read as, if it was
 abbrev pub AreRead : Start → Json → Option ReadFeatures → Type 0
@@ -52,5 +53,5 @@ typed_object transform arcs ms = do
   if is_collection type then objects.collection transform arcs ms else objects.single transform arcs type ms
 
 -- what is kept of it
-abbrev pub kept_typed_object : Start → Members → Reader TopoObject
-kept_typed_object start ms = making (of_object start.keeping) (typed_object (option_copied start.transform) start.arcs.now ms)
+abbrev pub kept_typed_object : Start → Members → Reader KeptObject
+kept_typed_object start ms = making (held_object start.keeping) (typed_object (option_copied start.transform) start.arcs.now ms)

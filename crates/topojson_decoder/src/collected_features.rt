@@ -1,13 +1,12 @@
 // Features in collections (TopoJSON 1.0, section 2.2).
-ghost use Rattle.std.specs.Prelude.{◌≡◌, [], ℕ, length};
+ghost use Rattle.std.specs.Prelude.{◌≡◌, ◌++◌, ◌∷◌, [], ℕ, IfOk, length};
 ghost use Rattle.std.specs.Option.{option_copied};
 ghost use Rattle.json_value.specs.Members.{Members as Listed};
 ghost use Rattle.json_cursor.specs.Answers.{Answers};
 ghost use Rattle.json_cursor.specs.Arrays.{prefix_elements, prefix_value};
 ghost use Rattle.topojson_meaning.specs.Features.{feature_element};
-ghost use Rattle.topojson_meaning.specs.Reader.{each};
 ghost use Rattle.topojson_decoder.specs.Features.{IsFeature, kept_typed_feature};
-ghost use Rattle.topojson_decoder.specs.Kept.{kept_feature, kept_features};
+ghost use Rattle.topojson_decoder.specs.Kept.{kept_elements, kept_feature, kept_features, listed};
 ghost use Rattle.topojson_decoder.specs.Members.{Judges};
 
 use crate::feature_parts::{FeatureParts, feature_of};
@@ -17,9 +16,16 @@ use geojson_types::Counts;
 use json_cursor::{Mark, Opening, Stop, mark_at, object_into, opening_at};
 use json_reading::skip;
 use json_value::Items;
-use std::alloc::Global;
+use std::alloc::{AllocError, Global};
 use topojson_meaning::TopoFault;
 use topojson_types::{Cell, TopoFeature, Transform};
+
+/// What is kept of the features of a collection, and how many these are.
+#[derive(Drop)]
+pub struct KeptFeatures {
+    pub list: Items<TopoFeature>,
+    pub count: u64,
+}
 
 /// The feature whose members were seen so. What was kept of them is moved out of there.
 #[inline(always)]
@@ -109,7 +115,23 @@ pub fn feature_at<'a>(
     )
 }
 
-/// What is kept of the features after the bracket of an array, one or more, and what follows it.
+/// Lists one more feature of a collection, unless these are counted alone.
+#[inline(always)]
+fn list_feature(
+    keeping: Keeping,
+    feature: TopoFeature,
+    list: &mut Vec<TopoFeature>,
+) -> Result<(), AllocError>
+    ensures { IfOk result (λ _. list.new.items ≡ list.old.items ++ listed keeping (feature ∷ [])) }
+{
+    match keeping {
+        Keeping::Whole | Keeping::Shapes => list.push(feature)?,
+        Keeping::Blank => drop(feature),
+    }
+    Ok(())
+}
+
+/// What is kept of the features after the bracket of an array, one or more, beside how many these are, and what follows it.
 fn features_after<'a>(
     alloc: Global,
     depth_left: u32,
@@ -118,12 +140,12 @@ fn features_after<'a>(
     arcs: &'a [Items<Cell>],
     inside: &'a [u8],
     counts: &mut Counts,
-) -> Result<(Vec<TopoFeature>, &'a [u8]), Stop<TopoFault>>
-    ensures { Answers (λ v. v.items) (each (kept_feature keeping (option_copied transform.entry) arcs.now)) (prefix_elements depth_left (length inside.now) inside.now) counts.old counts.new result }
+) -> Result<((Vec<TopoFeature>, usize), &'a [u8]), Stop<TopoFault>>
+    ensures { Answers (λ x. record { list = x.0.items; count = x.1 }) (kept_elements keeping (option_copied transform.entry) arcs.now) (prefix_elements depth_left (length inside.now) inside.now) counts.old counts.new result }
 {
     let mut read = Vec::new(alloc);
     let mut rest = inside;
-    'features: for _ in 0..inside.len() {
+    'features: for before in 0..inside.len() {
         match kept_feature_at(
             alloc,
             depth_left,
@@ -135,11 +157,11 @@ fn features_after<'a>(
         ) {
             Err(stop) => return Err(stop),
             Ok((feature, following)) => {
-                read.push(feature)?;
+                list_feature(keeping, feature, &mut read)?;
                 let (mark, more) = mark_at(following);
                 match mark {
                     Mark::Neither => return Err(Stop::NoValue),
-                    Mark::Close => return Ok((read, more)),
+                    Mark::Close => return Ok(((read, before + 1), more)),
                     Mark::Comma => {}
                 }
                 rest = more;
@@ -158,21 +180,31 @@ pub(crate) fn features_at<'a>(
     arcs: &'a [Items<Cell>],
     bytes: &'a [u8],
     counts: &mut Counts,
-) -> Result<(Items<TopoFeature>, &'a [u8]), Stop<TopoFault>>
+) -> Result<(KeptFeatures, &'a [u8]), Stop<TopoFault>>
     ensures { Answers (λ x. x) (kept_features keeping (option_copied transform.entry) arcs.now) (prefix_value depth_left bytes.now) counts.old counts.new result }
 {
     let (opening, inside) = opening_at(depth_left, bytes);
     match opening {
         Opening::NoArray => Err(Stop::Fault(TopoFault::WrongKind)),
         Opening::TooDeep => Err(Stop::NoValue),
-        Opening::Empty => Ok((Items::of(Vec::new(alloc)), inside)),
+        Opening::Empty => {
+            let none = KeptFeatures {
+                list: Items::of(Vec::new(alloc)),
+                count: 0,
+            };
+            Ok((none, inside))
+        }
         Opening::Filled(below) => {
             match features_after(alloc, below, keeping, transform, arcs, inside, counts) {
                 Err(stop) => Err(stop),
                 Ok((read, rest)) => {
-                    let mut features = read;
+                    let (mut features, count) = read;
                     features.shrink_to_fit();
-                    Ok((Items::of(features), rest))
+                    let kept = KeptFeatures {
+                        list: Items::of(features),
+                        count: count as u64,
+                    };
+                    Ok((kept, rest))
                 }
             }
         }

@@ -11,7 +11,7 @@ pub enum Keeping {
     Whole,
     /// The geometries of features, with no identifier and no properties. All that the arcs are.
     Shapes,
-    /// That features are there, with no identifier, no properties and no geometry. Of each arc its ends.
+    /// How many features there are, and no feature of a collection. Of each arc its ends.
     Blank,
 }
 

@@ -1,12 +1,12 @@
 // The objects of a topology by name (TopoJSON 1.0, section 2.1.5).
-ghost use Rattle.std.specs.Prelude.{◌≡◌, [], ℕ, IfOk, map};
+ghost use Rattle.std.specs.Prelude.{◌≡◌, ◌++◌, ◌∷◌, [], ℕ, IfOk, map};
 ghost use Rattle.std.specs.Option.{option_copied};
 ghost use Rattle.json_value.specs.Members.{Members as Listed};
 ghost use Rattle.json_cursor.specs.Answers.{Answers};
 ghost use Rattle.json_cursor.specs.Arrays.{prefix_value};
 ghost use Rattle.json_cursor.specs.Names.{name_of};
 ghost use Rattle.topojson_meaning.specs.Objects.{is_met};
-ghost use Rattle.topojson_decoder.specs.Kept.{kept_objects};
+ghost use Rattle.topojson_decoder.specs.Kept.{if_blank, kept_objects};
 ghost use Rattle.topojson_decoder.specs.Members.{Judges};
 ghost use Rattle.topojson_decoder.specs.NamedObjects.{AreObjects, kept_objects_after};
 ghost use Rattle.topojson_decoder.specs.Names.{names_before_repeat};
@@ -15,7 +15,7 @@ ghost use Rattle.topojson_decoder.specs.declared.geometry_parts.Start.{Start as 
 use crate::geometry_parts::Start;
 use crate::held::held;
 use crate::keeping::Keeping;
-use crate::object_parts::kept_object_at;
+use crate::object_parts::{KeptObject, kept_object_at};
 use geojson_types::Counts;
 use json_cursor::{Members, Name, Stop, name_at, object_at as members_at};
 use json_reading::{Fault, after_value};
@@ -26,10 +26,19 @@ use std::collections::BTreeSet;
 use topojson_meaning::TopoFault;
 use topojson_types::{Cell, TopoObject, Transform};
 
+/// What is kept of objects, in order, and how many features each has, where no features of collections are kept.
+#[derive(Drop)]
+pub struct KeptObjects {
+    pub list: Items<(OwnText, TopoObject)>,
+    pub features: Option<Items<u64>>,
+}
+
 /// The objects that were read so far, in order, and what was counted. Once one has a fault, that and its name are kept, and no more is read.
 #[derive(Drop)]
 pub struct NamedObjects {
     pub list: Vec<(OwnText, TopoObject)>,
+    /// How many features each has, where that is kept.
+    pub features: Vec<u64>,
     pub counts: Counts,
     pub failed: Option<(OwnText, TopoFault)>,
 }
@@ -40,6 +49,7 @@ fn none(alloc: Global, counts: Counts) -> NamedObjects
 {
     NamedObjects {
         list: Vec::new(alloc),
+        features: Vec::new(alloc),
         counts,
         failed: None,
     }
@@ -52,6 +62,31 @@ fn owned(alloc: Global, name: Name<'_>) -> Result<OwnText, AllocError>
     match name {
         Name::Plain(name) => Ok(OwnText::of(String::from_str(alloc, name)?)),
         Name::Made(name) => Ok(name),
+    }
+}
+
+/// Goes on with how many features one more object has, where that is kept.
+fn count_features(keeping: Keeping, count: u64, features: &mut Vec<u64>) -> Result<(), AllocError>
+    ensures { IfOk result (λ _. if_blank keeping features.new.items ≡ if_blank keeping (features.old.items ++ count ∷ [])) }
+{
+    match keeping {
+        Keeping::Whole | Keeping::Shapes => {}
+        Keeping::Blank => features.push(count)?,
+    }
+    Ok(())
+}
+
+/// How many features objects have, where that is kept.
+fn counted_features(keeping: Keeping, features: Vec<u64>) -> Option<Items<u64>>
+    ensures { result ≡ if_blank keeping features.items }
+{
+    match keeping {
+        Keeping::Whole | Keeping::Shapes => None,
+        Keeping::Blank => {
+            let mut features = features;
+            features.shrink_to_fit();
+            Some(Items::of(features))
+        }
     }
 }
 
@@ -91,8 +126,10 @@ impl<'a> Members<'a> for NamedObjects {
             Ok(read) => read,
         };
         match object {
-            Ok(object) => {
+            Ok(kept) => {
+                let KeptObject { object, features } = kept;
                 self.list.push((name, object))?;
+                count_features(with.keeping, features, &mut self.features)?;
                 Ok(rest)
             }
             Err(fault) => {
@@ -135,12 +172,13 @@ fn in_order(
     occurrence: NamedObjects,
     start: Start<'_>,
     counts: &mut Counts,
-) -> Result<Items<(OwnText, TopoObject)>, Stop<TopoFault>>
+) -> Result<KeptObjects, Stop<TopoFault>>
     ensures { (depth_left : ℕ) (ms : Listed) → AreObjects start.entry depth_left ms occurrence
         → Judges (kept_objects_after start.entry ms) start.entry.counts counts.new result }
 {
     let NamedObjects {
         list,
+        features,
         counts: counted,
         failed,
     } = occurrence;
@@ -155,7 +193,10 @@ fn in_order(
             *counts = counted;
             let mut objects = list;
             objects.shrink_to_fit();
-            Ok(Items::of(objects))
+            Ok(KeptObjects {
+                list: Items::of(objects),
+                features: counted_features(start.keeping, features),
+            })
         }
         Some((name, fault)) => {
             if is_among(name.as_str(), &list) {
@@ -176,7 +217,7 @@ pub(crate) fn objects_at<'a>(
     arcs: &'a [Items<Cell>],
     bytes: &'a [u8],
     counts: &mut Counts,
-) -> Result<(Items<(OwnText, TopoObject)>, &'a [u8]), Stop<TopoFault>>
+) -> Result<(KeptObjects, &'a [u8]), Stop<TopoFault>>
     ensures { Answers (λ x. x) (kept_objects keeping (option_copied transform.entry) arcs.now) (prefix_value depth_left bytes.now) counts.old counts.new result }
 {
     let start = Start {

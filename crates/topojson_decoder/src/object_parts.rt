@@ -12,7 +12,7 @@ ghost use Rattle.topojson_decoder.specs.Members.{GoesOnWith, IsOccurrence, Judge
 ghost use Rattle.topojson_decoder.specs.ObjectParts.{AreFeatures, IsObject, collection, features, kept_typed_object};
 ghost use Rattle.topojson_decoder.specs.declared.geometry_parts.Start.{Start as Begun};
 
-use crate::collected_features::features_at;
+use crate::collected_features::{KeptFeatures, features_at};
 use crate::feature_parts::{FeatureParts, feature_of};
 use crate::geometry_parts::{Start, kind_of};
 use crate::held::held;
@@ -26,12 +26,19 @@ use json_value::Items;
 use std::alloc::Global;
 use std::mem;
 use topojson_meaning::{GeometryType, TopoFault};
-use topojson_types::{Cell, TopoFeature, TopoObject, Transform};
+use topojson_types::{Cell, TopoObject, Transform};
+
+/// What is kept of an object, and how many features it has.
+#[derive(Drop)]
+pub struct KeptObject {
+    pub object: TopoObject,
+    pub features: u64,
+}
 
 /// The features that the value of `geometries` is read as, or their fault, and what was counted then.
 #[derive(Drop)]
 pub struct ReadFeatures {
-    pub features: Result<Items<TopoFeature>, TopoFault>,
+    pub features: Result<KeptFeatures, TopoFault>,
     pub counts: Counts,
 }
 
@@ -178,7 +185,7 @@ fn features_by(
     found: Features<'_>,
     start: Start<'_>,
     counts: &mut Counts,
-) -> Result<Items<TopoFeature>, Stop<TopoFault>>
+) -> Result<KeptFeatures, Stop<TopoFault>>
     ensures { (v : Value) → AreFeatures start.entry depth_left v found.entry → Judges (features start.entry v) start.entry.counts counts.new result }
 {
     let Features { prefix, read } = found;
@@ -219,7 +226,7 @@ fn collection_of(
     occurrence: Occurrence<Features<'_>>,
     start: Start<'_>,
     counts: &mut Counts,
-) -> Result<TopoObject, Stop<TopoFault>>
+) -> Result<KeptObject, Stop<TopoFault>>
     ensures { (ms : Listed) → IsOccurrence (AreFeatures start.entry depth_left) (named (codes "geometries") ms) occurrence.entry → Judges (collection start.entry ms) start.entry.counts counts.new result }
 {
     match occurrence {
@@ -227,7 +234,13 @@ fn collection_of(
         Occurrence::Again => Err(Stop::Fault(TopoFault::Duplicate)),
         Occurrence::Once(found) => match features_by(alloc, depth_left, found, start, counts) {
             Err(stop) => Err(stop),
-            Ok(features) => Ok(TopoObject::Many(features)),
+            Ok(features) => {
+                let KeptFeatures { list, count } = features;
+                Ok(KeptObject {
+                    object: TopoObject::Many(list),
+                    features: count,
+                })
+            }
         },
     }
 }
@@ -239,7 +252,7 @@ fn object_of(
     occurrence: &mut ObjectParts<'_>,
     start: Start<'_>,
     counts: &mut Counts,
-) -> Result<TopoObject, Stop<TopoFault>>
+) -> Result<KeptObject, Stop<TopoFault>>
     ensures { (ms : Listed) → IsObject start.entry depth_left ms occurrence.old → Judges (kept_typed_object start.entry ms) start.entry.counts counts.new result }
 {
     let kind = match kind_of(&occurrence.feature.parts.kind) {
@@ -260,7 +273,10 @@ fn object_of(
     );
     match read {
         Err(stop) => Err(stop),
-        Ok(feature) => Ok(TopoObject::One(feature)),
+        Ok(feature) => Ok(KeptObject {
+            object: TopoObject::One(feature),
+            features: 1,
+        }),
     }
 }
 
@@ -273,7 +289,7 @@ fn object_into<'a>(
     bytes: &'a [u8],
     start: Start<'a>,
     counts: &mut Counts,
-) -> Result<(TopoObject, &'a [u8]), Stop<TopoFault>>
+) -> Result<(KeptObject, &'a [u8]), Stop<TopoFault>>
     ensures { ((d : ℕ) → IsObject start.entry d [] occurrence.old) → counts.old ≡ start.entry.counts → Answers (λ x. x) (kept_object start.entry.keeping (option_copied start.entry.transform) start.entry.arcs.now) (prefix_value depth_left bytes.now) start.entry.counts counts.new result }
 {
     let Some(rest) = parts_into::<ObjectParts<'a>>(alloc, depth_left, occurrence, bytes, start)?
@@ -295,7 +311,7 @@ pub(crate) fn kept_object_at<'a>(
     arcs: &'a [Items<Cell>],
     bytes: &'a [u8],
     counts: &mut Counts,
-) -> Result<(TopoObject, &'a [u8]), Stop<TopoFault>>
+) -> Result<(KeptObject, &'a [u8]), Stop<TopoFault>>
     ensures { Answers (λ x. x) (kept_object keeping (option_copied transform.entry) arcs.now) (prefix_value depth_left bytes.now) counts.old counts.new result }
 {
     let start = Start {
@@ -319,7 +335,7 @@ pub fn object_at<'a>(
 ) -> Result<(TopoObject, &'a [u8]), Stop<TopoFault>>
     ensures { Answers (λ x. x) (object (option_copied transform.entry) arcs.now) (prefix_value depth_left bytes.now) counts.old counts.new result }
 {
-    kept_object_at(
+    match kept_object_at(
         alloc,
         depth_left,
         Keeping::Whole,
@@ -327,5 +343,11 @@ pub fn object_at<'a>(
         arcs,
         bytes,
         counts,
-    )
+    ) {
+        Err(stop) => Err(stop),
+        Ok((kept, rest)) => {
+            let KeptObject { object, .. } = kept;
+            Ok((object, rest))
+        }
+    }
 }

@@ -51,8 +51,10 @@ pub fn topology_of_valid(parts: Parts) -> Topology
         objects,
         arcs,
         transform,
+        features,
         ..
     } = parts;
+    drop(features);
     Topology::of(objects, arcs, transform)
 }
 

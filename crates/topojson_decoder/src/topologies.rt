@@ -22,7 +22,7 @@ use crate::arc_ends::KeptArcs;
 use crate::arcs::kept_arcs_at;
 use crate::index::{By, FoundArcs, Index, ReadArcs, members_seen_at};
 use crate::keeping::Keeping;
-use crate::named_objects::objects_at;
+use crate::named_objects::{KeptObjects, objects_at};
 use geojson_types::Counts;
 use json_cursor::{Occurrence, Stop, string_at};
 use json_value::{Items, OwnText};
@@ -39,6 +39,8 @@ pub struct Parts {
     pub transform: Option<Transform>,
     /// How many positions the arcs have, where their ends alone are kept.
     pub positions: Option<u64>,
+    /// How many features each object has, where no features of collections are kept.
+    pub features: Option<Items<u64>>,
 }
 
 /// What a topology is made of, and the texts in which its arcs stand.
@@ -195,7 +197,7 @@ fn objects_of(
     arcs: &[Items<Cell>],
     occurrence: Occurrence<&[u8]>,
     counts: &mut Counts,
-) -> Result<Items<(OwnText, TopoObject)>, Stop<TopoFault>>
+) -> Result<KeptObjects, Stop<TopoFault>>
     ensures there { IfOk result (λ _. NoObjects depth_left occurrence.entry → ⊥) }
     ensures gives { (ms : Listed) → IsOccurrence (BeginsAt depth_left) (named (codes "objects") ms) occurrence.entry → Gives (λ x. x) (need_as (codes "objects") (kept_objects keeping (option_copied transform.entry) arcs.now) ms) counts.old counts.new result }
 {
@@ -266,11 +268,16 @@ fn parts_of<'a>(
             let KeptArcs { list, positions } = arcs;
             let (arcs, texts) = list.into_parts();
             let texts = texts_by(transform.as_ref(), texts);
+            let KeptObjects {
+                list: objects,
+                features,
+            } = objects;
             let parts = Parts {
                 objects,
                 arcs,
                 transform,
                 positions,
+                features,
             };
             Ok(SpelledParts { parts, texts })
         }

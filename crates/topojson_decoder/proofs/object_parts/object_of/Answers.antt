@@ -3,7 +3,7 @@ use Rattle.std.specs.Option.{option_copied}
 use Rattle.topojson_meaning.specs.Features as features
 use Rattle.topojson_meaning.specs.Objects as objects
 use Rattle.topojson_types.specs.declared.object.TopoObject.TheVariants.{One}
-use Rattle.topojson_decoder.specs.Kept.{of_feature, of_object}
+use Rattle.topojson_decoder.specs.Kept.{held_object, of_feature}
 use Rattle.topojson_decoder.specs.ObjectParts.{collection, kept_typed_object, simple, typed_object}
 use Rattle.topojson_decoder.proofs.KeptParts.{made, made_alike, made_fault, made_stop, unmade, unmade_stop}
 use Rattle.topojson_decoder.proofs.ObjectSeen as by
@@ -15,7 +15,7 @@ pub returns-in-Err : goal.returns-in-Err
 returns-in-Err c = λ ms is.
     let start = c.args.start in
     let transform = option_copied start.transform in
-    made_fault (of_object start.keeping) (typed_object transform start.arcs.now ms) start.counts c.in-Err.fault
+    made_fault (held_object start.keeping) (typed_object transform start.arcs.now ms) start.counts c.in-Err.fault
     (by.faulty_type transform start.arcs.now ms start.counts c.in-Err.fault (sym (c.in-Err.ensures ms (by.type_seen start c.args.depth_left ms c.args.occurrence.now is))))
 
 pub returns-then-is_collection : goal.returns-then-is_collection
@@ -23,7 +23,7 @@ returns-then-is_collection c = λ ms is.
     let start = c.args.start in
     let transform = option_copied start.transform in
     judges_same (kept_typed_object start ms) (collection start ms) start.counts _
-    (made_alike (of_object start.keeping) (typed_object transform start.arcs.now ms) start.counts (objects.collection transform start.arcs.now ms)
+    (made_alike (held_object start.keeping) (typed_object transform start.arcs.now ms) start.counts (objects.collection transform start.arcs.now ms)
     (by.is_many transform start.arcs.now ms start.counts c.in-Ok.kind (sym (c.in-Ok.ensures ms (by.type_seen start c.args.depth_left ms c.args.occurrence.now is))) (sym c.if-is_collection.ensures))) c.collection_of.result (c.collection_of.ensures ms (rw c.replace-features.ensures.value is.features))
 
 pub returns-in-Err-read : goal.returns-in-Err-read
@@ -32,7 +32,7 @@ returns-in-Err-read c = λ ms is.
     let transform = option_copied start.transform in
     let counts = c.feature_of-read.new.counts in
     let stop = c.in-Err-read.stop in
-    made_stop (of_object start.keeping) (typed_object transform start.arcs.now ms) start.counts counts counts stop
+    made_stop (held_object start.keeping) (typed_object transform start.arcs.now ms) start.counts counts counts stop
     (by.single_stops transform start.arcs.now ms start.counts c.in-Ok.kind (sym (c.in-Ok.ensures ms (by.type_seen start c.args.depth_left ms c.args.occurrence.now is))) (sym c.if-is_collection.ensures) counts stop
     (judges_same (features.feature transform start.arcs.now c.in-Ok.kind ms) (features.feature transform start.arcs.now c.in-Ok.kind (simple ms)) start.counts counts (sym (feature_simple transform start.arcs.now ms c.in-Ok.kind (sym c.if-is_collection.ensures) start.counts)) (Err stop)
     (unmade_stop (of_feature start.keeping) (features.feature transform start.arcs.now c.in-Ok.kind (simple ms)) start.counts counts counts stop ((rw c.in-Err-read.is at c.feature_of-read.ensures) (simple ms) is.feature))))
@@ -43,5 +43,5 @@ returns-in-Ok-read c = λ ms is.
     let transform = option_copied start.transform in
     let read = unmade (of_feature start.keeping) (features.feature transform start.arcs.now c.in-Ok.kind (simple ms)) start.counts c.in-Ok-read.feature c.feature_of-read.new.counts ((rw c.in-Ok-read.is at c.feature_of-read.ensures) (simple ms) is.feature) in
     let same = feature_simple transform start.arcs.now ms c.in-Ok.kind (sym c.if-is_collection.ensures) start.counts in
-    rw read.is (made (of_object start.keeping) (typed_object transform start.arcs.now ms) start.counts (One read.whole) c.feature_of-read.new.counts
+    rw read.is (made (held_object start.keeping) (typed_object transform start.arcs.now ms) start.counts (One read.whole) c.feature_of-read.new.counts
     (by.single transform start.arcs.now ms start.counts c.in-Ok.kind (sym (c.in-Ok.ensures ms (by.type_seen start c.args.depth_left ms c.args.occurrence.now is))) (sym c.if-is_collection.ensures) read.whole c.feature_of-read.new.counts (sym same ∙ read.reads)))

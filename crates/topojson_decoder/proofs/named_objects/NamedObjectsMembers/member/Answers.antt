@@ -1,7 +1,7 @@
 use Rattle.std.proofs.Common.{[], ◌∷◌, ◌++◌, Err, Ok, ap, sym, ◌∙◌}
 use Rattle.std.specs.Option.{option_copied}
 use Rattle.json_cursor.specs.Names.{name_of}
-use Rattle.topojson_decoder.specs.Kept.{held_object, kept_object}
+use Rattle.topojson_decoder.specs.Kept.{held_object, if_blank, kept_object}
 use Rattle.topojson_decoder.specs.NamedObjects.{AreObjects, object}
 use Rattle.topojson_decoder.proofs.KeptParts.{counted_more, unmade, unmade_fault}
 use Rattle.topojson_decoder.proofs.NamedSeen as occurrence
@@ -23,8 +23,8 @@ returns-then-is_some c =
       };
     })
 
-pub returns-in_ok-push-in-Ok-object : goal.returns-in_ok-push-in-Ok-object
-returns-in_ok-push-in-Ok-object c =
+pub returns-in_ok-count_features-in-Ok-object : goal.returns-in_ok-count_features-in-Ok-object
+returns-in_ok-count_features-in-Ok-object c =
     let with = c.args.with in
     let new = c.kept_object_at-answer.new.counts in
     let old = c.args.self.now.counts in

@@ -16,7 +16,7 @@ use Rattle.topojson_meaning.specs.declared.fault.TopoFault.TheVariants.{Duplicat
 use Rattle.topojson_meaning.specs.Members.{members}
 use Rattle.topojson_meaning.specs.Objects.{is_met, object, objects, objects_after}
 use Rattle.topojson_meaning.specs.Reader.{Reader, ◌>>=◌, and_then, each, gather, give, or_fail, pure}
-use Rattle.topojson_decoder.proofs.Repeating.{names_of}
+use Rattle.topojson_decoder.proofs.Repeating.{met_among, met_with, names_of}
 use Rattle.topojson_decoder.specs.declared.keeping.Keeping.{Keeping}
 use Rattle.topojson_decoder.specs.Kept.{held_objects, kept_objects, making}
 use Rattle.topojson_decoder.specs.Names.{names_before_repeat}
@@ -68,28 +68,6 @@ list_in xs (Err e) = xs
 abbrev counts_in : {B : Type 0} → Counts → Result (List B × Counts) TopoFault → Counts
 counts_in c (Ok x) = x.1
 counts_in c (Err e) = c
-
--- names that were met, and then these
-abbrev met_with : List (List ℕ) → List (List ℕ) → List (List ℕ)
-met_with met [] = met
-met_with met (n ∷ ns) = met_with (n ∷ met) ns
-
-either_order : (a b c : Bool) → (b || (a || c)) ≡ ((a || b) || c)
-either_order true true c = refl
-either_order true false c = refl
-either_order false true c = refl
-either_order false false c = refl
-
-met_there : (name : List ℕ) (met ns : List (List ℕ)) → is_met name (met_with met ns) ≡ (is_met name ns || is_met name met)
-met_there name met [] = refl
-met_there name met (n ∷ ns) = met_there name (n ∷ met) ns ∙ either_order (bytes_eq n name) (is_met name ns) (is_met name met)
-
-or_not : (b : Bool) → (b || false) ≡ b
-or_not true = refl
-or_not false = refl
-
-met_among : (name : List ℕ) (ns : List (List ℕ)) → is_met name (met_with [] ns) ≡ is_met name ns
-met_among name ns = met_there name [] ns ∙ or_not (is_met name ns)
 
 first_is_new : (again : Bool) (n l : ℕ) → (if again then 0 else n + 1) ≡ l + 1 → (again ≡ false) × (n ≡ l)
 first_is_new true n l h = absurd (omega (arith, h))

@@ -31,6 +31,7 @@ mod numbers;
 mod object_parts;
 mod pairs;
 mod reading;
+mod repeats;
 mod shapes;
 mod spelled_arcs;
 mod texts;
@@ -50,9 +51,9 @@ pub use labels::{add_label, label_of};
 pub use leaping::leap;
 pub use lines_and_rings::line_or_ring_at;
 pub use members::{after_mark, member_at, next_member, rest_after};
-pub use named_objects::members_before_repeat;
 pub use object_parts::object_at;
 pub use reading::read_topology;
+pub use repeats::members_before_repeat;
 pub use shapes::{arcs_shape_at, places_shape_at};
 pub use texts::{
     Refusal, SpelledTopology, read_parts, read_spelled_text, read_text, topology_of,

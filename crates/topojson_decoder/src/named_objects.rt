@@ -1,28 +1,25 @@
 // The objects of a topology by name (TopoJSON 1.0, section 2.1.5).
-ghost use Rattle.std.specs.Prelude.{◌≡◌, ◌++◌, ◌∷◌, [], ℕ, IfOk, map};
+ghost use Rattle.std.specs.Prelude.{◌≡◌, ◌++◌, ◌∷◌, [], ℕ, IfOk};
 ghost use Rattle.std.specs.Option.{option_copied};
 ghost use Rattle.json_value.specs.Members.{Members as Listed};
 ghost use Rattle.json_cursor.specs.Answers.{Answers};
 ghost use Rattle.json_cursor.specs.Arrays.{prefix_value};
 ghost use Rattle.json_cursor.specs.Names.{name_of};
-ghost use Rattle.topojson_meaning.specs.Objects.{is_met};
 ghost use Rattle.topojson_decoder.specs.Kept.{if_blank, kept_objects};
 ghost use Rattle.topojson_decoder.specs.Members.{Judges};
 ghost use Rattle.topojson_decoder.specs.NamedObjects.{AreObjects, kept_objects_after};
-ghost use Rattle.topojson_decoder.specs.Names.{names_before_repeat};
 ghost use Rattle.topojson_decoder.specs.declared.geometry_parts.Start.{Start as Begun};
 
 use crate::geometry_parts::Start;
 use crate::held::held;
 use crate::keeping::Keeping;
 use crate::object_parts::{KeptObject, kept_object_at};
+use crate::repeats::{is_among, members_before_repeat};
 use geojson_types::Counts;
 use json_cursor::{Members, Name, Stop, name_at, object_at as members_at};
 use json_reading::{Fault, after_value};
 use json_value::{Items, OwnText};
-use owned_values::Memory;
 use std::alloc::{AllocError, Global};
-use std::collections::BTreeSet;
 use topojson_meaning::TopoFault;
 use topojson_types::{Cell, TopoObject, Transform};
 
@@ -138,32 +135,6 @@ impl<'a> Members<'a> for NamedObjects {
             }
         }
     }
-}
-
-/// Whether one of them has this name.
-fn is_among(name: &str, list: &[(OwnText, TopoObject)]) -> bool
-    ensures { result ≡ is_met name.now (map (λ m. m.0) list.now) }
-{
-    'names: for at in 0..list.len() {
-        if list[at].0.as_str() == name {
-            return true;
-        }
-    }
-    false
-}
-
-/// How many members come before the first whose name an earlier one has.
-pub fn members_before_repeat<V>(alloc: Global, members: &[(OwnText, V)]) -> Result<usize, Memory>
-    ensures { IfOk result (λ n. n ≡ names_before_repeat [] (map (λ m. m.0) members.now)) }
-{
-    let mut met = BTreeSet::new(alloc);
-    'members: for (index, member) in members.iter().enumerate() {
-        let added = met.insert(member.0.as_str())?;
-        if !added {
-            return Ok(index);
-        }
-    }
-    Ok(members.len())
 }
 
 /// The objects, or the first fault: a name that is repeated before one has a fault, or by that one, or that fault.

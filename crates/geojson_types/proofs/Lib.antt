@@ -1,9 +1,1 @@
 pub mod Nestings
-pub use Rattle.geometry.proofs.Agreement
-pub use Rattle.geometry.proofs.Areas
-pub use Rattle.geometry.proofs.ByKind
-pub use Rattle.geometry.proofs.Cases
-pub use Rattle.geometry.proofs.Composition
-pub use Rattle.geometry.proofs.Induction
-pub use Rattle.geometry.proofs.Omitted
-pub use Rattle.geometry.proofs.Points

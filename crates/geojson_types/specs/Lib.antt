@@ -6,11 +6,3 @@ pub mod Nesting
 pub mod Numbers
 pub mod Places
 pub mod Texts
-pub use Rattle.geometry.specs.Areas
-pub use Rattle.geometry.specs.Lists
-pub use Rattle.geometry.specs.DropCauses
-pub use Rattle.geometry.specs.Order
-pub use Rattle.geometry.specs.Paths
-pub use Rattle.geometry.specs.Points
-pub use Rattle.geometry.specs.Pruning
-pub use Rattle.geometry.specs.Rings

@@ -1,5 +1,5 @@
 -- The least box around where cells lie, as it is widened by one cell after another.
-use Rattle.std.proofs.Common.{◌≡◌, ℕ, ◌+◌, ◌<◌, ◌≤◌, ℤ, unsigned_abs, List, [], ◌∷◌, ◌++◌, map, length, get_or, drop, Option, None, Some, refl, sym, subst, ap, ◌∙◌, arith, to_z, of_z, w64}
+use Rattle.std.proofs.Common.{◌≡◌, ℕ, ◌+◌, ◌<◌, ◌≤◌, ℤ, unsigned_abs, List, [], ◌∷◌, ◌++◌, map, length, get_or, drop, Option, None, Some, refl, sym, ap, ◌∙◌, arith, to_z, of_z, w64}
 use Rattle.std.proofs.lemmas.Int.{ints, clamps}
 use Rattle.std.proofs.lemmas.List.{at_drop_all, map-id}
 use Rattle.std.specs.Int.{int_min, int_max}
@@ -74,10 +74,6 @@ pub lists_of : (css : List (List Point)) → joined (map (λ cs. cs) css) ≡ jo
 lists_of css = ap joined (map-id css)
 
 -- ---- shapes
-
--- what holds of the cells of a shape holds of those that its kind gives
-pub there : (X : Point → Type 0) (s t : TopoShape) (cs : List Point) → s ≡ t → places t ≡ cs → AllByRecursion X (places s) → AllByRecursion X cs
-there X s t cs is at h = subst (AllByRecursion X) (ap places is ∙ at) h
 
 pub of_kind : (b : Option Corners) (s t : TopoShape) (cs : List Point) (r : Option Corners) → s ≡ t → places t ≡ cs
     → r ≡ widened_by b cs → r ≡ widened_by b (places s)

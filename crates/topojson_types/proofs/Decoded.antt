@@ -2,6 +2,7 @@
 use Rattle.std.proofs.Common.{◌≡◌, ℕ, ◌≤◌, ℤ, Bool, true, false, ◌&&◌, List, [], ◌∷◌, map, length, take, Option, Some, refl, ap, sym, ◌∙◌, arith}
 use Rattle.std.proofs.lemmas.List.{take_all}
 use Rattle.std.specs.List.{AllByRecursion, list_all}
+use Rattle.geometry.proofs.MovedShapes.{some_mapped}
 use Rattle.owned_values.proofs.Lists.{made_of_some}
 use Rattle.geometry.proofs.ByKind.{proper_at, proper-group}
 use Rattle.geometry.specs.declared.shape.Geometry.TheVariants as g
@@ -30,9 +31,6 @@ areas_map : {A B : Type 0} (f : A → B) (xss : List (List A)) → list_all is_s
 areas_map f [] h = refl
 areas_map f ([] ∷ xss) h = cc
 areas_map f ((x ∷ xs) ∷ xss) h = rw (some_map f xs, areas_map f xss h) refl
-
-some_mapped : {A B : Type 0} (f : A → B) (xs : List A) → is_some_list (map f xs) ≡ is_some_list xs
-some_mapped f xs = grind arith
 
 all_some_mapped : {A B : Type 0} (f : A → B) (xss : List (List A)) → list_all is_some_list (map (map f) xss) ≡ list_all is_some_list xss
 all_some_mapped f [] = refl

@@ -1,7 +1,7 @@
 -- The parts of joined lists, and the members of a group.
 use Rattle.std.proofs.Common.{◌≡◌, ℕ, zero, suc, ◌<◌, ◌≤◌, List, [], ◌∷◌, map, length, get_or, arith}
 use Rattle.std.specs.List.{AllByRecursion}
-use Rattle.owned_values.proofs.Elements.{all_at, all_left, all_right}
+use Rattle.owned_values.proofs.Elements.{all_left, all_right}
 use Rattle.json_value.specs.Depth.{greatest}
 use Rattle.geometry.specs.declared.shape.Geometry.TheVariants as g
 use Rattle.geometry.specs.Lists.{joined}
@@ -15,10 +15,6 @@ use Rattle.topojson_types.specs.Topologies.{TopoShape}
 pub parts_all : {A B : Type 0} (X : B → Type 0) (f : A → List B) (xs : List A) → AllByRecursion X (joined (map f xs)) → AllByRecursion (λ x. AllByRecursion X (f x)) xs
 parts_all X f [] h = tt
 parts_all X f (x ∷ xs) h = (all_left X (f x) (joined (map f xs)) h, parts_all X f xs (all_right X (f x) (joined (map f xs)) h))
-
-pub part : {A B : Type 0} (X : B → Type 0) (f : A → List B) (xs : List A) (i : ℕ) (x : A) → i < length xs → x ≡ get_or xs i x
-    → AllByRecursion X (joined (map f xs)) → AllByRecursion X (f x)
-part X f xs i x h is all = all_at (λ x. AllByRecursion X (f x)) xs i x h is (parts_all X f xs all)
 
 -- ---- groups
 

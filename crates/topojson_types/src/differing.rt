@@ -41,12 +41,14 @@ pub fn sums_of_deltas()
 {}
 
 /// A law: the least decimal of a coordinate is a number of a transform.
+#[tactic(auto, using(crate::proofs::ExactTexts::units_are_numbers))]
 pub fn units_are_numbers()
     ensures { UnitsAreNumbers }
 {}
 
 /// A law: with the least decimals of a step and of a first coordinate as scale and translation, a number of the grid stands for so
 /// many steps from that coordinate, with nothing rounded.
+#[tactic(auto, using(crate::proofs::ExactTexts::stands_exactly))]
 pub fn texts_stand_exactly()
     ensures { StandsExactly }
 {}

@@ -1,11 +1,9 @@
 -- Objects that are pruned twice, and the lines and rings of pruned objects.
-use Rattle.std.proofs.Common.{rules, arith, ◌≡◌, ℕ, ℤ, Bool, List, [], ◌∷◌, map, Option, None, Some, refl, subst, ◌∙◌}
-use Rattle.build_meaning.proofs.Names.{AllByRecursion, all_weaker, agreed, composed, then_some, Point, prune, option_lines_and_rings, TopoShape, object_features, objects_lines_and_rings, TopoFeature, TopoObject, One, Many, no_protection, Refs, objects_pruned}
+use Rattle.std.proofs.Common.{rules, arith, ◌≡◌, ℕ, ℤ, Bool, List, [], ◌∷◌, map, Option, None, Some, refl, ◌∙◌}
+use Rattle.build_meaning.proofs.Names.{AllByRecursion, agreed, composed, then_some, Point, prune, option_lines_and_rings, TopoShape, object_features, objects_lines_and_rings, TopoFeature, TopoObject, One, Many, Refs, objects_pruned}
 use Rattle.topojson_types.specs.Topologies.{features_lines_and_rings}
 use Rattle.build_meaning.proofs.Replaced.{lines_and_rings_replaced}
 use Rattle.build_meaning.proofs.Reshaped.{Objects, pruned_shape, feature_with, object_with, at_name, objects_with, made_parts, objects_alike, objects_twice}
-use Rattle.build_meaning.proofs.Spared.{by_refs, objects_plain}
-use Rattle.build_meaning.proofs.Spared as spared
 
 -- ---- objects pruned twice are pruned at once
 
@@ -21,17 +19,6 @@ module _ (one two at_once : Refs) where
   objects_then os h =
       objects_twice (pruned_shape (λ p. p) two) (pruned_shape (λ p. p) one) os
       ∙ objects_alike Meets option_lines_and_rings (λ s. pruned_shape (λ p. p) two (pruned_shape (λ p. p) one s)) (pruned_shape (λ p. p) at_once) shape_then os h
-
--- ---- what holds of the lines and rings that are left
-
-module _ (kept : Refs) (X : Bool × List ℤ → Type 0) where
-  abbrev pub Leaves : Bool × List ℤ → Type 0
-  Leaves b = (m : List ℤ) → kept b.0 b.1 ≡ Some m → X (b.0, m)
-
-  pub objects_left : (os : Objects) → AllByRecursion Leaves (objects_lines_and_rings os) → AllByRecursion X (objects_lines_and_rings (objects_pruned kept os))
-  objects_left os h =
-      subst (λ left. AllByRecursion X (objects_lines_and_rings left)) (objects_plain (by_refs kept) os)
-      (spared.objects_left no_protection (by_refs kept) X os (all_weaker Leaves (spared.Leaves no_protection (by_refs kept) X) (λ b k mark. k) (objects_lines_and_rings os) h))
 
 -- ---- the lines and rings where each is replaced
 

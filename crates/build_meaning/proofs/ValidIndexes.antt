@@ -1,6 +1,6 @@
 -- The arcs of lines, and the indexes of one of the lines: they are in range, their arcs meet, and those of a ring close.
-use Rattle.std.proofs.Common.{◌≡◌, ◌<◌, ◌≤◌, true, List, [], ◌∷◌, map, length, ap, sym, ◌∙◌, subst, inl, inr, arith, ℤ}
-use Rattle.build_meaning.proofs.Names.{AllByRecursion, all_of, all_made, in_append, number_of, arc_at, Meet, Closes, Point, is_some_list, IsClean, AllClean, is_cut, Stroke, clean_starts, line_or_ring_split, in_flat, structured, clean_in, segments, arcs_unlike, arc_is_piece, piece_has_alike, index_is, named_is, named_all, pieces_meet, rings_close, arcs_of, index_in, pieces_of, pieces, IsSplit, started, split_of, In}
+use Rattle.std.proofs.Common.{◌≡◌, ◌<◌, ◌≤◌, true, List, [], ◌∷◌, map, length, ap, sym, ◌∙◌, subst, inl, inr, ℤ}
+use Rattle.build_meaning.proofs.Names.{AllByRecursion, all_of, all_made, in_append, number_of, arc_at, Meet, Closes, Point, IsClean, AllClean, is_cut, Stroke, clean_starts, line_or_ring_split, in_flat, structured, clean_in, segments, arcs_unlike, arc_is_piece, piece_has_alike, index_is, named_is, named_all, pieces_meet, rings_close, arcs_of, index_in, pieces_of, pieces, IsSplit, started, split_of, In}
 use Rattle.cutter.specs.Slices.{lines_and_rings}
 use Rattle.cutter.specs.Structure.{PiecesAreLong}
 use Rattle.arc_table.proofs.Growth.{map_same}
@@ -56,6 +56,3 @@ module _ (lines : List Stroke) (clean : AllClean lines) where
         (rings_close arcs (split_of lines s ∷ []) (map index (pieces_of lines s) ∷ [])
         (λ x m. elim (in_append x (pieces_of lines s) [] m) [ inl h ↦ long x (inside x h) | inr h ↦ elim h [ ] ])
         (split, tt) (begun, tt) (ap (λ xs. xs ∷ []) named)).0
-
-    pub some : is_some_list (map (index_in (arcs_of (pieces lines))) (pieces_of lines s)) ≡ true
-    some = grind (arith, closed, split.joins, begun)

@@ -1,5 +1,6 @@
 -- Arcs that no line uses, left out again after fewer lines are left.
 use Rattle.std.proofs.Common.{◌≡◌, ℕ, zero, suc, ◌+◌, Bool, true, false, cond, ◌&&◌, List, [], ◌∷◌, refl, ap, ◌∙◌, arith, ◌==◌, ℤ, ◌||◌, map, Some, sym}
+use Rattle.std.proofs.lemmas.Bool.{ne_eqb}
 use Rattle.build_meaning.proofs.Names.{nat_tests, keep_from, new_index_from, AllByRecursion, list_any, number_of, Contents, objects_lines_and_rings, TopoObject, is_used, renumbered, line_renumbered, trimmed, objects_pruned}
 use Rattle.build_meaning.proofs.Objects.{objects_then, objects_replaced}
 use Rattle.build_meaning.proofs.Trimmed.{IsUsed, AllUsed}
@@ -62,9 +63,6 @@ names i refs = list_any (λ r. number_of r == i) refs
 abbrev line_names : ℕ → List (Bool × List ℤ) → Bool
 line_names i bs = list_any (λ b. list_any (λ r. number_of r == i) b.1) bs
 
-not_equal : (m n : ℕ) → (m ≡ n → ⊥) → (m == n) ≡ false
-not_equal m n h = grind (arith, nat_tests, h)
-
 module _ (u : ℕ → Bool) (i : ℕ) where
   abbrev once_more : Bool × List ℤ → Bool × List ℤ
   once_more b = (b.0, map (renumbered u) b.1)
@@ -79,7 +77,7 @@ module _ (u : ℕ → Bool) (i : ℕ) where
   lines_same h (b ∷ bs) k = grind (arith, refs_same, lines_same h bs k.1)
 
   one_other : u i ≡ false → (r : ℤ) → IsUsed u r → (number_of r == i) ≡ false
-  one_other h r k = not_equal (number_of r) i (λ e. let z : true ≡ false = sym k ∙ ap u e ∙ h in cc)
+  one_other h r k = ne_eqb (number_of r) i (λ e. let z : true ≡ false = sym k ∙ ap u e ∙ h in cc)
 
   refs_other : u i ≡ false → (refs : List ℤ) → AllByRecursion (IsUsed u) refs → names i refs ≡ false
   refs_other h [] k = refl

@@ -6,7 +6,7 @@ use Rattle.elimination_meaning.specs.Rising.{RisesTo, RisesOver}
 use Rattle.guarded_meaning.proofs.Thinned.{remaining_thinned}
 use Rattle.guarded_meaning.specs.Arcs.{points_of}
 use Rattle.build_meaning.proofs.Celled.{arcs_map}
-use Rattle.build_meaning.proofs.Trimmed.{kept_of_map}
+use Rattle.build_meaning.proofs.Trimmed.{kept_placed}
 use Rattle.build_meaning.proofs.ValidRetained.{Stands, all_stand, points_retained}
 
 -- ---- which arcs are left
@@ -27,10 +27,6 @@ retained_are_reduced guard t arcs = each_retained (remaining_arcs guard t arcs) 
 pub placed_retained : (transform : Option Transform) (kept : List (List ℕ)) (arcs : List (List Point)) → placed_arcs transform (retained_arcs kept arcs) ≡ retained_arcs kept (placed_arcs transform arcs)
 placed_retained None kept arcs = refl
 placed_retained (Some t) kept arcs = sym (arcs_map (place_on t) kept arcs)
-
-pub placed_left : (transform : Option Transform) (passes : ℕ → Bool) (arcs : List (List Point)) → placed_arcs transform (keep_from passes 0 arcs) ≡ keep_from passes 0 (placed_arcs transform arcs)
-placed_left None passes arcs = refl
-placed_left (Some t) passes arcs = kept_of_map (map (place_on t)) passes 0 arcs
 
 -- ---- without a guard
 

@@ -1,6 +1,7 @@
 -- What is left of a marked shape is what is left of the shape, marked: its outer rings are those that are kept, in the same order, and each
 -- has a way of its own.
-use Rattle.std.proofs.Common.{arith, ◌≡◌, ◌==◌, ◌≤◌, ℕ, suc, false, List, [], ◌∷◌, ◌++◌, map, Option, None, Some, cond, refl, sym, ap, ◌∙◌, true}
+use Rattle.std.proofs.Common.{arith, ◌≡◌, ◌==◌, ◌≤◌, ℕ, suc, List, [], ◌∷◌, ◌++◌, map, Option, None, Some, cond, refl, sym, ap, ◌∙◌, true}
+use Rattle.std.proofs.lemmas.Bool.{ne_eqb}
 use Rattle.build_meaning.proofs.Names.{nat_tests, AllByRecursion, map_some, with_some, some_of, Placed, inside_part, of_parts, into_part, along}
 
 -- ---- which rings are kept
@@ -44,12 +45,9 @@ From i (k ∷ way) = i ≤ k
 pub into_here : (i : ℕ) (way : List ℕ) → into_part i (Some (i ∷ way)) ≡ Some way
 into_here i way = ap (λ b. cond b (Some way) None) (let e : (i == i) ≡ true = grind (arith, nat_tests) in e)
 
-not_here : (i k : ℕ) → (i ≡ k → ⊥) → (i == k) ≡ false
-not_here i k h = grind (arith, nat_tests, h)
-
 pub past : (i : ℕ) (way : List ℕ) → From (suc i) way → into_part i (Some way) ≡ None
 past i [] h = absurd h
-past i (k ∷ way) h = ap (λ b. cond b (Some way) None) (not_here i k (λ e. omega (arith, h, e)))
+past i (k ∷ way) h = ap (λ b. cond b (Some way) None) (ne_eqb i k (λ e. omega (arith, h, e)))
 
 from_before : (i : ℕ) (way : List ℕ) → From (suc i) way → From i way
 from_before i [] h = h
@@ -59,7 +57,7 @@ from_before i (k ∷ way) h = omega (arith, h)
 pub behind : {A B : Type 0} (f : A → Option (List ℕ) → B) (i k : ℕ) (way : List ℕ) (xs : List A) → suc k ≤ i → along f i xs (Some (k ∷ way)) ≡ along f i xs None
 behind f i k way [] h = refl
 behind f i k way (x ∷ xs) h =
-    ap (λ b. f x (cond b (Some way) None) ∷ along f (suc i) xs (Some (k ∷ way))) (not_here i k (λ e. omega (arith, h, e)))
+    ap (λ b. f x (cond b (Some way) None) ∷ along f (suc i) xs (Some (k ∷ way))) (ne_eqb i k (λ e. omega (arith, h, e)))
     ∙ ap (λ bs. f x None ∷ bs) (behind f (suc i) k way xs (omega (arith, h)))
 
 -- ---- parts of a shape

@@ -5,13 +5,13 @@ use Rattle.topojson_types.specs.Topologies.{features_lines_and_rings}
 use Rattle.build_meaning.proofs.Again.{all_hold}
 use Rattle.build_meaning.proofs.Greatest.{same_some, greatest_is}
 use Rattle.build_meaning.proofs.GreatestLeft.{rings_within}
-use Rattle.build_meaning.proofs.Guarded.{unguarded_indexes, unguarded_is_simplified, retained_are_reduced, placed_retained, placed_left, placed_through, sub_left}
+use Rattle.build_meaning.proofs.Guarded.{unguarded_indexes, unguarded_is_simplified, retained_are_reduced, placed_retained, placed_through, sub_left}
 use Rattle.build_meaning.proofs.Left.{spared_keeps}
 use Rattle.build_meaning.proofs.Marks.{causes_plain}
 use Rattle.build_meaning.proofs.Reshaped.{pruned_shape, features_with}
 use Rattle.build_meaning.proofs.RingKept.{ring_kept}
 use Rattle.build_meaning.proofs.Spared.{spared_shape, whole_plain}
-use Rattle.build_meaning.proofs.Trimmed.{AllUsed, all_renumbered, all_used}
+use Rattle.build_meaning.proofs.Trimmed.{AllUsed, all_renumbered, all_used, kept_placed}
 use Rattle.build_meaning.proofs.ValidSimplified.{spared_is_valid}
 
 -- ---- where no ring is protected
@@ -72,7 +72,7 @@ unfolding protecting_contents spared_by trimmed
 arcs_are_reduced no_crossings protects t limit y =
     let kept : List (List ℕ) = protecting_indexes no_crossings protects t y in
     let passes : ℕ → Bool = is_used (spared_whole protects kept limit y).objects in
-    placed_left y.transform passes (retained_arcs kept y.arcs)
+    kept_placed y.transform passes (retained_arcs kept y.arcs)
     ∙ ap (keep_from passes 0) (placed_retained y.transform kept y.arcs ∙ retained_are_reduced (guarded_by no_crossings (protected_rings protects y.objects)) t (arc_positions y))
 
 -- ---- no crossings

@@ -4,20 +4,19 @@ use Rattle.build_meaning.proofs.Names.{AllByRecursion, list_any, all_weaker, num
 use Rattle.build_meaning.proofs.Again.{trimmed_again}
 use Rattle.build_meaning.proofs.Celled.{arcs_map, all_lie_back, retained_lie, objects_lines, trimmed_celled}
 use Rattle.build_meaning.proofs.Greatest.{same_some}
-use Rattle.build_meaning.proofs.Guarded.{placed_left}
 use Rattle.build_meaning.proofs.GuardedLayers.{spread_left}
 use Rattle.build_meaning.proofs.OnGrid.{lengths_stay, all_lie}
 use Rattle.build_meaning.proofs.RingsAlike.{rings_alike, objects_turned, rings_celled, objects_celled_alike}
 use Rattle.build_meaning.proofs.Simplified.{refs_same}
 use Rattle.build_meaning.proofs.Spared.{objects_left, Leaves}
-use Rattle.build_meaning.proofs.Trimmed.{AllUsed, all_renumbered, all_used, kept_of_map}
+use Rattle.build_meaning.proofs.Trimmed.{AllUsed, all_renumbered, all_used, kept_of_map, kept_placed}
 
 -- ---- arcs that no line uses, left out first
 
 -- the same arcs are placed
 pub positions_alike : (y : Contents) → arc_positions (trimmed y) ≡ keep_from (is_used y.objects) 0 (arc_positions y)
 unfolding trimmed
-positions_alike y = placed_left y.transform (is_used y.objects) y.arcs
+positions_alike y = kept_placed y.transform (is_used y.objects) y.arcs
 
 pub trimmed_rings : (y : Contents) → protected_rings (greatest_rings (trimmed y)) (trimmed y).objects ≡ map (map (renumbered (is_used y.objects))) (protected_rings (greatest_rings y) y.objects)
 unfolding trimmed
@@ -49,7 +48,7 @@ module _ (kept more : List (List ℕ)) (limit : ℕ) (y : Contents)
   unfolding trimmed
   objects_same =
       ap (λ arcs. objects_spared after (sparing (large_refs limit (placed_arcs y.transform arcs))) (objects_pruned (line_renumbered passes) y.objects)) (sym same)
-      ∙ ap (λ arcs. objects_spared after (sparing (large_refs limit arcs)) (objects_pruned (line_renumbered passes) y.objects)) (placed_left y.transform passes (retained_arcs more y.arcs))
+      ∙ ap (λ arcs. objects_spared after (sparing (large_refs limit arcs)) (objects_pruned (line_renumbered passes) y.objects)) (kept_placed y.transform passes (retained_arcs more y.arcs))
       ∙ turns places
 
   -- no index is new

@@ -71,7 +71,7 @@ pub kept_of_map : {X Y : Type 0} (f : X → Y) (used : ℕ → Bool) (n : ℕ) (
 kept_of_map f used n [] = refl
 kept_of_map {X = X} f used n (x ∷ xs) = grind (arith, kept_of_map f used (suc n) xs)
 
-kept_placed : (transform : Option Transform) (used : ℕ → Bool) (arcs : List (List Point)) → placed_arcs transform (keep_from used 0 arcs) ≡ keep_from used 0 (placed_arcs transform arcs)
+pub kept_placed : (transform : Option Transform) (used : ℕ → Bool) (arcs : List (List Point)) → placed_arcs transform (keep_from used 0 arcs) ≡ keep_from used 0 (placed_arcs transform arcs)
 kept_placed transform used arcs = grind (arith, kept_of_map)
 
 -- a trimmed topology decodes to the features of the whole one, whatever the name

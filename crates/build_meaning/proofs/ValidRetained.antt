@@ -1,5 +1,6 @@
 -- Arcs of which cells are retained: by the indexes that reduction leaves they are the reduced ones, and from the first to the last they begin and end as before.
 use Rattle.std.proofs.Common.{◌≡◌, ℕ, suc, Bool, ◌+◌, List, [], ◌∷◌, map, length, Some, refl, ap, ◌∙◌, arith, sym, zero, ◌≤◌, ℤ, pos, negsuc, Option, None}
+use Rattle.elimination_meaning.proofs.Steps.{Holds}
 use Rattle.build_meaning.proofs.Names.{AllByRecursion, all_two, all_weaker, map_agree, at, with_some, Point, sub_all, Vertex, numbered, remaining, reduce, reduced, keep_from, RetainedIsReduced, retained, retained_arcs, eliminate_sub, or_empty, arc_at, first_of, last_of, Transform, FromFirstToLast, EachFromFirstToLast, IsPlace, IsArc}
 use Rattle.build_meaning.proofs.Trimmed.{kept_of_map}
 use Rattle.build_meaning.proofs.ValidEnds.{SameEnds, last_reverse, first_reverse}
@@ -42,10 +43,6 @@ each_kept t used arcs =
     ap (keep_from used 0) (retained_each (reduce t) arcs) ∙ sym (kept_of_map (λ a. retained (reduce t a) a) used 0 arcs) ∙ sym (retained_each (reduce t) (keep_from used 0 arcs))
 
 -- ---- one arc
-
-abbrev Holds : {A : Type 0} → (A → Type 0) → Option A → Type 0
-Holds X None = Unit {0}
-Holds X (Some a) = X a
 
 all_at : {A : Type 0} (X : A → Type 0) (xs : List A) → AllByRecursion X xs → (i : ℕ) → Holds X (at xs i)
 all_at X [] h i = tt

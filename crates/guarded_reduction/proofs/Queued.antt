@@ -1,5 +1,5 @@
 -- The queue and the waits cover all corners under the threshold while corners are looked at and go.
-use Rattle.std.proofs.Common.{◌≡◌, ◌≢◌, ℕ, ◌<◌, ◌==◌, true, false, not, ◌&&◌, ◌||◌, List, ◌∷◌, length, slice_index, slice_index_or, slice_set, length-set, get_or-set_same, get_or-set_other, Bool, refl, ap, sym, ◌∙◌, subst, ◌⊎◌, inl, inr, arith}
+use Rattle.std.proofs.Common.{◌≡◌, ◌≢◌, ℕ, ◌<◌, ◌==◌, true, false, not, ◌&&◌, ◌||◌, List, ◌∷◌, length, slice_index, slice_index_or, slice_set, length-set, get_or-set_other, Bool, refl, ap, sym, ◌∙◌, subst, ◌⊎◌, inl, inr, arith}
 use Rattle.std.specs.BinaryHeap.{IsUpperBound}
 use Rattle.std.specs.List.{Contains}
 use Rattle.std.specs.List.Sorted.{IsPermutation}
@@ -287,10 +287,6 @@ below_to t s after whole chained items first second last w e n is =
     (λ p q r. below_still t s whole chained items first second last w e n p q r)
 
 -- ---- a place stays for good
-
-pub fixed_there : (s : Linked) (z : ℕ) → z < length s.fixed → is_fixed (fixed_at z s) z ≡ true
-unfolding is_fixed
-fixed_there s z h = get_or-set_same s.fixed z true false h
 
 pub fixed_elsewhere : (s : Linked) (z v : ℕ) → v ≢ z → is_fixed (fixed_at z s) v ≡ is_fixed s v
 unfolding is_fixed

@@ -1,5 +1,5 @@
 -- Corners in two places: those that are sorted, the first of them last, and those on a heap.
-use Rattle.std.proofs.Common.{◌≡◌, ◌+◌, ◌-◌, ◌<◌, Bool, true, false, List, [], ◌∷◌, ◌++◌, append_assoc, length, get_or, refl, ap, sym, ◌∙◌, subst, arith, Option, Some, None, IfSome}
+use Rattle.std.proofs.Common.{◌≡◌, ◌-◌, ◌<◌, Bool, true, false, List, [], ◌∷◌, ◌++◌, append_assoc, length, get_or, refl, ap, sym, ◌∙◌, subst, arith, Option, Some, None, IfSome}
 use Rattle.std.specs.Option.{option_to_list}
 use Rattle.std.specs.BinaryHeap.{IsHeap, IsUpperBound, PopsGreatest}
 use Rattle.std.specs.Cmp.{IsStrictWeakOrder}
@@ -8,7 +8,7 @@ use Rattle.std.specs.List.Sorted.{IsPermutation, IsSorted}
 use Rattle.std.specs.Ordering.{is_lt}
 use Rattle.std.specs.declared.cmp.Reverse.{Reverse}
 use Rattle.std.proofs.lemmas.Cmp.{on_total, back_total}
-use Rattle.std.proofs.lemmas.List.{get_or_default, get_or_append_left, get_or_push, length-append}
+use Rattle.std.proofs.lemmas.List.{get_or_default, get_or_push, length-append}
 use Rattle.std.proofs.lemmas.List.Elements.{All-contains, All-from_recursion, recursion_from_All}
 use Rattle.std.proofs.lemmas.List.MinMax.{ranks_by}
 use Rattle.std.proofs.lemmas.List.Sorted.{IsPermutation-append_right, IsPermutation-middle, IsPermutation-sym, IsPermutation-trans, sorted_far}
@@ -40,13 +40,6 @@ last_of_sorted xs x s =
     let n = length-append xs (x ∷ []) in
     let z : length (xs ++ (x ∷ [])) - 1 ≡ length xs = omega (arith, n) in
     last_bound (xs ++ (x ∷ [])) x s (omega (arith, n)) (sym (ap (λ m. get_or (xs ++ (x ∷ [])) m x) z ∙ get_or_push xs x x (length xs) refl))
-
-pub prefix_sorted : (xs ys : List (Reverse Entry)) → IsSorted turned_cmp (xs ++ ys) → IsSorted turned_cmp xs
-prefix_sorted xs ys s = λ k d l h.
-    let n = length-append xs ys in
-    ap (λ y. under y (get_or xs k d)) (sym (get_or_append_left xs ys d (k + 1) (omega (arith, h))))
-    ∙ ap (λ y. under (get_or (xs ++ ys) (k + 1) d) y) (sym (get_or_append_left xs ys d k (omega (arith, h))))
-    ∙ s k d l (omega (arith, h, n))
 
 -- ---- which of the two goes first
 

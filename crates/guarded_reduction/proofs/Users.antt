@@ -3,7 +3,6 @@ use Rattle.std.proofs.Common.{◌≡◌, ◌≢◌, ℕ, ℤ, ◌+◌, ◌-◌, 
 use Rattle.std.specs.List.{Contains, list_all}
 use Rattle.std.proofs.lemmas.Bool.{both_ways, cases_eq, cases_lt, or_cases, eqb-true}
 use Rattle.std.proofs.lemmas.List.{get_or_default, get_or-map, length-drop, length-map, map-set}
-use Rattle.std.proofs.lemmas.Grind.{common_steps}
 use Rattle.std.proofs.lemmas.List.Elements.{Contains-append_cases, Contains-append_left, Contains-append_right}
 use Rattle.std.proofs.lemmas.List.Folds.{list_any-append}
 use Rattle.effective_area.proofs.HeapLaws.{contains_cases, contains_here}
@@ -12,9 +11,6 @@ use Rattle.geometry.specs.Joins.{number_of}
 use Rattle.geometry.specs.Points.{Point}
 use Rattle.guarded_meaning.specs.Guards.{uses}
 use Rattle.guarded_reduction.specs.Moves.{AddsUser, AreUsers, moves, ring_at, ring_moves, stays, steps, users_at}
-
-take_whole : {X : Type 0} (i : ℕ) (xs : List X) → length xs ≤ i → take i xs ≡ xs
-take_whole i xs h = grind (arith, common_steps)
 
 -- ---- a ring is listed with one arc more
 
@@ -97,9 +93,6 @@ module _ {X : Type 0} (f : X → List ℕ) (ring : ℕ) (first us : List X) (x y
       before : (k j : ℕ) → Contains (users_at old k) j ⊎ (j ≡ ring) → Contains (users_at (map f first) k) j ⊎ (j ≡ ring)
       before k j (inl m) = h.only k j m
       before k j (inr e) = inr e
-
-pub adds_none : (ring : ℕ) (refs : List ℤ) (us : List (List ℕ)) → AddsUser ring (take 0 refs) us us
-adds_none ring refs us = record { many = refl; has = λ k j m. m; listed = λ k w u. absurd (both_ways false refl u); only = λ k j m. inl m }
 
 -- ---- ring by ring
 

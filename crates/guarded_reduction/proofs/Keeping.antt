@@ -3,7 +3,7 @@ use Rattle.std.proofs.Common.{◌≡◌, ℕ, zero, suc, ℤ, pos, negsuc, ◌+�
 use mathlib.Core.List.{reverse_aux}
 use Rattle.std.specs.List.{AllByRecursion, list_all}
 use Rattle.std.proofs.lemmas.Bool.{both_ways, cases_lt}
-use Rattle.std.proofs.lemmas.List.{get_or_append_left, get_or-append_right, get_or-replicate, get_or_past, length-replicate, map-append}
+use Rattle.std.proofs.lemmas.List.{get_or_append_left, get_or-append_right, get_or-replicate, get_or_past, length-replicate, map-append, nil_from_length}
 use Rattle.owned_values.proofs.Elements.{all_weaker, all_append, all_map, each_of}
 use Rattle.elimination_meaning.specs.Elimination.{Vertex}
 use Rattle.geometry.specs.Joins.{at, or_empty, arc_at, first_of, last_of, Meet}
@@ -144,10 +144,6 @@ same_place rings arcs c d e f = ap (λ k. asked k d.corner.index) e ∙ ap (aske
     asked : ℕ → ℕ → Bool
     asked k i = list_all (λ refs. not (uses k refs) || is_long (points_of (without_at k i arcs)) refs) rings
 
-no_rings : {X : Type 0} (xs : List X) → length xs ≡ 0 → xs ≡ []
-no_rings [] h = refl
-no_rings (x ∷ xs) h = absurd (omega (arith, h))
-
 kept_of_none : (rings : List (List ℤ)) (arcs : List (List Vertex)) (d : ArcCorner) → rings ≡ [] → keeps_rings rings arcs d ≡ true
 unfolding keeps_rings
 kept_of_none rings arcs d e = ap (list_all (λ refs. not (uses d.arc refs) || is_long (points_of (left_by arcs d)) refs)) e
@@ -206,7 +202,7 @@ module _ (arcs : List (List Point)) (rings : List (List ℤ)) (s : Linked) (show
     kept_is d there e = on keeping.counted
       where
         on : (length rings ≡ 0) ⊎ IsCounted arcs (points_of now) g → keeps_rings rings now d ≡ keeps_all s z g
-        on (inl n) = kept_of_none rings now d (no_rings rings n) ∙ sym (all_of_none s z g (keeping.rings_are ∙ no_rings rings n))
+        on (inl n) = kept_of_none rings now d (nil_from_length rings n) ∙ sym (all_of_none s z g (keeping.rings_are ∙ nil_from_length rings n))
         on (inr k) =
             let x : IsShownCorner arcs s one.corner = shown_corner arcs s show one.corner one.there in
             let r = same_number arcs d.arc d.corner.index one.corner.arc one.corner.corner.index there x.there (e ∙ sym one.number_is) in

@@ -2,6 +2,7 @@
 use Rattle.std.proofs.Common.{◌≡◌, ℕ, ◌==◌, true, false, not, ◌&&◌, ◌||◌, List, slice_index_or, sym, ap, subst, ◌∙◌, ◌⊎◌, inl, inr, arith}
 use Rattle.std.proofs.lemmas.Bool.{and_parts, and_from, or_left, or_right, or_cases, not-true, false_from_ne_true}
 use Rattle.std.proofs.lemmas.Bool.Decides.{nat_tests}
+use Rattle.guarded_reduction.proofs.Joining.{blocked_cases}
 use Rattle.geometry.specs.Points.{Point}
 use Rattle.geometry.specs.Rings.{same}
 use Rattle.geometry.proofs.Points.{same_is}
@@ -14,7 +15,7 @@ use Rattle.guarded_meaning.specs.Triangles.{is_clear}
 use Rattle.guarded_meaning.proofs.Agendas.{held_is_not_free}
 use Rattle.guarded_reduction.specs.declared.query.Corner.{Corner}
 use Rattle.guarded_reduction.specs.Indexes.{point_at}
-use Rattle.guarded_reduction.specs.Blocking.{is_blocked_by, is_joined_at, joins_ends, leads_on}
+use Rattle.guarded_reduction.specs.Blocking.{is_joined_at, joins_ends, leads_on}
 use Rattle.guarded_reduction.specs.Laws.{IsPlace, Leads, asked, BlockedLaw}
 use Rattle.guarded_reduction.specs.Tests.{is_held_by}
 
@@ -27,10 +28,6 @@ distinct a b h e = grind (arith, nat_tests)
 pub held : (q : Corner) (z : ℕ) (p : Point) → is_held_by q z p ≡ true → (z ≡ q.place → ⊥) × (is_clear q.before q.at q.after p ≡ false)
 unfolding is_held_by
 held q z p h = (distinct z q.place (and_parts _ _ h).0, not-true _ (and_parts _ _ h).1)
-
-blocked : (ps : List Point) (befores afters : List ℕ) (q : Corner) (z : ℕ) (p : Point) → is_blocked_by ps befores afters q z p ≡ true → (is_held_by q z p ≡ true) ⊎ (joins_ends ps befores afters q z p ≡ true)
-unfolding is_blocked_by
-blocked ps befores afters q z p h = or_cases _ _ h
 
 pub joined : (ps : List Point) (befores afters : List ℕ) (q : Corner) (z : ℕ) (p : Point) → joins_ends ps befores afters q z p ≡ true → (same q.before q.after ≡ false) × (is_joined_at ps befores afters q.before q.after q.place z p ≡ true)
 unfolding joins_ends
@@ -94,7 +91,7 @@ one_place a c p h k d = let e : a ≡ c = same_is a p h ∙ sym (same_is c p k) 
     same_itself c p k = subst (λ (r : Point). same c r ≡ true) (sym (same_is c p k)) k
 
 pub blocked_law : BlockedLaw
-blocked_law number ps bs befores afters arcs c z s m = by (blocked ps befores afters (asked c (number c.arc c.corner.index)) z (point_at ps z) m.meets)
+blocked_law number ps bs befores afters arcs c z s m = by (blocked_cases ps befores afters (asked c (number c.arc c.corner.index)) z (point_at ps z) m.meets)
   where
     in_triangle : IsPlace number ps arcs z → (z ≡ number c.arc c.corner.index → ⊥) × (is_clear c.before c.corner.point c.after (point_at ps z) ≡ false) → is_free arcs c ≡ false
     in_triangle x h = held_is_not_free arcs c (Inside x.place) x.there (false_from_ne_true _ (λ o. h.0 (sym x.number_is ∙ own_place number c x.place o)), subst (λ (r : Point). is_clear c.before c.corner.point c.after r ≡ false) x.point h.1)

@@ -1,11 +1,12 @@
 -- The order of places.
 use Rattle.std.proofs.Common.{◌≡◌, ℕ, ◌+◌, ◌<◌, zero, suc, List, [], ◌∷◌, ◌++◌, length, map, slice_index, slice_index_or, sym, ap, subst, ◌∙◌, arith, zero-add, add-one}
-use Rattle.std.specs.List.{range_with_len, All, Contains}
+use Rattle.std.specs.List.{range_with_len, Contains}
 use Rattle.std.specs.List.Sorted.{IsPermutation}
 use Rattle.std.proofs.lemmas.List.{get_or_default, map-append}
-use Rattle.std.proofs.lemmas.List.Elements.{All-get_or, All-from_get_or, Contains-get_or}
+use Rattle.std.proofs.lemmas.List.Elements.{All-get_or, Contains-get_or}
 use Rattle.std.proofs.lemmas.List.FromFn.{length-range_with_len, get_or-range_with_len}
 use Rattle.std.proofs.lemmas.List.Sorted.{All-permutation, Contains-permutation, length_permutation, IsPermutation-map}
+use Rattle.effective_area.proofs.Scan.{all_inside}
 use Rattle.guarded_reduction.specs.declared.ordering.Key.{Key}
 use Rattle.guarded_reduction.specs.Orders.{AreRanks, place_of}
 use Rattle.guarded_reduction.specs.Indexes.{IsOrder}
@@ -24,17 +25,11 @@ keys_more ks ls k n h e p =
 pub places_ordered : (n : ℕ) (ks ls : List Key) (ps : List ℕ) → map place_of ks ≡ range_with_len 0 n → IsPermutation ks ls → ps ≡ map place_of ls → IsPermutation (range_with_len 0 n) ps
 places_ordered n ks ls ps e p q = subst (λ (xs : List ℕ). IsPermutation xs ps) e (subst (λ (ys : List ℕ). IsPermutation (map place_of ks) ys) (sym q) (IsPermutation-map place_of ks ls p))
 
-all_below : (n : ℕ) → All (λ z. z < n) (range_with_len 0 n)
-all_below n = All-from_get_or (λ z. z < n) (range_with_len 0 n) 0 (λ i h. below i (subst (λ (k : ℕ). i < k) (length-range_with_len 0 n) h))
-  where
-    below : (i : ℕ) → i < n → slice_index_or (range_with_len 0 n) i 0 < n
-    below i q = let e : slice_index_or (range_with_len 0 n) i 0 ≡ 0 + i = get_or-range_with_len 0 n i 0 q in omega arith
-
 pub places_within : (n : ℕ) (ps : List ℕ) → IsPermutation (range_with_len 0 n) ps → length ps ≡ n
 places_within n ps p = length_permutation _ _ p ∙ length-range_with_len 0 n
 
 pub places_below : (n : ℕ) (ps : List ℕ) → IsPermutation (range_with_len 0 n) ps → (r : ℕ) → r < length ps → slice_index ps r < length ps
-places_below n ps p r h = subst (λ (k : ℕ). slice_index ps r < k) (sym (places_within n ps p)) (All-get_or (λ z. z < n) ps r 0 h (All-permutation (λ z. z < n) _ ps p (all_below n)))
+places_below n ps p r h = subst (λ (k : ℕ). slice_index ps r < k) (sym (places_within n ps p)) (All-get_or (λ z. z < n) ps r 0 h (All-permutation (λ z. z < n) _ ps p (all_inside n)))
 
 contains : (n : ℕ) (ps : List ℕ) → IsPermutation (range_with_len 0 n) ps → (z : ℕ) → z < n → Contains ps z
 contains n ps p z h = Contains-permutation _ ps z p (subst (λ (k : ℕ). Contains (range_with_len 0 n) k) (get_or-range_with_len 0 n z 0 h ∙ zero-add z) (Contains-get_or (range_with_len 0 n) z 0 (subst (λ (k : ℕ). z < k) (sym (length-range_with_len 0 n)) h)))

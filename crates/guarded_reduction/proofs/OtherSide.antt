@@ -2,6 +2,7 @@
 use Rattle.std.proofs.Common.{◌≡◌, ◌≢◌, ℕ, ◌<◌, Bool, true, false, not, ◌||◌, List, length, slice_index, slice_index_or, refl, ap, sym, ◌∙◌, subst, ◌⊎◌, inl, inr, arith}
 use Rattle.std.proofs.lemmas.Bool.{both_ways, false_from_ne_true, or_parts}
 use Rattle.std.proofs.lemmas.List.{get_or_default}
+use Rattle.junctions.proofs.Cleaned.{differs}
 use Rattle.geometry.specs.Points.{Point}
 use Rattle.geometry.specs.Rings.{same}
 use Rattle.geometry.proofs.Points.{same_is, same_self}
@@ -35,11 +36,8 @@ held_turned c z p h = rw (clear_turned c.before c.at c.after p) h
 
 -- ---- the segment between its ends
 
-not_same : (p q : Point) → same p q ≡ false → p ≢ q
-not_same p q h e = both_ways (same p q) h (subst (λ (r : Point). same p r ≡ true) e (same_self p))
-
 same_turned : (p q : Point) → same p q ≡ false → same q p ≡ false
-same_turned p q h = false_from_ne_true _ (λ k. not_same p q h (sym (same_is q p k)))
+same_turned p q h = false_from_ne_true _ (λ k. differs p q h (sym (same_is q p k)))
 
 module _ (s : Linked) (whole : IsWhole s) (chained : IsChained s) where
   abbrev Blocks : Corner → ℕ → Type 0
@@ -57,7 +55,7 @@ module _ (s : Linked) (whole : IsWhole s) (chained : IsChained s) where
   module _ (c : Corner) (y : ℕ) (within : y < length s.positions) (left : is_left_at s.left y ≡ true) (two : same c.before c.after ≡ false) (at_before : same c.before (point_at s.positions y) ≡ true) (other : y ≢ c.place) where
     -- where the neighbour is at the other end, it is another place
     apart : (z : ℕ) → same c.after (point_at s.positions z) ≡ true → z ≢ y
-    apart z h e = not_same c.before c.after two (same_is c.before (point_at s.positions y) at_before ∙ ap (point_at s.positions) (sym e) ∙ sym (same_is c.after (point_at s.positions z) h))
+    apart z h e = differs c.before c.after two (same_is c.before (point_at s.positions y) at_before ∙ ap (point_at s.positions) (sym e) ∙ sym (same_is c.after (point_at s.positions z) h))
 
     leads_back : leads_on s.positions c.before c.place y ≡ true
     leads_back = leads s.positions c.before c.place y (point_at s.positions y) within other refl at_before
@@ -150,4 +148,4 @@ after_outside e ps befores afters c one = record { fails = λ z p h b. never z p
     never z p e (inr k) =
         let j = joined ps befores afters c z p k in
         let i = joined_parts ps befores afters c.before c.after c.place z p j.1 in
-        not_same c.before c.after j.0 (same_is c.before p i.0 ∙ e)
+        differs c.before c.after j.0 (same_is c.before p i.0 ∙ e)

@@ -1,9 +1,9 @@
 -- Which rings an arc's moves are counted in.
 use Rattle.std.proofs.Common.{◌≡◌, ◌≢◌, ℕ, zero, suc, ℤ, ◌+◌, ◌-◌, ◌<◌, ◌≤◌, ◌==◌, Bool, true, false, not, ◌||◌, ◌&&◌, nat_le, List, [], ◌∷◌, get_or, length, length-append, map, replicate, slice_index, slice_index_or, slice_set, length-set, get_or-set_same, get_or-set_other, refl, ap, sym, ◌∙◌, subst, ◌⊎◌, inl, inr, arith}
 use Rattle.std.specs.List.{AllByRecursion, Contains, list_all}
-use Rattle.std.proofs.lemmas.Bool.{and_parts, both_ways, cases_Bool, cases_lt, false_from_ne_true, or_cases, eqb-true}
+use Rattle.std.proofs.lemmas.Bool.{and_parts, both_ways, cases_Bool, cases_lt, false_from_ne_true, or_cases, or_parts, eqb-true}
 use Rattle.std.proofs.lemmas.Bool.Decides.{nat_tests}
-use Rattle.std.proofs.lemmas.List.{get_or_append_left, get_or-append_right, get_or-replicate, length-map, length-replicate, set-get_or}
+use Rattle.std.proofs.lemmas.List.{get_or_append_left, get_or-append_right, get_or-replicate, length-map, length-replicate, set-get_or, nil_from_length}
 use Rattle.effective_area.proofs.HeapLaws.{contains_cases, contains_here, contains_later}
 use Rattle.geometry.specs.Joins.{AreInRange, Meet, arc_at, number_of}
 use Rattle.geometry.specs.Points.{Point}
@@ -22,14 +22,10 @@ test_other m n e = grind (arith, nat_tests)
 same_moves : (ms : List ℕ) (k v : ℕ) (refs : List ℤ) → uses k refs ≡ false → ring_moves (slice_set ms k v) refs ≡ ring_moves ms refs
 same_moves ms k v [] h = refl
 same_moves ms k v (r ∷ refs) h =
-    let p = neither (number_of r == k) (uses k refs) h in
+    let p = or_parts (number_of r == k) (uses k refs) h in
     let e = get_or-set_other ms k (number_of r) v 0 (test_other (number_of r) k p.0) in
     let f = same_moves ms k v refs p.1 in
     omega (arith, e, f)
-  where
-    neither : (a b : Bool) → (a || b) ≡ false → (a ≡ false) × (b ≡ false)
-    neither false b h = (refl, h)
-    neither true b h = absurd (both_ways true h refl)
 
 -- one that uses it moves on as often at least
 moves_along : (ms : List ℕ) (k v : ℕ) (refs : List ℤ) → k < length ms → uses k refs ≡ true → v ≤ ring_moves (slice_set ms k v) refs
@@ -97,13 +93,9 @@ abbrev pub counted_of : List (List ℤ) → List ℕ → List ℕ → List (List
 counted_of rings os ms us = record { rings = rings; owners = os; moves = ms; users = us }
 
 -- where there is no ring, none goes, and nothing is counted
-no_rings : {X : Type 0} (xs : List X) → length xs ≡ 0 → xs ≡ []
-no_rings [] h = refl
-no_rings (x ∷ xs) h = absurd (omega (arith, h))
-
 pub keeps_none : (s : Linked) (z : ℕ) (g : Counted) → length g.rings ≡ 0 → keeps_all s z g ≡ true
 unfolding keeps_all
-keeps_none s z g e = ap (list_all (λ refs. asks (owner_at g z) (moves_without s z g) refs)) (no_rings g.rings e)
+keeps_none s z g e = ap (list_all (λ refs. asks (owner_at g z) (moves_without s z g) refs)) (nil_from_length g.rings e)
 
 -- what was read of the lists
 pub record IsRead (s : Linked) (z : ℕ) (g : Counted) (k m n : ℕ) : Type 0 where

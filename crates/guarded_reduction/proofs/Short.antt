@@ -2,7 +2,7 @@
 use Rattle.std.proofs.Common.{◌≡◌, ℕ, suc, ◌+◌, ◌<◌, ◌≤◌, ◌==◌, Bool, true, false, not, ◌&&◌, ◌||◌, nat_lt, List, [], ◌∷◌, All, length, map, drop, get_or, eqb, Option, Some, None, refl, ap, sym, ◌∙◌, subst, ◌⊎◌, inl, inr, arith, add-one, drop-cons, length-drop}
 use Rattle.std.specs.Option.{IfNone, IfSome, is_some}
 use Rattle.std.specs.List.{AllByRecursion, filter, list_all, range_with_len}
-use Rattle.std.proofs.lemmas.Bool.{and_parts, and_from, both_ways, cases_lt, false_from_ne_true, not_from_false, or_cases, or_right}
+use Rattle.std.proofs.lemmas.Bool.{and_parts, and_from, both_ways, cases_lt, false_from_ne_true, not_from_false, or_cases, or_right, and_right}
 use Rattle.std.proofs.lemmas.List.{drop_all}
 use Rattle.std.proofs.lemmas.List.Elements.{All-filter}
 use Rattle.geometry.specs.Lists.{In, joined}
@@ -38,12 +38,7 @@ from is k h = rw (add-one, drop-cons is k 0) refl
 -- ---- the triangle
 
 not_both : (a b : Bool) → (a || b) ≡ not (not a && not b)
-not_both false b = sym (twice b)
-  where
-    twice : (b : Bool) → not (not b) ≡ b
-    twice false = refl
-    twice true = refl
-not_both true b = refl
+not_both a b = grind arith
 
 module _ (ps : List Point) (c : Candidate) where
   abbrev IsEmpty : List ℕ → Bool
@@ -77,16 +72,12 @@ module _ (ps : List Point) (c : Candidate) where
   abbrev rest_open : List ℕ → Bool
   rest_open is = list_all (λ n. is_pair_of (corner_of c) n || not (same_ends (segment (corner_of c).before (corner_of c).after) (segment_of n))) (all_neighbours 0 (only_arc ps is))
 
-  open_one : (a : Bool) → (a || true) ≡ true
-  open_one true = refl
-  open_one false = refl
-
   open_end : (is : List ℕ) (k : ℕ) → length is ≤ k + 1 → IsOpen (drop k is) ≡ true
   open_end is k h = short (drop k is) (let l = length-drop k is in omega (arith, l, h))
     where
       short : (xs : List ℕ) → length xs ≤ 1 → IsOpen xs ≡ true
-      short [] l = open_one (same c.corner.before c.corner.after)
-      short (x ∷ []) l = open_one (same c.corner.before c.corner.after)
+      short [] l = or_right (same c.corner.before c.corner.after) true refl
+      short (x ∷ []) l = or_right (same c.corner.before c.corner.after) true refl
       short (x ∷ (y ∷ xs)) l = absurd (omega (arith, l))
 
   pub last_open : (is : List ℕ) (k : ℕ) → length is ≤ k + 1 → IsOpen (drop k is) ≡ IsOpen (drop (k + 1) is)
@@ -159,11 +150,7 @@ not_before b c d h k = grind (arith, goes_order.chain, goes_order.one_way)
 
 -- a corner of a greater area doesn't go before another
 pub over_best : (t : ℕ) (b c : Candidate) → b.area < c.area → (nat_lt c.area t && goes_before (corner_of c) (corner_of b)) ≡ false
-over_best t b c h = ap (λ x. nat_lt c.area t && x) (not_before_less (corner_of c) (corner_of b) h) ∙ neither (nat_lt c.area t)
-  where
-    neither : (a : Bool) → (a && false) ≡ false
-    neither true = refl
-    neither false = refl
+over_best t b c h = ap (λ x. nat_lt c.area t && x) (not_before_less (corner_of c) (corner_of b) h) ∙ and_right (nat_lt c.area t) false refl
 
 pub over_sooner : (a b m : Bool) → (a && b) ≡ false → (a && (b && m)) ≡ false
 over_sooner false b m h = refl

@@ -1,7 +1,7 @@
 -- What lists that show arcs say of their corners.
 use Rattle.std.proofs.Common.{◌≡◌, ◌≢◌, ℕ, suc, ◌<◌, ◌==◌, Bool, true, false, ◌&&◌, ◌||◌, List, [], ◌∷◌, length, map, slice_index, refl, ap, sym, ◌∙◌, subst, ◌⊎◌, inl, inr, arith}
 use Rattle.std.specs.List.{AllByRecursion}
-use Rattle.std.proofs.lemmas.Bool.{and_parts, or_cases, false_from_ne_true, eqb-true, eq-eqb}
+use Rattle.std.proofs.lemmas.Bool.{and_parts, or_cases, or_right, false_from_ne_true, eqb-true, eq-eqb}
 use Rattle.owned_values.proofs.Elements.{each_of}
 use Rattle.owned_values.proofs.Members.{in_right}
 use Rattle.geometry.specs.Areas.{twice_area}
@@ -71,10 +71,7 @@ pair_from : (c : ArcCorner) (j : Neighbours) → j.arc ≡ c.arc → j.from.inde
 pair_from c j e f = ap (λ b. b && ((j.from.index == c.corner.index) || (j.to.index == c.corner.index))) (eq-eqb j.arc c.arc e) ∙ ap (λ b. b || (j.to.index == c.corner.index)) (eq-eqb j.from.index c.corner.index f)
 
 pair_to : (c : ArcCorner) (j : Neighbours) → j.arc ≡ c.arc → j.to.index ≡ c.corner.index → is_pair_of c j ≡ true
-pair_to c j e f = ap (λ b. b && ((j.from.index == c.corner.index) || (j.to.index == c.corner.index))) (eq-eqb j.arc c.arc e) ∙ right (j.from.index == c.corner.index) (j.to.index == c.corner.index) (eq-eqb j.to.index c.corner.index f)
-  where
-    right : (a b : Bool) → b ≡ true → (a || b) ≡ true
-    right a b h = grind arith
+pair_to c j e f = ap (λ b. b && ((j.from.index == c.corner.index) || (j.to.index == c.corner.index))) (eq-eqb j.arc c.arc e) ∙ or_right (j.from.index == c.corner.index) (j.to.index == c.corner.index) (eq-eqb j.to.index c.corner.index f)
 
 module _ (arcs : List (List Point)) (bs : List Bool) (c : ArcCorner) (there : HasPlace arcs c.arc c.corner.index) where
   abbrev own : ℕ

@@ -4,6 +4,7 @@ use Rattle.std.specs.List.{range_with_len}
 use Rattle.std.proofs.lemmas.Bool.{cases_eq}
 use Rattle.std.proofs.lemmas.List.{append-nil, drop_all, map-append}
 use Rattle.std.proofs.lemmas.List.FromFn.{map-range_with_len_more}
+use Rattle.std.proofs.lemmas.Simd.{map-map}
 use Rattle.owned_values.proofs.Lists.{drop_here}
 use Rattle.owned_values.proofs.Members.{in_left, in_right}
 use Rattle.geometry.specs.Lists.{In, all_but_last_of, interior, joined}
@@ -129,17 +130,13 @@ inner_in f g (p ∷ (q ∷ qs)) h =
     let n : suc (suc (length qs)) - 2 ≡ length qs = omega arith in
     inner_from f g (0 + 1) q qs (λ v m. h v (inr m)) ∙ ap (λ k. map g (range_with_len 1 k)) (sym n)
 
-map_map : {X Y Z : Type 0} (f : Y → Z) (g : X → Y) (xs : List X) → map f (map g xs) ≡ map (λ x. f (g x)) xs
-map_map f g [] = refl
-map_map f g (x ∷ xs) = ap (λ l. f (g x) ∷ l) (map_map f g xs)
-
 levels_of : (bs : List Bool) (ls : List ℕ) (f : Place → Option ℕ) (k o : ℕ) (arcs : List (List Point)) →
     ((m : ℕ) (x : Place) → In x (places k (map (numbered 0) arcs)) → x.arc ≡ k + m → f x ≡ level_at bs ls (o + number arcs m x.vertex.index)) →
     map f (interior_places k (map (numbered 0) arcs)) ≡ all_inner_levels bs ls o arcs
 levels_of bs ls f k o [] h = refl
 levels_of bs ls f k o (ps ∷ arcs) h =
     map-append f (map (place_at k) (interior (numbered 0 ps))) (interior_places (suc k) (map (numbered 0) arcs))
-    ∙ ap (λ l. l ++ map f (interior_places (suc k) (map (numbered 0) arcs))) (map_map f (place_at k) (interior (numbered 0 ps)) ∙ inner_in (λ v. f (place_at k v)) (λ i. level_at bs ls (o + i)) ps
+    ∙ ap (λ l. l ++ map f (interior_places (suc k) (map (numbered 0) arcs))) (map-map f (place_at k) (interior (numbered 0 ps)) ∙ inner_in (λ v. f (place_at k v)) (λ i. level_at bs ls (o + i)) ps
     (λ v m. h 0 (place_at k v) (in_left (place_at k v) (map (place_at k) (numbered 0 ps)) (places (suc k) (map (numbered 0) arcs)) (in_map (place_at k) v (numbered 0 ps) m)) (omega arith)))
     ∙ ap (λ l. inner_levels bs ls o (length ps) ++ l) (levels_of bs ls f (suc k) (o + length ps) arcs (λ m x n e.
     let z : o + (length ps + number arcs m x.vertex.index) ≡ (o + length ps) + number arcs m x.vertex.index = omega arith in

@@ -1,5 +1,5 @@
 -- What is counted in a topology is counted in what is kept of it.
-use Rattle.std.proofs.Common.{◌≡◌, ℕ, None, List, [], ◌∷◌, ◌++◌, drop, length, take, refl, sym, ap, ◌∙◌}
+use Rattle.std.proofs.Common.{◌≡◌, ℕ, None, List, [], ◌∷◌, ◌++◌, drop, length, suc, take, refl, sym, ap, ◌∙◌}
 use Rattle.std.specs.Prelude.{is_some, map}
 use Rattle.std.specs.Option.{unwrap_or}
 use Rattle.std.proofs.lemmas.List.{length-map}
@@ -66,7 +66,7 @@ all_put ns (o ∷ os) = ap (λ ps. put_one ns o ∷ ps) (all_put (tail ns) os)
 
 as_long : (ns : List ℕ) (os : List (List ℕ × ℕ)) → length (numbered ns os) ≡ length os
 as_long ns [] = refl
-as_long ns (o ∷ os) = ap (λ n. 1 + n) (as_long (tail ns) os)
+as_long ns (o ∷ os) = ap suc (as_long (tail ns) os)
 
 -- and that are written back whole
 pub written_back : (ns : List ℕ) (os ps : List (List ℕ × ℕ)) → ps ≡ numbered ns os → take (length os) (ps ++ drop (length ps) os) ≡ numbered ns os

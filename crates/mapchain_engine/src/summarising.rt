@@ -67,10 +67,13 @@ fn summary_of_kept(alloc: Global, parts: &Parts) -> Result<Summary, Memory>
         parts.transform.is_some(),
     )?;
     summary.positions = parts.positions.unwrap_or(summary.positions);
-    if let Some(features) = &parts.features {
-        put_features(summary.objects.as_mut_slice(), features.as_slice());
+    match &parts.features {
+        None => Ok(summary),
+        Some(features) => {
+            put_features(summary.objects.as_mut_slice(), features.as_slice());
+            Ok(summary)
+        }
     }
-    Ok(summary)
 }
 
 /// The summary of a topology.

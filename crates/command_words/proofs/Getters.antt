@@ -14,9 +14,10 @@ use Rattle.clap.specs.declared.error.kind.ErrorKind.{ErrorKind}
 use Rattle.clap.specs.declared.error.kind.ErrorKind.TheVariants.{OutOfMemory}
 use Rattle.std.specs.List.{list_all}
 use Rattle.std.specs.Prelude.{◌&&◌, codes, is_some}
+use Rattle.std.proofs.lemmas.Bool.{and_right}
 use Rattle.command_words.specs.Faults.{IsBuildFault, IsFaultBy, IsLayersFault, is_help, is_memory, is_refused}
 use Rattle.command_words.specs.declared.words_fault.WordsFault.{WordsFault}
-use Rattle.command_words.specs.declared.words_fault.WordsFault.TheVariants.{GridRange, Help, Memory, NoEquals, Refused}
+use Rattle.command_words.specs.declared.words_fault.WordsFault.TheVariants.{Help, Memory, NoEquals, Refused}
 use Rattle.clap.proofs.WalkLemmas.{first_value-rows, raw_values-rows}
 use Rattle.clap.proofs.ValueTestLemmas.{accepts-Accepts, Accepts-accepts}
 use Rattle.command_words.specs.Asked.{area_in, build, build_in, build_on, cells_of, exact_in, explains_in, grid_at, grid_in, has_both, keep_in, keep_shapes_in, layer_words, layers_in, no_crossings_in, ring_area_in, where_none}
@@ -145,10 +146,6 @@ pub refused_for : {X : Type 0} (kinds : Kinds) (o : Option X) (e : Error) (w : W
     → (w ≡ Memory) ⊎ (where_none kinds o ≡ None)
 refused_for kinds o e w h memory = elim h [ inl m ↦ inl (memory m) | inr k ↦ inr (among kinds o e k) ]
 
-and_false : (a b : Bool) → b ≡ false → (a && b) ≡ false
-and_false true b e = e
-and_false false b e = refl
-
 -- the fault of an error of these kinds
 pub help_for : (kinds : Kinds) (found : Option (Text × List Row)) (e : Error) → HasKind kinds e → (kind_of e ≡ OutOfMemory → ⊥) → is_help (kind_of e) ≡ true
     → IsFaultBy kinds found (Help e)
@@ -160,7 +157,7 @@ memory_or e other m = let bad : is_memory (kind_of e) ≡ true = ap is_memory m 
 not_all_help : (kinds : Kinds) (k : ErrorKind) → IsAmong k kinds → is_help k ≡ false → list_all is_help kinds ≡ false
 not_all_help [] k h other = absurd h
 not_all_help (x ∷ xs) k (inl h) other = ap (λ (b : Bool). b && list_all is_help xs) (ap is_help (sym h) ∙ other)
-not_all_help (x ∷ xs) k (inr h) other = and_false (is_help x) (list_all is_help xs) (not_all_help xs k h other)
+not_all_help (x ∷ xs) k (inr h) other = and_right (is_help x) (list_all is_help xs) (not_all_help xs k h other)
 
 pub refused_by : (kinds : Kinds) (e : Error) → HasKind kinds e → (kind_of e ≡ OutOfMemory → ⊥) → is_help (kind_of e) ≡ false → list_all is_help kinds ≡ false
 refused_by kinds e h memory other = elim h [ inl m ↦ absurd (memory m) | inr k ↦ not_all_help kinds (kind_of e) k other ]
@@ -174,9 +171,7 @@ refusal_for kinds found f (inr r) h = subst (IsFaultBy kinds found) (sym r.1) h
 -- the words for layers have this fault where nothing comes before it
 pub layers_fault : (rows : List Row) (grid : Option ℕ) (words : List Text) (f : WordsFault) → has_both rows ≡ false → grid_in rows ≡ Some grid → words ≡ layer_words rows
     → IsLayersFault (explains_in rows) words f → IsBuildFault rows f
-layers_fault rows grid words (Help e) one g same h = absurd h
-layers_fault rows grid words (Refused e) one g same h = absurd h
 layers_fault rows grid words (NoEquals layer advice) one g same h =
     (one, ap is_some g, subst (λ ws. IsLayersFault (explains_in rows) ws (NoEquals layer advice)) same h)
-layers_fault rows grid words GridRange one g same h = absurd h
 layers_fault rows grid words Memory one g same h = tt
+layers_fault rows grid words e one g same h = absurd h

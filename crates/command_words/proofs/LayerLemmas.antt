@@ -2,13 +2,12 @@
 use Rattle.std.proofs.Common.{◌≡◌, ◌∙◌, ◌<◌, ◌+◌, ◌==◌, ◌||◌, Bool, true, false, cond, inl, inr, le-ltb, lt-ltb, subst, ℕ, zero, suc, List, [], ◌∷◌, ◌++◌, length, map, drop, get_or, Option, Some, None, option_map, refl, sym, ap, arith, Bor, append_assoc}
 use Rattle.std.specs.List.{list_any, position, position_or_len}
 use Rattle.std.specs.Prelude.{is_some, nat_lt, not, take}
-use Rattle.std.proofs.lemmas.Bool.{cases_lt}
+use Rattle.std.proofs.lemmas.Bool.{cases_lt, or_parts}
 use Rattle.std.proofs.lemmas.List.{length-map, map_push}
 use Rattle.clap.specs.Lexer.{has_byte}
 use Rattle.clap.specs.Walk.{Text}
 use Rattle.command_words.specs.Asked.{and_layer, layer_of, layers_of}
 use Rattle.command_words.specs.LayerWords.{equals_sign}
-use Rattle.command_words.proofs.RowLemmas.{or_parts}
 
 abbrev pub Layer : Type 0
 Layer = Text × Text

@@ -14,7 +14,7 @@ use Rattle.command_words.specs.CommandLine.{program_app}
 use Rattle.command_words.specs.Requests.{IsCells, IsInRange}
 use Rattle.command_words.specs.declared.request.Order.{Order}
 use Rattle.command_words.specs.declared.request.Request.{Request}
-use Rattle.command_words.specs.declared.request.Request.TheVariants.{Build, Simplify, Geo, Stat}
+use Rattle.command_words.specs.declared.request.Request.TheVariants.{Build}
 
 -- its grid, if any, may have its number of cells
 abbrev Fits : Asked → Type 0
@@ -85,9 +85,7 @@ unless_refused (k ∷ ks) o h = tt
 
 of_request : (request : Request) → Fits (asked request) → IsInRange request
 of_request (Build layers exact grid area keep ring_area no_crossings keep_shapes) h = h
-of_request (Simplify area keep ring_area no_crossings keep_shapes path) h = tt
-of_request (Geo name path) h = tt
-of_request (Stat crossings path) h = tt
+of_request request h = tt
 
 -- the grid of a request that words ask for may have its number of cells
 pub asked_in_range : (words : List Text) (order : Order) → order_of words ≡ Some (ordered order) → IsInRange order.request

@@ -6,6 +6,7 @@ use Rattle.std.specs.Option.{option_map, option_or}
 use Rattle.std.specs.Str.{bytes_eq}
 use Rattle.std.proofs.lemmas.List.Folds.{find-append, list_any-append}
 use Rattle.std.proofs.lemmas.Slice.Eq.{bytes_eq-Decides}
+use Rattle.std.proofs.lemmas.Bool.{and_from, and_parts, not-true}
 use Rattle.clap.specs.Kinds.{or_else}
 use Rattle.clap.specs.Faults.{turn_fault, walk_fault}
 use Rattle.clap.specs.Simple.{Shape}
@@ -14,7 +15,7 @@ use Rattle.clap.specs.declared.builder.value_parser.Reading.{Reading}
 use Rattle.clap.specs.declared.builder.value_parser.Reading.TheVariants.{AsWritten}
 use Rattle.clap.specs.declared.parser.matches.ValueSource.TheVariants.{CommandLine}
 use Rattle.command_words.specs.Written.{and_flag, and_value, flag_word, value_word}
-use Rattle.command_words.proofs.RowLemmas.{and_parts, finds_defaults, found_row, has_id, new_row}
+use Rattle.command_words.proofs.RowLemmas.{finds_defaults, found_row, has_id, new_row}
 
 pub data Setting : Type 0 where
   -- an option of this name, with its text if it is given, which is read so
@@ -91,13 +92,6 @@ are_distinct (id ∷ ids) = list_all (λ other. not (bytes_eq id other)) ids && 
 abbrev pub are_new : List Text → List Row → Bool
 are_new ids rows = list_all (λ id. not (has_row id rows)) ids
 
-pub is_not : (b : Bool) → not b ≡ true → b ≡ false
-is_not true e = cc
-is_not false e = refl
-
-and_true : (a b : Bool) → a ≡ true → b ≡ true → (a && b) ≡ true
-and_true a b e f = rw (e, f) refl
-
 -- they are as new after a row of another name
 still_new : (ids : List Text) (rows : List Row) (row : Row) → are_new ids rows ≡ true → list_all (λ other. not (bytes_eq row.id other)) ids ≡ true
     → are_new ids (rows ++ row ∷ []) ≡ true
@@ -106,8 +100,8 @@ still_new (id ∷ ids) rows row new other =
     let n = and_parts (not (has_row id rows)) (are_new ids rows) new in
     let o = and_parts (not (bytes_eq row.id id)) (list_all (λ k. not (bytes_eq row.id k)) ids) other in
     let one : has_row id (rows ++ row ∷ []) ≡ false =
-    list_any-append (has_id id) rows (row ∷ []) ∙ (λ i. is_not (has_row id rows) n.0 i || (is_not (bytes_eq row.id id) o.0 i || false)) in
-    and_true (not (has_row id (rows ++ row ∷ []))) (are_new ids (rows ++ row ∷ [])) (ap not one) (still_new ids rows row n.1 o.1)
+    list_any-append (has_id id) rows (row ∷ []) ∙ (λ i. not-true (has_row id rows) n.0 i || (not-true (bytes_eq row.id id) o.0 i || false)) in
+    and_from (not (has_row id (rows ++ row ∷ []))) (are_new ids (rows ++ row ∷ [])) (ap not one) (still_new ids rows row n.1 o.1)
 
 -- ---- the walk
 
@@ -143,7 +137,7 @@ module _ (s : Shape) where
       let n = and_parts (not (has_row id rows)) (are_new (names settings) rows) new in
       let d = and_parts (list_all (λ other. not (bytes_eq id other)) (names settings)) (are_distinct (names settings)) distinct in
       let row = value_row id how text in
-      one_more (value_word id text) row rows (words_of settings rest) (rows_given settings) rest takes.0 (is_not (has_row id rows) n.0)
+      one_more (value_word id text) row rows (words_of settings rest) (rows_given settings) rest takes.0 (not-true (has_row id rows) n.0)
       (over_settings settings (rows ++ row ∷ []) rest (still_new (names settings) rows row n.1 d.0) d.1 takes.1)
   over_settings (flag id false ∷ settings) rows rest new distinct takes =
       let n = and_parts (not (has_row id rows)) (are_new (names settings) rows) new in
@@ -153,7 +147,7 @@ module _ (s : Shape) where
       let n = and_parts (not (has_row id rows)) (are_new (names settings) rows) new in
       let d = and_parts (list_all (λ other. not (bytes_eq id other)) (names settings)) (are_distinct (names settings)) distinct in
       let row = flag_row id in
-      one_more (flag_word id) row rows (words_of settings rest) (rows_given settings) rest takes.0 (is_not (has_row id rows) n.0)
+      one_more (flag_word id) row rows (words_of settings rest) (rows_given settings) rest takes.0 (not-true (has_row id rows) n.0)
       (over_settings settings (rows ++ row ∷ []) rest (still_new (names settings) rows row n.1 d.0) d.1 takes.1)
 
 -- ---- what is found of them
@@ -181,7 +175,7 @@ no_row : (id : Text) (settings : List Setting) → list_all (λ other. not (byte
 no_row id [] other = refl
 no_row id (setting ∷ settings) other =
     let parts = and_parts (not (bytes_eq id (name_of setting))) (list_all (λ k. not (bytes_eq id k)) (names settings)) other in
-    passed id setting (rows_given settings) (flip id (name_of setting) (is_not (bytes_eq id (name_of setting)) parts.0)) ∙ no_row id settings parts.1
+    passed id setting (rows_given settings) (flip id (name_of setting) (not-true (bytes_eq id (name_of setting)) parts.0)) ∙ no_row id settings parts.1
 
 -- a setting's own row is met first
 met : (id : Text) (setting : Setting) (rows : List Row) → bytes_eq (name_of setting) id ≡ true → find (has_id id) rows ≡ None

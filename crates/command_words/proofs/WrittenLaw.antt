@@ -1,10 +1,10 @@
 -- What is written is what is asked for.
-use Rattle.std.proofs.Common.{◌≡◌, ◌∙◌, ◌+◌, ◌<◌, ◌==◌, ◌||◌, ◌++◌, ℕ, suc, List, [], ◌∷◌, Bool, true, false, Option, Some, None, cond, length, map, take, drop, refl, sym, ap, ap₂, arith, subst, lt-ltb, length-append}
+use Rattle.std.proofs.Common.{◌≡◌, ◌∙◌, ◌+◌, ◌<◌, ◌==◌, ◌++◌, ℕ, suc, List, [], ◌∷◌, Bool, true, false, Option, Some, None, cond, length, map, take, drop, refl, sym, ap, ap₂, arith, subst, lt-ltb, length-append}
 use Rattle.std.proofs.Common.{ℤ, ◌≤◌, ◌^◌}
 use Rattle.std.specs.Prelude.{FitsSigned, IfSome, decimal, nat_lt, option_map, neg_ℤ, pos, unwrap_or, ◌≤ℤ◌}
 use Rattle.std.specs.Int.{w64}
 use Rattle.std.specs.Str.Parse.{IsNumeral, digits_value, signed_digits_value, starts_with_minus, without_leading_plus, without_leading_sign}
-use Rattle.std.proofs.lemmas.Bool.{ne_eqb}
+use Rattle.std.proofs.lemmas.Bool.{ne_eqb, or_parts}
 use Rattle.std.proofs.lemmas.Fmt.{decimal_is_IsNumeral}
 use Rattle.std.proofs.lemmas.Int.{ints}
 use Rattle.std.proofs.lemmas.Str.Parse.{digit_from_value}
@@ -24,15 +24,11 @@ use Rattle.command_words.specs.Requests.{IsCells}
 use Rattle.clap.specs.Lexer.{usize_max}
 use Rattle.command_words.proofs.Getters.{in_range}
 
-both_false : (a b : Bool) → (a || b) ≡ false → (a ≡ false) × (b ≡ false)
-both_false true b e = cc
-both_false false b e = (refl, e)
-
 -- the place of the first `=` is after the name
 place : (name path : Text) → has_byte equals_sign name ≡ false → position_or_len (λ c. c == equals_sign) (name ++ equals_sign ∷ path) ≡ length name
 place [] path none = refl
 place (x ∷ name) path none =
-    let parts = both_false (x == equals_sign) (has_byte equals_sign name) none in
+    let parts = or_parts (x == equals_sign) (has_byte equals_sign name) none in
     let rest : position_or_len (λ c. c == equals_sign) (name ++ equals_sign ∷ path) ≡ length name = place name path parts.1 in
     let more : 1 + position_or_len (λ c. c == equals_sign) (name ++ equals_sign ∷ path) ≡ suc (length name) = omega arith in
     rw parts.0 more

@@ -26,9 +26,8 @@ plain_layer (Err e) = Err (plain_fault e)
 
 plain-of_text : (n : ℕ) (exact : Bool) (t : Result Json JsonFault) → plain_layer (of_text n exact t) ≡ plain_layer (of_text n exact (plain_text t))
 plain-of_text n exact (Ok v) = refl
-plain-of_text n exact (Err (text.NotUtf8 at)) = refl
 plain-of_text n exact (Err (text.Malformed at why)) = refl
-plain-of_text n exact (Err text.Memory) = refl
+plain-of_text n exact (Err e) = refl
 
 one_layer : (n : ℕ) (exact : Bool) (b : List ℕ) (x y : LayerOutcome) → LayerHasOutcome n exact b x → LayerHasOutcome n exact b y → plain_layer x ≡ plain_layer y
 one_layer n exact b x y h k = one_outcome layer_depth (Read n read.TooLong) (of_text n exact) plain_layer (plain-of_text n exact) b x y h k

@@ -22,9 +22,6 @@ refused whole e h = subst (λ z. IsRefusedFor z (Err e)) (sym h) refl
 module _ {A : Type 0} (name_of : A → List ℕ) (xs : List A) (i : ℕ) (whole : Option BuildFault)
     (so_far : name_fault_after (map name_of (take i xs)) (map name_of (drop i xs)) ≡ whole) where
   module _ (x : A) (lt : i < length xs) (item : x ≡ get_or xs i x) where
-    prefix : List (List ℕ)
-    prefix = map name_of (take i xs)
-
     unfolded : or_else (fault_of_name (map name_of (take i xs)) (name_of x)) (name_fault_after (map name_of (take i xs) ++ name_of x ∷ []) (map name_of (drop (i + 1) xs))) ≡ whole
     unfolding name_fault_after
     unfolded = sym (ap (λ z. name_fault_after (map name_of (take i xs)) (map name_of z)) (drop_here xs i x lt item)) ∙ so_far

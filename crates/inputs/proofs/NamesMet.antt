@@ -1,5 +1,5 @@
 -- The names of layers in a set.
-use Rattle.std.proofs.Common.{◌≡◌, ℕ, Bool, true, false, ◌||◌, cond, List, [], ◌∷◌, ◌++◌, Some, refl, sym, ap, ◌∙◌, Bor}
+use Rattle.std.proofs.Common.{arith, ◌≡◌, ℕ, Bool, true, false, ◌||◌, cond, List, [], ◌∷◌, ◌++◌, Some, refl, sym, ap, ◌∙◌, Bor}
 use Rattle.std.specs.Prelude.{bytes_eq}
 use Rattle.std.specs.Ordering.{is_eq}
 use Rattle.std.specs.BTreeSet.{BTreeSet, Updates}
@@ -16,10 +16,7 @@ among_last q name [] = on (bytes_eq name q)
 among_last q name (other ∷ names) = rw (among_last q name names) (on (bytes_eq other q) (bytes_eq name q) (is_among q names))
   where
     on : (o n a : Bool) → (o || cond n true a) ≡ cond n true (o || a)
-    on true true a = refl
-    on true false a = refl
-    on false true a = refl
-    on false false a = refl
+    on o n a = grind arith
 
 pub knows_more : (set after : BTreeSet (Bor (List ℕ))) (key : Bor (List ℕ)) (names : List (List ℕ))
     → Knows (Some set) names → Updates order set after key true → Knows (Some after) (names ++ key.now ∷ [])

@@ -1,8 +1,5 @@
-use Rattle.std.proofs.Common.{◌≡◌, [], ◌∷◌, get_or, refl, sym, ap, ◌∙◌, rules}
-use Rattle.std.proofs.lemmas.List.{nil_from_length}
-use Rattle.geometry.specs.Lists.{tail}
+use Rattle.std.proofs.Common.{◌∙◌}
 use Rattle.topo_model.proofs.Stepped as stepped
-use Rattle.mapchain_engine.specs.Numbered.{first_or}
 use Rattle.mapchain_engine.proofs.Counted.{all_put, put_next, put_one}
 use Rattle.mapchain_engine.proofs.summarising.put_features.Goals as goal
 

@@ -1,5 +1,5 @@
 -- Links that are set, and entries.
-use Rattle.std.proofs.Common.{◌≡◌, ◌≢◌, ℕ, Bool, true, false, not, ◌+◌, ◌-◌, ◌<◌, ◌≤◌, List, [], ◌∷◌, ◌++◌, append_assoc, append-nil, pred, length, get_or, refl, ap, sym, ◌∙◌, subst, arith, ◌⊎◌, inl, inr, get_or-set_same, get_or-set_other}
+use Rattle.std.proofs.Common.{◌≡◌, ◌≢◌, ℕ, ◌+◌, ◌-◌, ◌<◌, ◌≤◌, List, [], ◌∷◌, ◌++◌, append_assoc, append-nil, pred, length, get_or, refl, ap, sym, ◌∙◌, subst, arith, ◌⊎◌, inl, inr, get_or-set_same, get_or-set_other}
 use Rattle.std.proofs.Math.ListN.{set, length-set}
 use Rattle.std.proofs.lemmas.List.{get_or_default, get_or_append_left, get_or_push, length-append}
 use Rattle.geometry.specs.Areas.{twice_area}
@@ -136,7 +136,3 @@ walk_more links i kept (x ∷ xs) vs w h = grind (arith, append_assoc)
 
 pub walk_start : (links : List Link) (kept vs : List ℕ) → IsLinked links vs → kept ≡ 0 ∷ [] → Walk links 0 kept vs vs
 walk_start links kept vs h e = record { linked = h; so_far = ap (λ l. l ++ vs) e; chain = h.chain; ends = h.last }
-
-pub not_true : (b : Bool) → not b ≡ true → b ≡ false
-not_true true h = cc
-not_true false h = refl

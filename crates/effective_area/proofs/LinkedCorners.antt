@@ -32,6 +32,11 @@ last_filter i u (v ∷ []) n = ap (last_of u) (keep_step i v [] n)
 last_filter i u (v ∷ (w ∷ ws)) n = grind (arith, same_or_not, drop_step, keep_step, last_filter i u (w ∷ ws) n, last_filter i v (w ∷ ws) n)
 
 module _ (after before : ℕ → ℕ) where
+  -- the one that a chain goes on from is none past its last
+  pub no_further : (u : ℕ) (vs : List ℕ) → Chain after before u vs → u ≤ last_of u vs
+  no_further u [] h = omega arith
+  no_further u (v ∷ vs) h = let k = no_further v vs h.3 in omega (arith, h.2, k)
+
   -- what follows one that isn't the last
   pub next_in : (u : ℕ) (vs : List ℕ) (i : ℕ) → Chain after before u vs → In i vs → i < last_of u vs → In (after i) vs × (i < after i) × (after i ≤ last_of u vs)
   next_in u [] i h k l = elim k [ ]
@@ -39,12 +44,8 @@ module _ (after before : ℕ → ℕ) where
   next_in u (v ∷ []) i h (inr k) l = elim k [ ]
   next_in u (v ∷ (w ∷ ws)) i h (inl e) l =
       let ea : after i ≡ w = ap after e ∙ h.3.0 in
-      let last_at = at_most w ws h.3.3 in
+      let last_at = no_further w ws h.3.3 in
       (inr (inl ea), omega (arith, e, ea, h.3.2), omega (arith, ea, last_at))
-    where
-      at_most : (w : ℕ) (ws : List ℕ) → Chain after before w ws → w ≤ last_of w ws
-      at_most w [] h = omega arith
-      at_most w (x ∷ xs) h = let k = at_most x xs h.3 in omega (arith, h.2, k)
   next_in u (v ∷ (w ∷ ws)) i h (inr k) l = let n = next_in v (w ∷ ws) i h.3 k l in (inr n.0, n.1, n.2)
 
   -- one that is linked is removed once
@@ -60,11 +61,7 @@ module _ (after before : ℕ → ℕ) where
 
   -- those that are linked are none past the last
   pub in_last : (u : ℕ) (vs : List ℕ) (i : ℕ) → Chain after before u vs → In i vs → i ≤ last_of u vs
-  in_last u (v ∷ vs) i h (inl e) = let m = last_most v vs h.3 in omega (arith, e, m)
-    where
-      last_most : (w : ℕ) (ws : List ℕ) → Chain after before w ws → w ≤ last_of w ws
-      last_most w [] k = omega arith
-      last_most w (x ∷ xs) k = let m = last_most x xs k.3 in omega (arith, k.2, m)
+  in_last u (v ∷ vs) i h (inl e) = let m = no_further v vs h.3 in omega (arith, e, m)
   in_last u (v ∷ vs) i h (inr k) = in_last v vs i h.3 k
   in_last u [] i h k = elim k [ ]
 

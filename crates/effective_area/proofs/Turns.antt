@@ -16,7 +16,7 @@ use Rattle.effective_area.specs.Chains.{Chain, last_of}
 use Rattle.effective_area.specs.Links.{after_in, before_in, area_in, entry_at, cached, AreCached, IsCurrent, IsReady, IsSound, IsLinked, Covers, CachesArea, Unlinks, LeavesCurrent, IsState, IsRemoved, RemovesFirst, IsFirst, IsUnder, Fits, Pushed, PushedFirst, IsDue, HasCorners, entry_corner, entry_in}
 use Rattle.effective_area.proofs.LinkLaws.{same_entry}
 use Rattle.effective_area.proofs.ChainLaws.{same_or_not, keep_step, named, cut_out, least_is}
-use Rattle.effective_area.proofs.LinkedCorners.{in_or_not, in_filter, last_filter, next_in, one_less, prev_in, in_last, prev_next, next_prev, in_present, all_present, in_length, over_later, under_first, earlier, NoneBefore, all_in, least_decides}
+use Rattle.effective_area.proofs.LinkedCorners.{in_or_not, in_filter, last_filter, next_in, one_less, prev_in, in_last, no_further, prev_next, next_prev, in_present, all_present, in_length, over_later, under_first, earlier, NoneBefore, all_in, least_decides}
 
 pub current_at : (ps : List Point) (links : List Link) (v : ℕ) → v < length links → IsCurrent links (entry_at ps (before_in links v) v (after_in links v))
 current_at ps links v h = unfold entry_at in record { within = h; before = refl; after = refl }
@@ -353,16 +353,8 @@ start_state t ps links items two f nt hc =
 -- ---- the ends
 chain_unique : (after before : ℕ → ℕ) (u : ℕ) (xs ys : List ℕ) → Chain after before u xs → Chain after before u ys → last_of u xs ≡ last_of u ys → xs ≡ ys
 chain_unique after before u [] [] h k e = refl
-chain_unique after before u [] (y ∷ ys) h k e = absurd (omega (arith, k.2, e, most y ys k.3))
-  where
-    most : (w : ℕ) (ws : List ℕ) → Chain after before w ws → w ≤ last_of w ws
-    most w [] h = omega arith
-    most w (x ∷ xs) h = let k = most x xs h.3 in omega (arith, h.2, k)
-chain_unique after before u (x ∷ xs) [] h k e = absurd (omega (arith, h.2, e, most x xs h.3))
-  where
-    most : (w : ℕ) (ws : List ℕ) → Chain after before w ws → w ≤ last_of w ws
-    most w [] h = omega arith
-    most w (x ∷ xs) h = let k = most x xs h.3 in omega (arith, h.2, k)
+chain_unique after before u [] (y ∷ ys) h k e = absurd (omega (arith, k.2, e, no_further after before y ys k.3))
+chain_unique after before u (x ∷ xs) [] h k e = absurd (omega (arith, h.2, e, no_further after before x xs h.3))
 chain_unique after before u (x ∷ xs) (y ∷ ys) h k e = grind (arith, chain_unique after before y xs ys)
 
 pub same_present : (links : List Link) (vs ws : List ℕ) → IsLinked links vs → IsLinked links ws → vs ≡ ws

@@ -158,6 +158,7 @@ pub fn put_corner(
 }
 
 /// Pushes the corner at an index on the heap, if it is due. That of a neighbour at `later` is known not to go before it.
+#[tactic(auto, using(crate::proofs::HeapLaws::pushed))]
 fn push_corner(
     heap: &mut Vec<Entry>,
     steps: &mut Steps,

@@ -1,15 +1,12 @@
-use Rattle.std.proofs.Common.{◌<◌, ◌-ℤ◌, ◌*ℤ◌, arith, FitsSigned, of_z, to_z, ap, sym, subst, ◌≡◌, ◌∙◌, ℤ, ℕ, rules}
+use Rattle.std.proofs.Common.{◌<◌, ◌-ℤ◌, ◌*ℤ◌, arith, FitsSigned, of_z, to_z, ap, sym, subst, ◌∙◌, ℕ, rules}
 use Rattle.std.proofs.lemmas.Int.{to_z-of_z, fits_signed_from_abs}
-use Rattle.effective_area.proofs.Products.{apart_fits, read_both, both}
+use Rattle.effective_area.proofs.Products.{apart_fits}
+use Rattle.geometry.proofs.RingAreas.{read_both, both, through}
 use Rattle.geometry.specs.Areas.{cross}
 use Rattle.geometry.specs.Units.{area_limit}
 use Rattle.std.specs.Int.RustNames.{unsigned_abs}
 use mir.Syntax.{w128, w64}
 use Rattle.effective_area.proofs.crossing.cross.Goals as goal
-
--- a difference that is taken by the bits of its parts is the difference
-through : (p q : ℤ) → FitsSigned w128 p → FitsSigned w128 q → to_z w128 (of_z w128 p) -ℤ to_z w128 (of_z w128 q) ≡ p -ℤ q
-through p q f g = ap (λ z. z -ℤ to_z w128 (of_z w128 q)) (to_z-of_z w128 p f) ∙ ap (λ z. p -ℤ z) (to_z-of_z w128 q g)
 
 pub overflow_sub-result : goal.overflow_sub-result
 overflow_sub-result c = grind (arith, apart_fits, fits_signed_from_abs, through)

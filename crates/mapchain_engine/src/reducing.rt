@@ -56,8 +56,8 @@ fn reduced_cells<Q: Reducer>(
     retained_arc(alloc, &kept, arc)
 }
 
-/// A longer arc without a transform is freed before it is reduced.
-const SHORT_ARC: usize = 1024;
+/// An arc of more cells without a transform is freed before it is reduced.
+const HELD_BESIDE: usize = 1024;
 
 /// The cells of an arc that stay where the positions that they stand for are reduced. A long arc without a transform is copied as positions and
 /// freed before it is reduced, so that it isn't held beside them meanwhile.
@@ -72,7 +72,7 @@ fn reduced_arc<Q: Reducer>(
     ensures retained { IfOk result (λ stay. stay ≡ retained (reduce t (placed_cells (option_copied transform.entry) arc)) arc) }
     ensures called { IfOk result (λ _. Q.calls reducer.new ≡ Q.calls reducer.old ++ call_at t (placed_cells (option_copied transform.entry) arc) ∷ []) }
 {
-    if transform.is_some() || arc.len() <= SHORT_ARC {
+    if transform.is_some() || arc.len() <= HELD_BESIDE {
         return reduced_cells(alloc, reducer, transform, arc, t);
     }
     let line = own_positions(alloc, arc)?;

@@ -1,8 +1,9 @@
 -- Names without a fault are distinct.
 use Rattle.std.proofs.Common.{◌≡◌, ◌≢◌, ℕ, Bool, true, false, ◌||◌, cond, List, [], ◌∷◌, ◌++◌, length, Option, Some, None, refl, ap, ◌∙◌}
 use Rattle.std.specs.Prelude.{bytes_eq}
-use Rattle.std.proofs.lemmas.Slice.Eq.{bytes_eq-Decides}
 use Rattle.std.specs.List.{AllByRecursion}
+use Rattle.std.proofs.lemmas.Bool.{or_parts}
+use Rattle.owned_values.proofs.Tests.{bytes_differ}
 use Rattle.topojson_types.specs.Validity.{AreDistinct}
 use Rattle.inputs.specs.declared.fault.BuildFault.TheVariants.{DuplicateName}
 use Rattle.inputs.specs.Names.{is_among, fault_of_name, or_else, name_fault, name_fault_after}
@@ -19,10 +20,6 @@ new_name before (c ∷ cs) h = on (is_among (c ∷ cs) before) h
     on true k = absurd cc
     on false k = refl
 
-or_parts : (a b : Bool) → (a || b) ≡ false → (a ≡ false) × (b ≡ false)
-or_parts true b h = absurd cc
-or_parts false b h = (refl, h)
-
 other_name : (name n : List ℕ) (before : List (List ℕ)) → is_among n (before ++ name ∷ []) ≡ false → (is_among n before ≡ false) × (bytes_eq name n ≡ false)
 other_name name n [] h = (refl, (or_parts (bytes_eq name n) false h).0)
 other_name name n (b ∷ bs) h =
@@ -30,16 +27,13 @@ other_name name n (b ∷ bs) h =
     let q = other_name name n bs p.1 in
     (ap (λ z. z || is_among n bs) p.0 ∙ q.0, q.1)
 
-differs : (name n : List ℕ) → bytes_eq name n ≡ false → name ≢ n
-differs name n h e = let k : bytes_eq name n ≡ true = (bytes_eq-Decides name n).1 e in absurd cc
-
 others : (name : List ℕ) (before names : List (List ℕ)) → AllByRecursion (λ n. is_among n (before ++ name ∷ []) ≡ false) names
     → AllByRecursion (λ n. is_among n before ≡ false) names × AllByRecursion (λ n. name ≢ n) names
 others name before [] h = (tt, tt)
 others name before (n ∷ names) h =
     let p = other_name name n before h.0 in
     let q = others name before names h.1 in
-    ((p.0, q.0), (differs name n p.1, q.1))
+    ((p.0, q.0), (bytes_differ name n p.1, q.1))
 
 new_names : (before names : List (List ℕ)) → name_fault_after before names ≡ None → AllByRecursion (λ n. is_among n before ≡ false) names × AreDistinct names
 unfolding name_fault_after

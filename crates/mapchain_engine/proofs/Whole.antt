@@ -1,17 +1,12 @@
 -- From what is read and what is sent to what is answered.
-use Rattle.std.proofs.Common.{◌≡◌, ℕ, true, List, subst, refl, map-id, Option, Some, None, Ok, Err}
-use Rattle.std.specs.Prelude.{map}
+use Rattle.std.proofs.Common.{◌≡◌, ℕ, true, subst, refl, Ok, Err}
 use Rattle.byte_ends.specs.Ends.{Fed, Drained}
 use Rattle.byte_ends.specs.Writes.{WritesAll}
-use Rattle.geometry.specs.Points.{Point}
 use Rattle.inputs.specs.declared.file_fault.FileFault.{FileFault}
-use Rattle.inputs.specs.declared.file_fault.FileFault.TheVariants.{Read, Json, Topo, NoObject, Write, Memory}
+use Rattle.inputs.specs.declared.file_fault.FileFault.TheVariants.{Write}
 use Rattle.json_value.specs.Text.{json_text}
-use Rattle.build_meaning.specs.Thresholds.{placed_cells}
 use Rattle.reports.specs.declared.report.Report.{Report}
-use Rattle.topojson_types.specs.declared.transform.Transform.{Transform}
 use Rattle.topojson_types.specs.Topologies.{Contents}
-use Rattle.topojson_types.specs.Transforms.{place}
 use Rattle.topojson_types.specs.Values.{topology_value}
 use Rattle.layer_topology.specs.Guarded.{is_simplifying_level}
 use Rattle.layer_topology.specs.GuardedLaws.{ShareStaysUnder, SimplifiedUnderLaw}
@@ -22,21 +17,11 @@ use Rattle.mapchain_engine.specs.Geo.{SendsText}
 use Rattle.mapchain_engine.specs.SimplifyLaws.{SimplifiedIsUtf8}
 use Rattle.mapchain_engine.specs.Simplified.{IsReadAndSimplified, IsSimplified, IsSimplifyFault, topology_threshold}
 
--- ---- positions of cells
-
-pub placed : (transform : Option Transform) (cells : List Point) → map (place transform) cells ≡ placed_cells transform cells
-placed None cells = map-id cells
-placed (Some t) cells = refl
-
 -- ---- nothing is written
 
 pub not_given : (guards : Guards) (level : Level) (limit : ℕ) (old new : Fed) (sink : Drained) (e : FileFault) → FailsToGive old new e → IsSimplifyFault guards level limit old new sink sink e
-not_given guards level limit old new sink (Read r) f = (refl, f)
-not_given guards level limit old new sink (Json r) f = (refl, f)
-not_given guards level limit old new sink (Topo r) f = (refl, f)
-not_given guards level limit old new sink NoObject f = (refl, f)
-not_given guards level limit old new sink Memory f = (refl, f)
 not_given guards level limit old new sink (Write sent) f = absurd f.2
+not_given guards level limit old new sink e f = (refl, f)
 
 -- ---- the text of what is left is sent
 
@@ -50,8 +35,4 @@ module _ (guards : Guards) (level : Level) (limit : ℕ) (old new : Fed) (sink_o
   pub cut_short : (e : FileFault) → SendsText sink_old sink_new (json_text (topology_value less)) (Err e) → IsSimplifyFault guards level limit old new sink_old sink_new e
   cut_short (Write sent) w =
       record { contents = is.contents; counts = is.counts; read = is.read; written = rw is.left at w }
-  cut_short (Read r) w = absurd w
-  cut_short (Json r) w = absurd w
-  cut_short (Topo r) w = absurd w
-  cut_short NoObject w = absurd w
-  cut_short Memory w = absurd w
+  cut_short e w = absurd w

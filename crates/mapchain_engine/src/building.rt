@@ -3,7 +3,6 @@ ghost use Rattle.std.specs.List.{AllByRecursion};
 ghost use Rattle.std.specs.Prelude.{◌≡◌, ◌⊎◌, None, Some, IfOk, IfErr, IsUtf8, map};
 ghost use Rattle.json_value.specs.Text.{json_text};
 ghost use Rattle.topojson_types.specs.Values.{topology_value};
-ghost use Rattle.mapchain_engine.specs.Building as spec;
 ghost use Rattle.mapchain_engine.specs.Building.{BuildingLaws, CallsForLayers, IsBuilt, IsLateFault, Sends};
 ghost use Rattle.inputs.specs.Names.{name_fault};
 ghost use Rattle.inputs.specs.Outcomes.{HasOutcome, HaveBytesFor, Outcome, Texts};

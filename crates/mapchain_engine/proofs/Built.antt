@@ -20,7 +20,7 @@ use Rattle.layer_topology.specs.Written.{AreTaken, written as written_on}
 use Rattle.layer_topology.proofs.Guarded.{layers_under}
 use Rattle.topojson_meaning.specs.Laws.{IsStored}
 use Rattle.inputs.specs.declared.fault.BuildFault.{BuildFault}
-use Rattle.inputs.specs.declared.fault.BuildFault.TheVariants.{EmptyName, DuplicateName, Read, Json, Geo, Write, Memory}
+use Rattle.inputs.specs.declared.fault.BuildFault.TheVariants.{Write, Memory}
 use Rattle.reports.specs.declared.report.Report.{Report}
 use Rattle.mapchain_engine.specs.Building.{expected_for, threshold_for, whole_for, written_for, BuildingLaws, IsGuarded, SaysTopology, Builds, IsBuilt, IsLateFault, Sends, report_of}
 use Rattle.mapchain_engine.specs.BuildLaws.{LayerLaws}
@@ -87,12 +87,7 @@ module _ (laws : BuildingLaws) (o : Options) where
     module _ (sink_old sink_new : Drained) where
       pub cut_short : (e : BuildFault) → Sends sink_old sink_new (text_for o ls) (Err e) → IsLateFault o olds news sink_old sink_new e
       cut_short (Write sent) s = record { layers = ls; counts = cs; text = text_for o ls; builds = builds; written = s }
-      cut_short (EmptyName i) s = absurd s
-      cut_short (DuplicateName i) s = absurd s
-      cut_short (Read i f) s = absurd s
-      cut_short (Json i f) s = absurd s
-      cut_short (Geo i f) s = absurd s
-      cut_short Memory s = absurd s
+      cut_short e s = absurd s
 
       pub is_built : (report : Report) → (sent : ℕ) × WritesAll sink_old sink_new 0 (text_for o ls) sent × (sink_new.flushed ≡ true) → report ≡ report_of o ls cs
           → IsBuilt o olds news sink_old sink_new report

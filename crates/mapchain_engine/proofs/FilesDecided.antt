@@ -24,9 +24,8 @@ use Rattle.inputs.proofs.BytesDecided.{plain_text, one_outcome, text_comes}
 
 plain-of_file : {A : Type 0} (asked : Contents → Counts → Result A FileFault) (t : Result Value JsonFault) → plain_file_outcome (of_file asked t) ≡ plain_file_outcome (of_file asked (plain_text t))
 plain-of_file asked (Ok v) = refl
-plain-of_file asked (Err (text.NotUtf8 at)) = refl
 plain-of_file asked (Err (text.Malformed at why)) = refl
-plain-of_file asked (Err text.Memory) = refl
+plain-of_file asked (Err e) = refl
 
 pub one_file : {A : Type 0} (asked : Contents → Counts → Result A FileFault) (b : List ℕ) (x y : Result A FileFault) → FileHasOutcome asked b x → FileHasOutcome asked b y → plain_file_outcome x ≡ plain_file_outcome y
 one_file asked b x y h k = one_outcome topology_depth (Read read.TooLong) (of_file asked) plain_file_outcome (plain-of_file asked) b x y h k
@@ -86,10 +85,8 @@ module _ (of : Contents → Summary) (old new : Fed) (b : List ℕ) (left : old.
 pub is_outside : (e : FileFault) → IsOutsideGiven e → IsOutsideFile e
 is_outside (Read r) h = h
 is_outside Memory h = h
-is_outside (Json r) h = absurd h
-is_outside (Topo r) h = absurd h
-is_outside NoObject h = absurd h
 is_outside (Write sent) h = tt
+is_outside e h = absurd h
 
 module _ (sink_old sink_new : Drained) where
   text_fault : (outcome : Result (List ℕ) FileFault) (e : FileFault) → plain_file_outcome (Err e) ≡ plain_file_outcome outcome → FollowsText sink_old sink_new outcome (Err e)
@@ -135,8 +132,4 @@ module _ (sink_old sink_new : Drained) where
         → FollowsText sink_old sink_new outcome r
     sent_decides features is (Ok sent) w = text_written outcome (features_text features) sent (read_decides is.contents is.counts (Ok (features_text features)) is.read (ap text_if_any is.found)) w.0
     sent_decides features is (Err (Write sent)) w = text_cut outcome (features_text features) sent (read_decides is.contents is.counts (Ok (features_text features)) is.read (ap text_if_any is.found))
-    sent_decides features is (Err NoObject) w = absurd w
-    sent_decides features is (Err Memory) w = absurd w
-    sent_decides features is (Err (Read r)) w = absurd w
-    sent_decides features is (Err (Json r)) w = absurd w
-    sent_decides features is (Err (Topo r)) w = absurd w
+    sent_decides features is (Err e) w = absurd w

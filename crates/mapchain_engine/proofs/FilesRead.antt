@@ -6,7 +6,7 @@ use Rattle.json_reading.specs.declared.fault.JsonFault.{JsonFault}
 use Rattle.json_reading.specs.declared.fault.JsonFault.TheVariants as text
 use Rattle.geojson_types.specs.declared.counts.Counts.{Counts}
 use Rattle.inputs.specs.declared.file_fault.FileFault.{FileFault}
-use Rattle.inputs.specs.declared.file_fault.FileFault.TheVariants.{Read, Json, Topo, NoObject, Write, Memory}
+use Rattle.inputs.specs.declared.file_fault.FileFault.TheVariants.{Json, Topo, Memory}
 use Rattle.inputs.specs.Texts.{IsNoText, IsRead}
 use Rattle.topojson_decoder.specs.declared.keeping.Keeping.{Keeping}
 use Rattle.topojson_decoder.specs.declared.topologies.Parts.{Parts}
@@ -22,12 +22,10 @@ no_text bytes text.Memory other utf8 none = absurd (other refl)
 
 module _ (old new : Fed) (bytes : List ℕ) (is : IsRead old new bytes) where
   fails : (e : FileFault) → IsNoTopology bytes e → FailsToGive old new e
-  fails (Read fault) h = absurd h
   fails (Json fault) h = (bytes, is, h)
   fails (Topo fault) h = (bytes, is, h)
-  fails NoObject h = absurd h
-  fails (Write sent) h = absurd h
   fails Memory h = is.untroubled
+  fails e h = absurd h
 
   pub topology_read : (r : Result (Contents × Counts) FileFault) → IsTopologyOf bytes r → ReadsTopology old new r
   topology_read (Ok r) h = record { bytes = bytes; read = is; spells = h }

@@ -6,7 +6,7 @@ use Rattle.byte_ends.specs.declared.source.ReadFault.TheVariants as read
 use Rattle.geojson_types.specs.declared.layer.FeatureSet.TheVariants.{Many}
 use Rattle.geojson_types.specs.Counting.{no_counts}
 use Rattle.inputs.specs.declared.file_fault.FileFault.{FileFault}
-use Rattle.inputs.specs.declared.file_fault.FileFault.TheVariants.{Read, Json, Topo, NoObject, Write, Memory}
+use Rattle.inputs.specs.declared.file_fault.FileFault.TheVariants.{Read, Write, Memory}
 use Rattle.owned_values.proofs.Elements.{all_weaker}
 use Rattle.layer_topology.specs.declared.guards.Guards.{Guards}
 use Rattle.layer_topology.specs.declared.level.Level.{Level}
@@ -29,34 +29,21 @@ counted old new e h = omega arith
 -- no device failed, so it is memory
 given_memory : (old new : Fed) (e : FileFault) → new.failures ≡ 0 → FailsToGive old new e → IsOutsideGiven e → e ≡ Memory
 given_memory old new (Read read.Read) none f out = absurd (counted old.failures new.failures f.0 none)
-given_memory old new (Read read.TooLong) none f out = absurd out
-given_memory old new (Read read.Memory) none f out = absurd out
-given_memory old new (Json fault) none f out = absurd out
-given_memory old new (Topo fault) none f out = absurd out
-given_memory old new NoObject none f out = absurd out
-given_memory old new (Write sent) none f out = absurd out
 given_memory old new Memory none f out = refl
+given_memory old new e none f out = absurd out
 
 module _ (old new : Fed) (out_old out_new : Drained) (none : new.failures ≡ 0) (sound : out_new.failures ≡ 0) where
   geo_memory : (name : List ℕ) (e : FileFault) → IsGeoFault name old new out_old out_new e → IsOutsideFile e → e ≡ Memory
   geo_memory name (Write sent) f out = let failed = f.written.failed in absurd (omega arith)
   geo_memory name (Read read.Read) f out = given_memory old new (Read read.Read) none f.1 out
-  geo_memory name (Read read.TooLong) f out = absurd out
-  geo_memory name (Read read.Memory) f out = absurd out
-  geo_memory name (Json fault) f out = absurd out
-  geo_memory name (Topo fault) f out = absurd out
-  geo_memory name NoObject f out = absurd out
   geo_memory name Memory f out = refl
+  geo_memory name e f out = absurd out
 
   simplify_memory : (guards : Guards) (level : Level) (limit : ℕ) (e : FileFault) → IsSimplifyFault guards level limit old new out_old out_new e → IsOutsideFile e → e ≡ Memory
   simplify_memory guards level limit (Write sent) f out = let failed = f.written.failed in absurd (omega arith)
   simplify_memory guards level limit (Read read.Read) f out = given_memory old new (Read read.Read) none f.1 out
-  simplify_memory guards level limit (Read read.TooLong) f out = absurd out
-  simplify_memory guards level limit (Read read.Memory) f out = absurd out
-  simplify_memory guards level limit (Json fault) f out = absurd out
-  simplify_memory guards level limit (Topo fault) f out = absurd out
-  simplify_memory guards level limit NoObject f out = absurd out
   simplify_memory guards level limit Memory f out = refl
+  simplify_memory guards level limit e f out = absurd out
 
   geo_answers : (name text : List ℕ) (result : Result ℕ FileFault) → IfErr result (λ e. IsGeoFault name old new out_old out_new e) → FollowsText out_old out_new (Ok text) result
       → OrMemory (λ sent. WritesAll out_old out_new 0 text sent) result

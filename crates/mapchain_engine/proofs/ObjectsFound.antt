@@ -8,7 +8,7 @@ use Rattle.topojson_types.specs.Decoding.{decoded, of_name}
 use Rattle.topojson_types.specs.Topologies.{Contents}
 use Rattle.topojson_writer.specs.Decoded.{object_in}
 use Rattle.inputs.specs.declared.file_fault.FileFault.{FileFault}
-use Rattle.inputs.specs.declared.file_fault.FileFault.TheVariants.{Read, Json, Topo, NoObject, Write, Memory}
+use Rattle.inputs.specs.declared.file_fault.FileFault.TheVariants.{NoObject, Write}
 use Rattle.mapchain_engine.specs.Files.{IsTopologyRead, FailsToGive}
 use Rattle.mapchain_engine.specs.Geo.{FailsToDecode, GivesFeatures, IsGeoFault, LacksObject}
 
@@ -28,16 +28,9 @@ module _ (name : List ℕ) (old new : Fed) where
 
   pub fails_decoding : (e : FileFault) → FailsToGive old new e → FailsToDecode name old new e
   fails_decoding NoObject f = absurd f.2
-  fails_decoding Memory f = f
-  fails_decoding (Read r) f = f
-  fails_decoding (Json r) f = f
-  fails_decoding (Topo r) f = f
-  fails_decoding (Write sent) f = f
+  fails_decoding e f = f
 
   pub fails : (sink : Drained) (e : FileFault) → FailsToGive old new e → IsGeoFault name old new sink sink e
   fails sink NoObject f = absurd f.2
-  fails sink Memory f = (refl, f)
-  fails sink (Read r) f = (refl, f)
-  fails sink (Json r) f = (refl, f)
-  fails sink (Topo r) f = (refl, f)
   fails sink (Write sent) f = absurd f.2
+  fails sink e f = (refl, f)

@@ -25,8 +25,4 @@ pub prefix : (name : List ℕ) (old new : Fed) (sink_old sink_new : Drained) (fe
     → (r : Result ℕ FileFault) → SendsText sink_old sink_new (features_text features) r → IfErr r (λ e. IsGeoFault name old new sink_old sink_new e)
 prefix name old new sink_old sink_new features is (Ok sent) w = tt
 prefix name old new sink_old sink_new features is (Err (fault.Write sent)) w = record { features = features; given = is; written = w }
-prefix name old new sink_old sink_new features is (Err fault.NoObject) w = absurd w
-prefix name old new sink_old sink_new features is (Err fault.Memory) w = absurd w
-prefix name old new sink_old sink_new features is (Err (fault.Read r)) w = absurd w
-prefix name old new sink_old sink_new features is (Err (fault.Json r)) w = absurd w
-prefix name old new sink_old sink_new features is (Err (fault.Topo r)) w = absurd w
+prefix name old new sink_old sink_new features is (Err e) w = absurd w

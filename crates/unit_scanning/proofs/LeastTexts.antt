@@ -1,12 +1,13 @@
 -- A number that is written in the shortest way is the text of its units.
 use Rattle.std.proofs.Common.{◌≡◌, ◌≢◌, ℕ, zero, suc, ◌+◌, ◌-◌, ◌*◌, ◌/◌, ◌%◌, ◌^◌, ◌<◌, ◌≤◌, Bool, true, false, not, List, [], ◌∷◌, ◌++◌, length, get_or, replicate, All, le-ltb, decimal, refl, sym, ap, ◌∙◌, append_assoc, length-append, arith, rules, pos}
-use Rattle.std.specs.Prelude.{int_lt, unsigned_abs}
+use Rattle.std.specs.Prelude.{int_lt}
 use Rattle.std.proofs.lemmas.Bool.{ne_eqb, eq-eqb}
 use Rattle.std.proofs.lemmas.Fmt.{decimal-digits_value}
 use Rattle.std.proofs.lemmas.List.{append-nil}
 use Rattle.std.proofs.lemmas.List.Elements.{All-cons}
 use Rattle.std.proofs.lemmas.Str.Parse.{IsNumeralModel, numerals_by_fold}
 use Rattle.std.proofs.Math.Nat.{pow-suc}
+use Rattle.decimal_text.proofs.ScaledNumber.{unsigned_abs-signed}
 use Rattle.decimal_text.specs.Digits.{IsDigit, digits_value_after, digits_value}
 use Rattle.decimal_text.specs.Grammar.{AllDigits}
 use Rattle.decimal_text.specs.Parts.{fraction_text, sign_text}
@@ -103,14 +104,9 @@ sign_is false size some = le-ltb size 0 (omega arith)
 sign_is true zero some = let no = some refl in absurd (omega arith)
 sign_is true (suc n) some = refl
 
-size_is : (negative : Bool) (size : ℕ) → unsigned_abs (signed negative size) ≡ size
-size_is false size = refl
-size_is true zero = refl
-size_is true (suc n) = refl
-
 text_is : (negative : Bool) (w ds : List ℕ) (size : ℕ) → (negative ≡ true → 0 < size) → decimal (size / 10 ^ 9) ≡ w → trimmed (fixed 9 (size % 10 ^ 9)) ≡ ds
     → units_text (signed negative size) unit_places ≡ (sign_text negative ++ w) ++ fraction_text ds
-text_is negative w ds size some whole decimals = unfold units_text in rw (sign_is negative size some, size_is negative size, whole, decimals) refl
+text_is negative w ds size some whole decimals = unfold units_text in rw (sign_is negative size some, unsigned_abs-signed negative size, whole, decimals) refl
 
 joined : (s w f rest : List ℕ) → s ++ (w ++ (f ++ rest)) ≡ ((s ++ w) ++ f) ++ rest
 joined s w f rest = simp append_assoc

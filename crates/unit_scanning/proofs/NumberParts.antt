@@ -1,11 +1,12 @@
 -- A number that is read in parts is one, and scales to the units.
-use Rattle.std.proofs.Common.{◌≡◌, ℕ, ◌+◌, ◌-◌, ◌*◌, ◌^◌, ◌<◌, ◌≤◌, Bool, true, false, not, cond, eqb, List, [], ◌∷◌, ◌++◌, length, Some, Ok, refl, sym, ap, ◌∙◌, subst, append_assoc, length-append, ◌≢◌, arith}
-use Rattle.std.proofs.lemmas.Bool.{eqb-true}
+use Rattle.std.proofs.Common.{◌≡◌, ℕ, ◌+◌, ◌-◌, ◌*◌, ◌^◌, ◌≤◌, Bool, true, false, not, cond, eqb, List, [], ◌∷◌, ◌++◌, length, Some, Ok, refl, sym, ap, ◌∙◌, subst, append_assoc, length-append, ◌≢◌, arith}
+use Rattle.std.proofs.lemmas.Bool.{eqb-true, not-true}
 use Rattle.std.proofs.lemmas.List.{append-nil}
+use Rattle.decimal_text.proofs.SpellsParts.{fraction_text-some, fraction-grammar}
 use Rattle.json_value.specs.declared.json.Json.{Json}
 use Rattle.json_value.specs.declared.json.Json.TheVariants as j
 use Rattle.decimal_text.specs.Digits.{digits_value_after, digits_value}
-use Rattle.decimal_text.specs.Grammar.{is_digit, AllDigits, IsMinus, no_minus, one_minus, IsWhole, whole_zero, whole_digits, IsFraction, no_fraction, fraction, no_exponent, IsNumber, number_of}
+use Rattle.decimal_text.specs.Grammar.{is_digit, AllDigits, IsMinus, no_minus, one_minus, IsWhole, whole_zero, whole_digits, fraction, no_exponent, IsNumber, number_of}
 use Rattle.decimal_text.specs.Parts.{Parts, sign_text, fraction_text, SpellsNumber, spells_no_exponent}
 use Rattle.decimal_text.specs.Rounding.{signed, rounded_of}
 use Rattle.decimal_text.specs.Scaling.{scaled_of, numerator, denominator}
@@ -18,10 +19,6 @@ use Rattle.json_reading.proofs.Ending.{Ends}
 use Rattle.json_reading.proofs.NumbersFound.{with_number}
 use Rattle.json_reading.proofs.Opened.{value_at_is}
 use Rattle.unit_scanning.specs.Numbers.{digits_prefix, IsFractionOf, IsNumberAt, ends, starts_digit, whole_prefix}
-
-not_true : (b : Bool) → not b ≡ true → b ≡ false
-not_true true h = cc
-not_true false h = refl
 
 all_by : (b : ℕ) (bs : List ℕ) (t : Bool) → is_digit b ≡ t → AllDigits bs → AllDigits (cond t (b ∷ bs) [])
 all_by b bs true e h = (e, h)
@@ -50,7 +47,7 @@ prefix_none (b ∷ bs) h = rw h refl
 whole_by : (b : ℕ) (bs : List ℕ) (t : Bool) → eqb b 48 ≡ t → cond t (not (starts_digit bs)) (is_digit b) ≡ true → IsWhole (digits_prefix (b ∷ bs))
 unfolding digits_prefix
 whole_by b bs true e h =
-    let none : starts_digit bs ≡ false = not_true (starts_digit bs) h in
+    let none : starts_digit bs ≡ false = not-true (starts_digit bs) h in
     let is : b ≡ 48 = eqb-true b 48 e in
     rw (is, prefix_none bs none) whole_zero
 whole_by b bs false e h = rw h (whole_digits b (digits_prefix bs) h e (prefix_all bs))
@@ -62,14 +59,6 @@ whole_is (b ∷ bs) h = whole_by b bs (eqb b 48) refl h
 minus_is : (negative : Bool) → IsMinus (sign_text negative)
 minus_is true = one_minus
 minus_is false = no_minus
-
-pub some_text : (f : List ℕ) → 0 < length f → fraction_text f ≡ 46 ∷ f
-some_text [] h = absurd (omega arith)
-some_text (d ∷ ds) h = refl
-
-fraction_is : (f : List ℕ) → AllDigits f → IsFraction (fraction_text f)
-fraction_is [] h = no_fraction
-fraction_is (b ∷ bs) h = fraction b bs h.0 h.1
 
 -- the parts of a number with no exponent
 abbrev plain : Bool → List ℕ → List ℕ → Parts
@@ -92,7 +81,7 @@ scales places limit negative w f v u exact hv hr hw hf =
     ∙ rw (num, den) hr
 
 number_is : (negative : Bool) (w f : List ℕ) → IsWhole w → AllDigits f → IsNumber (text_of negative w f)
-number_is negative w f hw hf = number_of (sign_text negative) w (fraction_text f) [] (minus_is negative) hw (fraction_is f hf) no_exponent
+number_is negative w f hw hf = number_of (sign_text negative) w (fraction_text f) [] (minus_is negative) hw (fraction-grammar f hf) no_exponent
 
 pub ends_are : (rest : List ℕ) → ends rest ≡ true → Ends rest
 ends_are [] h = tt
@@ -117,7 +106,7 @@ fraction_found start value bytes digits rest hb hv hr some =
     record {
       digits = f;
       all = prefix_all digits;
-      text = hb ∙ ap (λ x. 46 ∷ x) split ∙ ap (λ x. x ++ rest) (sym (some_text f (omega arith)));
+      text = hb ∙ ap (λ x. 46 ∷ x) split ∙ ap (λ x. x ++ rest) (sym (fraction_text-some f (omega arith)));
       value_is = hv;
       places_are = places;
     }

@@ -1,6 +1,5 @@
 // Numbers in whole units of coordinates, and whole numbers.
 ghost use Rattle.std.specs.Prelude.{◌≡◌, ◌++◌, ◌*◌, ◌^◌, ◌<◌, ◌≤◌, Bool, Ok, IfSome, unsigned_abs};
-ghost use Rattle.decimal_text.specs.Parts.{sign_text};
 ghost use Rattle.decimal_text.specs.Rounding.{signed, rounded_of};
 ghost use Rattle.geometry.specs.Units.{units_in_one, input_limit};
 ghost use Rattle.unit_scanning.specs.Numbers.{IsUnits, IsWholeNumber, ends};

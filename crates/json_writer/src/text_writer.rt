@@ -1,8 +1,6 @@
 // The strings of RFC 8259, section 7, as they are written.
 ghost use Rattle.std.specs.Prelude.{◌≡◌, ◌<◌, ◌++◌};
-ghost use Rattle.std.specs.List.{prefix_len};
 ghost use Rattle.json_writer.specs.Standing.{Start};
-ghost use Rattle.json_value.specs.Grammar as grammar;
 ghost use Rattle.json_value.specs.Text.{escaped_byte, quoted};
 ghost use Rattle.json_value.specs.Text as spec;
 

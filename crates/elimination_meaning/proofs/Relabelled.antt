@@ -1,10 +1,9 @@
 -- Where the positions between the ends are distinct, elimination doesn't depend on the indexes.
 use Rattle.std.proofs.Common.{◌≡◌, ◌≢◌, ℕ, zero, suc, List, [], ◌∷◌, Option, Some, None, map, refl, ap, sym, ◌∙◌, subst, ◌==◌, arith}
-use Rattle.std.specs.Ordering.{is_lt, nat_cmp}
+use Rattle.std.specs.Ordering.{is_lt}
 use Rattle.owned_values.proofs.Elements.{all_of_map}
 use Rattle.owned_values.proofs.Tests.{chosen_of}
 use Rattle.geometry.specs.Lists.{map_some, interior, AreDistinct}
-use Rattle.geometry.specs.Order.{point_cmp}
 use Rattle.geometry.specs.Points.{Point}
 use Rattle.elimination_meaning.specs.Elimination.{Vertex, Corner, corner_at, corners_from, corners, is_before, lesser, least, without, without_under, next, eliminate}
 use Rattle.geometry.proofs.Points.{point_exact}

@@ -10,7 +10,7 @@ use Rattle.reports.specs.Printing.{Prints}
 use Rattle.inputs.specs.Sent.{build_fault_of}
 use Rattle.inputs.specs.declared.fault.BuildFault.{BuildFault}
 use Rattle.inputs.specs.declared.file_fault.FileFault.{FileFault}
-use Rattle.inputs.specs.declared.file_fault.FileFault.TheVariants.{Read, Json, Topo, NoObject, Write, Memory}
+use Rattle.inputs.specs.declared.file_fault.FileFault.TheVariants.{Write}
 use Rattle.reports.specs.Summaries.{summary_text}
 use Rattle.reports.specs.declared.summary.Summary.{Summary}
 use Rattle.mapchain_engine.specs.Files.{FailsToGive, IsReported}
@@ -28,18 +28,10 @@ help_cut old new err_old err_new text (write.Write sent) reported_as status is c
 -- no summary can be had of the source
 pub summary_fault : (crossings : Bool) (sink : Drained) (s u : Fed) (e : FileFault) → FailsToGive s u e → IsSummaryFault crossings sink sink s u e
 summary_fault crossings sink s u (Write sent) h = absurd h.2
-summary_fault crossings sink s u (Read fault) h = (refl, h)
-summary_fault crossings sink s u (Json fault) h = (refl, h)
-summary_fault crossings sink s u (Topo fault) h = (refl, h)
-summary_fault crossings sink s u NoObject h = (refl, h)
-summary_fault crossings sink s u Memory h = (refl, h)
+summary_fault crossings sink s u e h = (refl, h)
 
 -- a summary that was cut short
 pub summary_cut : (crossings : Bool) (old new : Drained) (s u : Fed) (summary : Summary) (e : FileFault) → IsReported crossings s u summary
     → SendsText old new (summary_text summary) (Err e) → IsSummaryFault crossings old new s u e
 summary_cut crossings old new s u summary (Write sent) is w = (summary, is, w)
-summary_cut crossings old new s u summary (Read fault) is w = absurd w
-summary_cut crossings old new s u summary (Json fault) is w = absurd w
-summary_cut crossings old new s u summary (Topo fault) is w = absurd w
-summary_cut crossings old new s u summary NoObject is w = absurd w
-summary_cut crossings old new s u summary Memory is w = absurd w
+summary_cut crossings old new s u summary e is w = absurd w

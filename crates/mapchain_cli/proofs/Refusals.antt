@@ -12,7 +12,7 @@ use Rattle.mapchain_cli.specs.Asking.{HasBadArea, IsRefused, OpensSome, RefusesB
 use Rattle.mapchain_cli.specs.Endings.{IsUnopened, RefusesLayers}
 use Rattle.mapchain_cli.specs.Files.{AreOpened, FileState, FileUse, Layers, OpensPrefix, ReadsAll, used}
 use Rattle.mapchain_cli.specs.declared.ending.Ending.{Ending}
-use Rattle.mapchain_cli.specs.declared.ending.Ending.TheVariants.{BadArea, BadRingArea, BadShare, FileRefused, Refused, Memory}
+use Rattle.mapchain_cli.specs.declared.ending.Ending.TheVariants.{FileRefused, Refused, Memory}
 use Rattle.mapchain_cli.proofs.Opened.{names_of_opened}
 
 -- the engine refuses to build
@@ -53,9 +53,7 @@ layers_refuse files request options layers old new e asked prefix (inr h) = subs
 -- what is asked for is refused by its words, before a file is opened, or memory is wanting
 pub words_refuse : (s : FileState) (request : Request) (out : Drained) (e : Ending) → ((f : BuildFault) → HasBadArea request (Refused f) → ⊥) → ((f : FileFault) → HasBadArea request (FileRefused f) → ⊥)
     → OpensSome (used s s) request → HasBadArea request e → IsRefused (used s s) request out out e
-words_refuse s request out BadArea build file opens h = (refl, refl, h)
-words_refuse s request out BadRingArea build file opens h = (refl, refl, h)
-words_refuse s request out BadShare build file opens h = (refl, refl, h)
 words_refuse s request out (Refused f) build file opens h = absurd (build f h)
 words_refuse s request out (FileRefused f) build file opens h = absurd (file f h)
 words_refuse s request out Memory build file opens h = (refl, opens)
+words_refuse s request out e build file opens h = (refl, refl, h)

@@ -2,15 +2,16 @@
 use Rattle.std.proofs.Common.{◌≡◌, ◌⊎◌, ◌<◌, ◌≤◌, inl, inr, ℕ, zero, suc, List, Bool, true, false, Option, None, Some, IfSome, Ok, Err, ap, arith, refl, subst, sym}
 use Rattle.std.specs.Option.{option_and_then}
 use Rattle.byte_ends.specs.Ends.{Drained}
+use Rattle.byte_ends.specs.declared.source.ReadFault.{ReadFault}
 use Rattle.byte_ends.specs.declared.source.ReadFault.TheVariants as read
 use Rattle.command_words.specs.Asked.{Detail, Ordered, detail, output_of}
 use Rattle.command_words.specs.declared.request.Request.{Request}
 use Rattle.command_words.specs.declared.request.Request.TheVariants.{Build, Simplify, Geo, Stat}
 use Rattle.command_words.specs.declared.words_fault.WordsFault.{WordsFault}
 use Rattle.command_words.specs.declared.words_fault.WordsFault.TheVariants as words
-use Rattle.reports.specs.Statuses.{file_status_of, status_of}
+use Rattle.reports.specs.Statuses.{file_status_of, read_status_of, status_of}
 use Rattle.inputs.specs.declared.fault.BuildFault.{BuildFault}
-use Rattle.inputs.specs.declared.fault.BuildFault.TheVariants.{EmptyName, DuplicateName, Read, Json, Geo as Layer, Write, Memory as NoRoom}
+use Rattle.inputs.specs.declared.fault.BuildFault.TheVariants.{Read, Json, Write}
 use Rattle.inputs.specs.declared.file_fault.FileFault.{FileFault}
 use Rattle.inputs.specs.declared.file_fault.FileFault.TheVariants as file
 use Rattle.inputs.specs.Sources.{Sources}
@@ -27,18 +28,13 @@ use Rattle.mapchain_cli.specs.Outputs.{IsPerformed, asked_output}
 use Rattle.mapchain_cli.specs.Performing.{ComesOut, Outcome, Streams, ending_status, status_after}
 use Rattle.mapchain_cli.specs.Runs.{EndsAtWords, IsHelped, IsRefusedFor, LacksMemory, RunsOn}
 use Rattle.mapchain_cli.specs.declared.ending.Ending.{Ending}
-use Rattle.mapchain_cli.specs.declared.ending.Ending.TheVariants.{BadArea, BadRingArea, BadShare, Refused, FileRefused, Memory}
+use Rattle.mapchain_cli.specs.declared.ending.Ending.TheVariants.{Refused, FileRefused, Memory}
 
 -- ---- standard output of a request that isn't done
 
 late_keeps : (o : Options) (olds news : Sources) (old new : Drained) (e : BuildFault) → IsLateFault o olds news old new e → status_of e < 3 → new ≡ old
 late_keeps o olds news old new (Write sent) h lt = absurd (omega arith)
-late_keeps o olds news old new (EmptyName n) h lt = h.0
-late_keeps o olds news old new (DuplicateName n) h lt = h.0
-late_keeps o olds news old new (Read n fault) h lt = h.0
-late_keeps o olds news old new (Json n fault) h lt = h.0
-late_keeps o olds news old new (Layer n fault) h lt = h.0
-late_keeps o olds news old new NoRoom h lt = h.0
+late_keeps o olds news old new e h lt = h.0
 
 layers_keep : (c : FileUse) (o : Options) (layers : Layers) (old new : Drained) (e : BuildFault) → RefusesLayers c o layers old new e → status_of e < 3 → new ≡ old
 layers_keep c o layers old new e (inl h) lt = h.0
@@ -47,9 +43,7 @@ layers_keep c o layers old new e (inr (inr h)) lt = late_keeps o h.sources_old h
 
 build_keeps : (c : FileUse) (request : Request) (old new : Drained) (e : BuildFault) → RefusesBuild c request old new e → status_of e < 3 → new ≡ old
 build_keeps c (Build layers exact grid area keep ring_area no_crossings keep_shapes) old new e h lt = layers_keep c h.0 _ old new e h.2 lt
-build_keeps c (Simplify area keep ring_area no_crossings keep_shapes path) old new e h lt = absurd h
-build_keeps c (Geo name path) old new e h lt = absurd h
-build_keeps c (Stat crossings path) old new e h lt = absurd h
+build_keeps c request old new e h lt = absurd h
 
 -- where each fault but that of writing leaves standard output as it was, one with a status under 3 does
 file_keeps : (IsFault : FileFault → Type 0) (old new : Drained) → ((f : _) → IsFault (file.Read f) → new ≡ old) → ((f : _) → IsFault (file.Json f) → new ≡ old)
@@ -77,12 +71,9 @@ topology_keeps c (Stat crossings path) old new e (inr h) lt =
     file_keeps (λ f. IsSummaryFault crossings old new h.source_old h.source_new f) old new (λ f x. x.0) (λ f x. x.0) (λ f x. x.0) (λ x. x.0) (λ x. x.0) e h.fault lt
 
 keeps : (c : FileUse) (request : Request) (old new : Drained) (ending : Ending) → IsRefused c request old new ending → ending_status ending < 3 → new ≡ old
-keeps c request old new BadArea h lt = h.0
-keeps c request old new BadRingArea h lt = h.0
-keeps c request old new BadShare h lt = h.0
 keeps c request old new (Refused e) h lt = build_keeps c request old new e h lt
 keeps c request old new (FileRefused e) h lt = topology_keeps c request old new e h lt
-keeps c request old new Memory h lt = h.0
+keeps c request old new ending h lt = h.0
 
 -- ---- standard output of one that is
 
@@ -98,34 +89,22 @@ sound c (Stat crossings path) old new None h = (h.sent.1, h.sent.2)
 
 -- ---- statuses
 
+read_is : (fault : ReadFault) → (0 < read_status_of fault) × (read_status_of fault ≤ 3)
+read_is read.TooLong = (omega arith, omega arith)
+read_is fault = (omega arith, omega arith)
+
 status_is : (e : BuildFault) → (0 < status_of e) × (status_of e ≤ 3)
-status_is (EmptyName n) = (omega arith, omega arith)
-status_is (DuplicateName n) = (omega arith, omega arith)
-status_is (Read n read.Read) = (omega arith, omega arith)
-status_is (Read n read.TooLong) = (omega arith, omega arith)
-status_is (Read n read.Memory) = (omega arith, omega arith)
-status_is (Json n fault) = (omega arith, omega arith)
-status_is (Layer n fault) = (omega arith, omega arith)
-status_is (Write sent) = (omega arith, omega arith)
-status_is NoRoom = (omega arith, omega arith)
+status_is (Read n fault) = read_is fault
+status_is e = (omega arith, omega arith)
 
 file_status_is : (e : FileFault) → (0 < file_status_of e) × (file_status_of e ≤ 3)
-file_status_is (file.Read read.Read) = (omega arith, omega arith)
-file_status_is (file.Read read.TooLong) = (omega arith, omega arith)
-file_status_is (file.Read read.Memory) = (omega arith, omega arith)
-file_status_is (file.Json fault) = (omega arith, omega arith)
-file_status_is (file.Topo fault) = (omega arith, omega arith)
-file_status_is file.NoObject = (omega arith, omega arith)
-file_status_is (file.Write sent) = (omega arith, omega arith)
-file_status_is file.Memory = (omega arith, omega arith)
+file_status_is (file.Read fault) = read_is fault
+file_status_is e = (omega arith, omega arith)
 
 pub ending_is : (ending : Ending) → (0 < ending_status ending) × (ending_status ending ≤ 3)
-ending_is BadArea = (omega arith, omega arith)
-ending_is BadRingArea = (omega arith, omega arith)
-ending_is BadShare = (omega arith, omega arith)
 ending_is (Refused e) = status_is e
 ending_is (FileRefused e) = file_status_is e
-ending_is Memory = (omega arith, omega arith)
+ending_is ending = (omega arith, omega arith)
 
 -- ---- all of it
 
@@ -190,9 +169,7 @@ at_words words.Memory old new file status why h = lacks old new file status h
 at_words fault old new file status (inl m) h = lacks old new file status (subst (λ f. EndsAtWords f old new status) m h)
 at_words (words.Help error) old new file status (inr none) (inl h) = rw none (helped old new status h)
 at_words (words.Help error) old new file status (inr none) (inr h) = lacks old new file status h
-at_words (words.Refused error) old new file status (inr none) h = refused_or (words.Refused error) old new file status none h
-at_words (words.NoEquals layer advice) old new file status (inr none) h = refused_or (words.NoEquals layer advice) old new file status none h
-at_words words.GridRange old new file status (inr none) h = refused_or words.GridRange old new file status none h
+at_words fault old new file status (inr none) h = refused_or fault old new file status none h
 
 -- ---- the status of a run is that of its request, but where the report of one that is done can't be written
 

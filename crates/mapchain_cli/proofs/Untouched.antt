@@ -12,7 +12,7 @@ use Rattle.mapchain_cli.specs.Asking.{IsAnswered, IsRefused, RefusesBuild, Refus
 use Rattle.mapchain_cli.specs.Endings.{RefusesFile, RefusesLayers}
 use Rattle.mapchain_cli.specs.Files.{FileState, FileUse, Layers, Opened, ReadsAll, ReadsOne, RefusedAfter, opened_times}
 use Rattle.mapchain_cli.specs.declared.ending.Ending.{Ending}
-use Rattle.mapchain_cli.specs.declared.ending.Ending.TheVariants.{BadArea, BadRingArea, BadShare, Refused, FileRefused, Memory}
+use Rattle.mapchain_cli.specs.declared.ending.Ending.TheVariants.{Refused, FileRefused, Memory}
 use Rattle.mapchain_cli.proofs.Opened.{times_contents}
 
 -- what the files hold, what became of outputs, and the path of the one that was begun last: all but what is counted and noted of sources
@@ -79,9 +79,7 @@ layers_refused files o layers old new e (inr (inr h)) = read_all files (length l
 
 build_refused : (files : FileUse) (request : Request) (old new : Drained) (e : BuildFault) → RefusesBuild files request old new e → Stays files
 build_refused files (Build layers exact grid area keep ring_area no_crossings keep_shapes) old new e h = layers_refused files h.0 _ old new e h.2
-build_refused files (Simplify area keep ring_area no_crossings keep_shapes path) old new e h = absurd h
-build_refused files (Geo name path) old new e h = absurd h
-build_refused files (Stat crossings path) old new e h = absurd h
+build_refused files request old new e h = absurd h
 
 file_refused : (files : FileUse) (path : _) (old new : Drained) (Fails : Fed → Fed → FileFault → Type 0) (e : FileFault) → RefusesFile files path old new Fails e
     → Stays files
@@ -96,14 +94,10 @@ topology_refused files (Stat crossings path) old new e h = file_refused files pa
 
 memory_refused : (files : FileUse) (request : Request) (old new : Drained) → IsRefused files request old new Memory → Stays files
 memory_refused files (Build layers exact grid area keep ring_area no_crossings keep_shapes) old new h = opened files h.1.0 h.1.2
-memory_refused files (Simplify area keep ring_area no_crossings keep_shapes path) old new h = opened files 0 h.1
-memory_refused files (Geo name path) old new h = opened files 0 h.1
-memory_refused files (Stat crossings path) old new h = opened files 0 h.1
+memory_refused files request old new h = opened files 0 h.1
 
 pub refused : (files : FileUse) (request : Request) (old new : Drained) (ending : Ending) → IsRefused files request old new ending → Stays files
-refused files request old new BadArea h = opened files 0 h.1
-refused files request old new BadRingArea h = opened files 0 h.1
-refused files request old new BadShare h = opened files 0 h.1
 refused files request old new (Refused e) h = build_refused files request old new e h
 refused files request old new (FileRefused e) h = topology_refused files request old new e h
 refused files request old new Memory h = memory_refused files request old new h
+refused files request old new ending h = opened files 0 h.1

@@ -2,7 +2,6 @@
 ghost use Rattle.std.specs.Prelude.{◌≡◌, false, true};
 ghost use Rattle.command_words.specs.Asked.{detail};
 ghost use Rattle.mapchain_cli.specs.Files.{used};
-ghost use Rattle.reports.specs.Printing.{Prints};
 ghost use Rattle.mapchain_cli.specs.Following.{Follows, IsFaultOf, IsReportOf, IsReported, IsUnwritten, PutsReport, PrintsIf, TellsUnwritten, no_report};
 ghost use Rattle.mapchain_cli.specs.Following as spec;
 ghost use Rattle.mapchain_cli.specs.Performing as performing;

@@ -1,10 +1,9 @@
 -- The lines and rings of named layers, in reading order.
 use Rattle.std.specs.Prelude.{ℕ, Bool, List, map}
 use Rattle.geojson_types.specs.declared.layer.Layer.{Layer}
-use Rattle.geojson_types.specs.Features.{Featured}
 use Rattle.geometry.specs.Lists.{joined}
 use Rattle.geometry.specs.Points.{Point}
-use Rattle.geometry.specs.Pruning.{option_lines_and_rings}
+pub use Rattle.linework.specs.Outlines.{features_lines_and_rings}
 
 -- layers with their names
 abbrev pub Named : Type 0
@@ -15,10 +14,6 @@ names_of ls = map (λ l. l.0) ls
 
 abbrev pub layers_of : Named → List Layer
 layers_of ls = map (λ l. l.1) ls
-
--- the open lines (false) and rings (true) of features
-abbrev pub features_lines_and_rings : List Featured → List (Bool × List Point)
-features_lines_and_rings fs = joined (map (λ f. option_lines_and_rings f.shape) fs)
 
 -- the open lines (false) and rings (true) of all layers
 abbrev pub named_lines_and_rings : Named → List (Bool × List Point)

@@ -1,8 +1,8 @@
 // What is said of an input that was taken: members that aren't read, and coordinates that seem to be something else.
-use crate::bounds::corners_of;
+use crate::bounds::seem_swapped;
 use crate::brief::{SWAPPED_ENDING, SYSTEM_ENDING, UNREAD_ENDING};
 use crate::unread::Unread;
-use geojson_meaning::Layer;
+use extraction::ExtractedLayer;
 use json_reading::{Fault, LAYER_DEPTH, value_at};
 use json_value::{Json, OwnText, find, need_text};
 use std::alloc::{AllocError, Global};
@@ -22,9 +22,9 @@ fn unread_line(alloc: Global, place: &str, unread: &Unread<'_>) -> Result<String
 }
 
 /// The line for a layer whose positions seem to have their latitude first, if they do. `place` is what stands before it.
-fn swapped_line(alloc: Global, place: &str, layer: &Layer) -> Result<String, AllocError> {
-    match corners_of(layer) {
-        Some(corners) if corners.seem_swapped() => format!(in alloc;
+fn swapped_line(alloc: Global, place: &str, layer: &ExtractedLayer) -> Result<String, AllocError> {
+    match layer.bounds() {
+        Some(bounds) if seem_swapped(bounds) => format!(in alloc;
             "  {place}every x is from -90 to 90 and some y isn't: if these are degrees, latitude and longitude are swapped{SWAPPED_ENDING}\n"
         ),
         _ => Ok(String::new(alloc)),
@@ -91,7 +91,7 @@ impl InputLines {
         alloc: Global,
         number: usize,
         bytes: &[u8],
-        layer: &Layer,
+        layer: &ExtractedLayer,
     ) -> Result<(), AllocError> {
         let place = format!(in alloc; "layer {number}: ")?;
         let place = place.as_str();

@@ -4,7 +4,8 @@ use crate::crossed::{MOST_ASKED, crossing_lines};
 use crate::inputs_read::InputLines;
 use crate::losses::{DropsLeft, add_losses};
 use crate::samples::samples_in;
-use geojson_meaning::{Dropped, Layer, Position};
+use extraction::ExtractedLayer;
+use geojson_meaning::{Dropped, Position};
 use inputs::Watch;
 use json_value::Items;
 use segment_crossings::Crossing;
@@ -38,7 +39,12 @@ impl Seen {
         }
     }
 
-    fn add_layer(&mut self, alloc: Global, bytes: &[u8], layer: &Layer) -> Result<(), AllocError> {
+    fn add_layer(
+        &mut self,
+        alloc: Global,
+        bytes: &[u8],
+        layer: &ExtractedLayer,
+    ) -> Result<(), AllocError> {
         self.inputs.add_layer(alloc, self.layers, bytes, layer)?;
         self.layers = self.layers.saturating_add(1);
         Ok(())
@@ -153,7 +159,7 @@ impl Observed {
 }
 
 impl Watch for Observed {
-    fn layer_read(&mut self, alloc: Global, bytes: &[u8], layer: &Layer) {
+    fn layer_read(&mut self, alloc: Global, bytes: &[u8], layer: &ExtractedLayer) {
         if let Some(seen) = &mut self.seen {
             let added = seen.add_layer(alloc, bytes, layer);
             seen.note(added);

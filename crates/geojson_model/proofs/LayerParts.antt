@@ -216,7 +216,7 @@ bare_passes start d ms name v parts no_type no_coordinates no_geometries h = rec
   geometries = passes (IsGroup start) (codes "geometries") ms name v parts.geometries h.geometries no_geometries;
 }
 
-module _ (start : Start) (d : ℕ) (name value : List ℕ) (occurrence : Occurrence Collected) where
+module _ {D : Type 0} (start : Start) (d : ℕ) (name value : List ℕ) (occurrence : Occurrence (Collected D)) where
   pub with_fields : (parts : Parts) (before after : Fields) → is_field name ≡ true → (result : Result (Bor (List ℕ)) Fault) → Sees (IsFields start) d name value before after result
       → Sees (IsLayerParts start d) d name value (record { bare = parts; fields = before; features = occurrence }) (record { bare = parts; fields = after; features = occurrence }) result
   with_fields parts before after field (Ok rest) h = (

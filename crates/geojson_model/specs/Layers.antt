@@ -49,11 +49,11 @@ abbrev pub Collects : Start → Json → Result (List Featured) GeoFault → Cou
 Collects start v (Ok fs) counts = array_features start.exact v start.counts ≡ Ok (fs, counts)
 Collects start v (Err e) counts = array_features start.exact v start.counts ≡ Err e
 
-abbrev pub IsCollected : Start → Json → Collected → Type 0
+abbrev pub IsCollected : {D : Type 0} → Start → Json → Collected D → Type 0
 IsCollected start v x = Collects start v x.features x.counts
 
 -- what was seen of these members
-pub record IsLayerParts (start : Start) (d : ℕ) (ms : Members) (parts : LayerParts) : Type 0 where
+pub record IsLayerParts {D : Type 0} (start : Start) (d : ℕ) (ms : Members) (parts : LayerParts D) : Type 0 where
   pub bare : IsParts start d ms parts.bare
   pub fields : IsFields start ms parts.fields
   pub features : IsOccurrence (IsCollected start) (named (codes "features") ms) parts.features

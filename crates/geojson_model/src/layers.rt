@@ -13,14 +13,14 @@ ghost use Rattle.geojson_model.specs.Layers as spec;
 ghost use Rattle.geojson_model.specs.Members.{IsParts, IsOccurrence, Judges};
 ghost use Rattle.geojson_model.specs.declared.geometries.Start.{Start as Begun};
 
+use crate::collecting::CollectsFeatures;
 use crate::features::{Fields, feature_at, feature_of, is_field};
 use crate::geometries::{Parts, Start, member_value, shape_of};
 use geojson_meaning::{GeoFault, GeoFaultKind, GeoJsonType};
 use geojson_types::{Counts, Feature};
 use json_cursor::{Elements, Members, Occurrence, Stop, held_array_at, name_at, object_into};
 use json_reading::{Fault, Why, after_value};
-use json_value::Items;
-use std::alloc::{AllocFailed, Global};
+use std::alloc::{AllocError, Global};
 use std::marker::Model;
 
 /// The fault of this kind in the feature of this number, or in none.
@@ -41,13 +41,13 @@ fn within(feature: Option<usize>, stop: Stop<GeoFaultKind>) -> Stop<GeoFault>
     }
 }
 
-/// The features that were read so far.
+/// The features that were read so far, by what they were put into.
 #[derive(Drop)]
-struct FeatureList {
-    list: Vec<Feature>,
+pub struct FeatureList<D: CollectsFeatures> {
+    made: D,
 }
 
-impl Model for FeatureList {
+impl<D: CollectsFeatures> Model for FeatureList<D> {
     ghost use Rattle.std.specs.Prelude.{List};
     ghost use Rattle.geojson_types.specs.Features.{Featured};
     ghost use Rattle.std.specs.Coded.{coded_list};
@@ -57,23 +57,53 @@ impl Model for FeatureList {
 
     ghost coded = { coded_list feature_code };
 
-    ghost view = { λ s. s.list.items };
+    ghost view = { λ s. D.features s.made };
 }
 
-/// How many they are.
-fn count_of(list: &Vec<Feature>) -> usize
-    ensures { result ≡ length list.now.items }
-{
-    list.len()
+impl<D: CollectsFeatures> FeatureList<D> {
+    /// Of no features.
+    fn none(alloc: Global) -> FeatureList<D>
+        ensures { result ≡ [] }
+    {
+        FeatureList {
+            made: D::none(alloc),
+        }
+    }
+
+    /// Of one feature.
+    fn one(alloc: Global, feature: Feature) -> Result<FeatureList<D>, AllocError>
+        ensures { IfOk result (λ fs. fs ≡ feature ∷ []) }
+    {
+        let mut made = D::none(alloc);
+        made.put(alloc, feature)?;
+        Ok(FeatureList { made })
+    }
+
+    /// The same, to which no more come.
+    fn ended(self) -> FeatureList<D>
+        ensures { result ≡ self }
+    {
+        let mut made = self.made;
+        made.end();
+        FeatureList { made }
+    }
+
+    /// What they were put into.
+    pub fn into_made(self) -> D
+        ensures { D.features result ≡ self }
+    {
+        self.made
+    }
 }
 
-impl<'a> Elements<'a> for FeatureList {
+impl<'a, D: CollectsFeatures> Elements<'a> for FeatureList<D> {
     type Fault = GeoFault;
 
     type With = bool;
 
     ghost takes = { numbered };
 
+    #[inline(always)]
     fn element(
         &mut self,
         alloc: Global,
@@ -82,59 +112,47 @@ impl<'a> Elements<'a> for FeatureList {
         with: bool,
         counts: &mut Counts,
     ) -> Result<&'a [u8], Stop<GeoFault>> {
-        let number = count_of(&self.list);
+        let number = self.made.count();
         match feature_at(alloc, depth_left, bytes, with, counts) {
             Err(stop) => Err(within(Some(number), stop)),
             Ok((feature, rest)) => {
-                self.list.push(feature)?;
+                self.made.put(alloc, feature)?;
                 Ok(rest)
             }
         }
     }
 }
 
-/// The features alone, without room for more.
-fn items_of(features: FeatureList) -> Items<Feature>
-    ensures { result ≡ features }
-{
-    let mut list = features.list;
-    list.shrink_to_fit();
-    Items::of(list)
-}
-
 /// What the value of `features` is read as, or its fault, and what was counted then.
 #[derive(Drop)]
-pub struct Collected {
-    features: Result<Items<Feature>, GeoFault>,
+pub struct Collected<D: CollectsFeatures> {
+    features: Result<FeatureList<D>, GeoFault>,
     counts: Counts,
 }
 
 /// What was seen of the members of a layer's object.
 #[derive(Drop)]
-pub struct LayerParts<'a> {
+pub struct LayerParts<'a, D: CollectsFeatures> {
     bare: Parts<'a>,
     fields: Fields,
-    features: Occurrence<Collected>,
+    features: Occurrence<Collected<D>>,
 }
 
 /// The features of the array at the front, or their first fault, and what follows it.
-fn features_at<'a>(
+fn features_at<'a, D: CollectsFeatures>(
     alloc: Global,
     depth_left: u32,
     bytes: &'a [u8],
     start: Start,
-) -> Result<(Collected, &'a [u8]), Fault>
+) -> Result<(Collected<D>, &'a [u8]), Fault>
     ensures { FindsValue (IsCollected start) depth_left bytes.now result }
 {
     let mut counts = start.counts;
-    let none = FeatureList {
-        list: Vec::new(alloc),
-    };
     let wrong = fault_within(None, GeoFaultKind::WrongKind);
-    let (held, rest) = held_array_at::<FeatureList>(
+    let (held, rest) = held_array_at::<FeatureList<D>>(
         alloc,
         depth_left,
-        none,
+        FeatureList::none(alloc),
         bytes,
         wrong,
         start.exact,
@@ -146,15 +164,15 @@ fn features_at<'a>(
             Ok((Collected { features, counts }, rest))
         }
         Ok(read) => {
-            let features = Ok(items_of(read));
+            let features = Ok(read.ended());
             Ok((Collected { features, counts }, rest))
         }
     }
 }
 
-impl<'a> LayerParts<'a> {
+impl<'a, D: CollectsFeatures> LayerParts<'a, D> {
     /// Of no members.
-    fn none() -> LayerParts<'a>
+    fn none() -> LayerParts<'a, D>
         ensures { (start : Begun) (depth_left : ℕ) → IsLayerParts start depth_left [] result }
     {
         LayerParts {
@@ -165,7 +183,7 @@ impl<'a> LayerParts<'a> {
     }
 }
 
-impl<'a> Members<'a> for LayerParts<'a> {
+impl<'a, D: CollectsFeatures> Members<'a> for LayerParts<'a, D> {
     type With = Start;
 
     ghost holds = { IsLayerParts };
@@ -205,10 +223,10 @@ fn type_of(
 }
 
 /// The features of a FeatureCollection, whose member `features` was seen so.
-fn collection_of(
-    occurrence: Occurrence<Collected>,
+fn collection_of<D: CollectsFeatures>(
+    occurrence: Occurrence<Collected<D>>,
     counts: &mut Counts,
-) -> Result<Items<Feature>, Stop<GeoFault>>
+) -> Result<FeatureList<D>, Stop<GeoFault>>
     ensures { (start : Begun) (ms : Listed) → IsOccurrence (IsCollected start) (named (codes "features") ms) occurrence → Judges (collection_features start.exact ms) start.counts counts.new result }
 {
     match occurrence {
@@ -228,56 +246,47 @@ fn collection_of(
     }
 }
 
-/// A list of one feature.
-fn one(alloc: Global, feature: Feature) -> Result<Items<Feature>, AllocFailed<Feature>>
-    ensures { IfOk result (λ fs. fs ≡ feature ∷ []) }
-{
-    let mut list = Vec::new(alloc);
-    list.push(feature)?;
-    Ok(Items::of(list))
-}
-
 /// The one feature of a Feature with these members.
-fn single_of(
+fn single_of<D: CollectsFeatures>(
     alloc: Global,
     fields: Fields,
     start: Start,
     counts: &mut Counts,
-) -> Result<Items<Feature>, Stop<GeoFault>>
+) -> Result<FeatureList<D>, Stop<GeoFault>>
     requires { (ms : Listed) × IsFields start ms fields }
     ensures { (ms : Listed) → IsFields start ms fields → Judges (single_feature start.exact ms) start.counts counts.new result }
 {
     match feature_of(fields, start, counts) {
         Err(fault) => Err(Stop::Fault(fault_within(Some(0), fault))),
-        Ok(feature) => Ok(one(alloc, feature)?),
+        Ok(feature) => Ok(FeatureList::one(alloc, feature)?),
     }
 }
 
 /// The one feature of a bare geometry with these members.
-fn bare_of(
+fn bare_of<D: CollectsFeatures>(
     alloc: Global,
     depth_left: u32,
     bare: Parts<'_>,
     start: Start,
     counts: &mut Counts,
-) -> Result<Items<Feature>, Stop<GeoFault>>
+) -> Result<FeatureList<D>, Stop<GeoFault>>
     requires { (ms : Listed) × IsParts start depth_left ms bare }
     ensures { (kind : Geometries) (ms : Listed) → IsParts start depth_left ms bare.entry → Types kind ms → Judges (bare_feature start.exact kind ms) start.counts counts.new result }
 {
     match shape_of(alloc, depth_left, bare, start, counts) {
         Err(stop) => Err(within(Some(0), stop)),
-        Ok(shape) => Ok(one(alloc, Feature::of(None, None, shape))?),
+        Ok(shape) => Ok(FeatureList::one(alloc, Feature::of(None, None, shape))?),
     }
 }
 
 /// The features of an object with these members.
-fn features_of(
+fn features_of<D: CollectsFeatures>(
     alloc: Global,
     depth_left: u32,
-    parts: LayerParts<'_>,
+    parts: LayerParts<'_, D>,
     start: Start,
     counts: &mut Counts,
-) -> Result<Items<Feature>, Stop<GeoFault>>
+) -> Result<FeatureList<D>, Stop<GeoFault>>
     requires { (ms : Listed) × IsLayerParts start depth_left ms parts }
     ensures { (ms : Listed) → IsLayerParts start depth_left ms parts.entry → Judges (members_features start.exact ms) start.counts counts.new result }
 {
@@ -315,13 +324,13 @@ fn features_of(
 
 /// The features of the layer at the front (RFC 7946, section 3) or its first fault, and what follows it. A Feature and a bare geometry are
 /// the one feature of their layer. Members may stand in any order.
-pub fn layer_at<'a>(
+pub fn layer_at<'a, D: CollectsFeatures + 'a>(
     alloc: Global,
     depth_left: u32,
     bytes: &'a [u8],
     exact: bool,
     counts: &mut Counts,
-) -> Result<(Result<Items<Feature>, GeoFault>, &'a [u8]), Fault>
+) -> Result<(Result<FeatureList<D>, GeoFault>, &'a [u8]), Fault>
     ensures { FindsValue (IsHeld (features exact) counts.old counts.new) depth_left bytes.now result }
 {
     let start = Start {
@@ -329,7 +338,7 @@ pub fn layer_at<'a>(
         counts: *counts,
     };
     let mut parts = LayerParts::none();
-    match object_into::<LayerParts<'a>>(alloc, depth_left, &mut parts, bytes, start) {
+    match object_into::<LayerParts<'a, D>>(alloc, depth_left, &mut parts, bytes, start) {
         Err(fault) => {
             drop(parts);
             Err(fault)

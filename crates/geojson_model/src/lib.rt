@@ -1,9 +1,10 @@
 //! The reader of layers (RFC 7946) straight from bytes, whatever their form and whatever their faults: members in any order, names with
 //! escapes, collections at any depth. What stands at the front is read as the definitions of `geojson_meaning` say, or has the fault that they
-//! say comes first. It stands on `json_cursor`, whose `Answers` each contract is. A layer above calls `read_layer_text`; what has a JSON
+//! say comes first. It stands on `json_cursor`, whose `Answers` each contract is. A layer above calls `read_features_text`; what has a JSON
 //! value calls `read_layer`. What layers are made of is passed on.
 #![tactic(auto)]
 
+mod collecting;
 mod coordinate_members;
 mod coordinates;
 mod features;
@@ -17,6 +18,7 @@ mod texts;
 mod type_names;
 mod values;
 
+pub use collecting::CollectsFeatures;
 pub use features::feature_at;
 pub use geojson_meaning::{
     Address, Cause, CoordinatesType, Counts, Dropped, Feature, FeatureSet, GeoFault, GeoFaultKind,
@@ -26,7 +28,7 @@ pub use geojson_meaning::{
     texts_stay,
 };
 pub use geometries::geometry_at;
-pub use layers::layer_at;
+pub use layers::{FeatureList, layer_at};
 pub use shapes::coordinates_at;
-pub use texts::read_layer_text;
+pub use texts::read_features_text;
 pub use values::read_layer;

@@ -9,8 +9,8 @@ ghost use Rattle.geojson_meaning.specs.declared.fault.GeoFaultKind.TheVariants.{
 use crate::layers::{fault_within, layer_at};
 use decimal_json::value_text;
 use geojson_meaning::{GeoFault, GeoFaultKind};
-use geojson_types::{Counts, Layer};
-use json_value::Json;
+use geojson_types::{Counts, Feature, Layer};
+use json_value::{Items, Json};
 use std::alloc::Global;
 
 /// The layer that a JSON value stands for (RFC 7946), beside what was counted. `exact` refuses a coordinate that isn't whole in units of
@@ -29,11 +29,14 @@ pub fn read_layer(alloc: Global, value: Json, exact: bool) -> Result<(Layer, Cou
         return Err(fault_within(None, GeoFaultKind::Memory));
     };
     let mut counts = Counts::none();
-    match layer_at(alloc, u32::MAX, &text, exact, &mut counts) {
+    match layer_at::<Vec<Feature>>(alloc, u32::MAX, &text, exact, &mut counts) {
         Err(_) => Err(fault_within(None, GeoFaultKind::Memory)),
         Ok((read, _)) => match read {
             Err(fault) => Err(fault),
-            Ok(features) => Ok((Layer { features }, counts)),
+            Ok(read) => {
+                let features = Items::of(read.into_made());
+                Ok((Layer { features }, counts))
+            }
         },
     }
 }

@@ -13,7 +13,7 @@ use Rattle.geometry.specs.Units.{input_limit}
 use Rattle.grid_snap.specs.declared.bounds.Bounds.{Bounds}
 use Rattle.grid_snap.specs.Bounds.{widened, widened_by, IsSpan, AreBounds, AreBoundsIfSome}
 
-widened-append : (b : Option Bounds) (ps qs : List Point) → widened_by b (ps ++ qs) ≡ widened_by (widened_by b ps) qs
+pub widened-append : (b : Option Bounds) (ps qs : List Point) → widened_by b (ps ++ qs) ≡ widened_by (widened_by b ps) qs
 widened-append b [] qs = refl
 widened-append b (p ∷ ps) qs = widened-append (Some (widened b p)) ps qs
 
@@ -86,3 +86,29 @@ with_position b p h i = search (rules, span_of, span_with)
 pub bounds_of_input : (b : Option Bounds) (ps : List Point) → AreBoundsIfSome b → AllByRecursion IsInput ps → AreBoundsIfSome (widened_by b ps)
 bounds_of_input b [] h all = h
 bounds_of_input b (p ∷ ps) h all = bounds_of_input (Some (widened b p)) ps (with_position b p h all.0) all.1
+
+-- ---- in another order
+
+min_swap : (a x y : ℤ) → int_min (int_min a x) y ≡ int_min (int_min a y) x
+min_swap a x y = omega (arith, ints, clamps)
+
+max_swap : (a x y : ℤ) → int_max (int_max a x) y ≡ int_max (int_max a y) x
+max_swap a x y = omega (arith, ints, clamps)
+
+min_turn : (x y : ℤ) → int_min x y ≡ int_min y x
+min_turn x y = omega (arith, ints, clamps)
+
+max_turn : (x y : ℤ) → int_max x y ≡ int_max y x
+max_turn x y = omega (arith, ints, clamps)
+
+swapped : (b : Option Bounds) (p q : Point) → widened (Some (widened b p)) q ≡ widened (Some (widened b q)) p
+swapped None p q = rw (min_turn p.x q.x, max_turn p.x q.x, min_turn p.y q.y, max_turn p.y q.y) refl
+swapped (Some b) p q = rw (min_swap b.left p.x q.x, max_swap b.right p.x q.x, min_swap b.bottom p.y q.y, max_swap b.top p.y q.y) refl
+
+later : (b : Option Bounds) (p : Point) (qs : List Point) → widened_by (Some (widened b p)) qs ≡ Some (widened (widened_by b qs) p)
+later b p [] = refl
+later b p (q ∷ qs) = ap (λ w. widened_by (Some w) qs) (swapped b p q) ∙ later (Some (widened b q)) p qs
+
+pub in_turn : (b : Option Bounds) (ps qs : List Point) → widened_by (widened_by b ps) qs ≡ widened_by (widened_by b qs) ps
+in_turn b [] qs = refl
+in_turn b (p ∷ ps) qs = in_turn (Some (widened b p)) ps qs ∙ ap (λ w. widened_by w ps) (later b p qs)

@@ -1,5 +1,5 @@
 // The least and the greatest coordinates of layers.
-ghost use Rattle.std.specs.Prelude.{◌≡◌, None, map};
+ghost use Rattle.std.specs.Prelude.{◌≡◌, None};
 ghost use Rattle.std.specs.Option.{option_copied};
 ghost use Rattle.geometry.specs.Lists.{joined};
 ghost use Rattle.geojson_types.specs.Places.{features_points, option_points, shape_points};
@@ -7,7 +7,7 @@ ghost use Rattle.grid_snap.specs.Bounds.{widened, widened_by};
 ghost use Rattle.grid_snap.specs.Snapping.{layers_points};
 
 use geojson_types::{Feature, Geometry, Layer, Position, Ring, Shape};
-use json_value::{Items, OwnText};
+use json_value::Items;
 
 /// The least and the greatest coordinates, in units.
 #[derive(Clone, Copy)]
@@ -18,12 +18,10 @@ pub struct Bounds {
     pub top: i64,
 }
 
-/// With one position more.
-fn widen(bounds: Option<Bounds>, position: Position) -> Bounds
-    ensures { result ≡ widened bounds position }
+/// With what has these coordinates.
+pub fn widen_to(bounds: Option<Bounds>, x: i64, y: i64) -> Bounds
+    ensures { result ≡ widened bounds (record { x = x; y = y }) }
 {
-    let x = position.x();
-    let y = position.y();
     match bounds {
         None => Bounds {
             left: x,
@@ -40,8 +38,15 @@ fn widen(bounds: Option<Bounds>, position: Position) -> Bounds
     }
 }
 
+/// With one position more.
+fn widen(bounds: Option<Bounds>, position: Position) -> Bounds
+    ensures { result ≡ widened bounds position }
+{
+    widen_to(bounds, position.x(), position.y())
+}
+
 /// With the positions of a line.
-fn with_positions(bounds: Option<Bounds>, positions: &[Position]) -> Option<Bounds>
+pub fn with_positions(bounds: Option<Bounds>, positions: &[Position]) -> Option<Bounds>
     ensures { result ≡ widened_by bounds positions.now }
 {
     let mut all = bounds;
@@ -133,17 +138,6 @@ pub(crate) fn bounds_of(layers: &[Layer]) -> Option<Bounds>
     let mut all = None;
     'layers: for layer in layers {
         all = with_features(all, layer.features.as_slice());
-    }
-    all
-}
-
-/// The bounds of layers with names, if there is a position.
-pub(crate) fn bounds_of_named(layers: &[(OwnText, Layer)]) -> Option<Bounds>
-    ensures { result ≡ widened_by None (layers_points (map (λ l. l.1) layers.now)) }
-{
-    let mut all = None;
-    'layers: for layer in layers {
-        all = with_features(all, layer.1.features.as_slice());
     }
     all
 }

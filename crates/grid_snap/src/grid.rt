@@ -1,5 +1,5 @@
 // The grid of layers.
-ghost use Rattle.std.specs.Prelude.{◌≡◌, ◌≤◌, pos, true, List, None, map};
+ghost use Rattle.std.specs.Prelude.{◌≡◌, ◌≤◌, pos, true, List, None};
 ghost use Rattle.std.specs.List.{AllByRecursion};
 ghost use Rattle.geometry.specs.Points.{IsInput, Point};
 ghost use Rattle.grid_snap.specs.Axes.{IsCell, IsGrid, count_limit, grid_over, snapped};
@@ -8,9 +8,8 @@ ghost use Rattle.grid_snap.specs.Bounds.{AreBoundsIfSome, widened_by};
 ghost use Rattle.grid_snap.specs.Snapping.{layers_points};
 
 use crate::axis::{Axis, axis_over};
-use crate::bounds::{Bounds, bounds_of, bounds_of_named};
+use crate::bounds::{Bounds, bounds_of};
 use geojson_types::{Layer, Moves, Position};
-use json_value::OwnText;
 use std::marker::Model;
 
 /// A grid over layers: so many equally spaced coordinates in each direction. A cell of it is the numbers of its coordinates, x
@@ -36,7 +35,7 @@ impl Model for Grid {
 
 impl Grid {
     /// The grid of so many coordinates in each direction from the least coordinates to the greatest or farther.
-    fn within(bounds: Option<Bounds>, count: u32) -> Option<Grid>
+    pub fn within(bounds: Option<Bounds>, count: u32) -> Option<Grid>
         requires some { 2 ≤ count }
         requires few { count ≤ count_limit }
         requires bounds { AreBoundsIfSome bounds }
@@ -62,16 +61,6 @@ impl Grid {
         ensures { result ≡ grid_over count (layers_points layers.now) }
     {
         Grid::within(bounds_of(layers), count)
-    }
-
-    /// The grid of so many coordinates in each direction over the positions of layers with names. `None` where there is no position.
-    pub fn over_named(layers: &[(OwnText, Layer)], count: u32) -> Option<Grid>
-        requires some { 2 ≤ count }
-        requires few { count ≤ count_limit }
-        requires inputs { AllByRecursion IsInput (layers_points (map (λ l. l.1) layers.now)) }
-        ensures { result ≡ grid_over count (layers_points (map (λ l. l.1) layers.now)) }
-    {
-        Grid::within(bounds_of_named(layers), count)
     }
 
     /// What each grid keeps. A call does nothing; its contract is what `Grid` keeps.

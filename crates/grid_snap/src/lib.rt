@@ -11,6 +11,7 @@ mod grid;
 mod laws;
 mod layers;
 
+pub use bounds::{Bounds, widen_to, with_positions};
 pub use grid::Grid;
 pub use laws::{
     cells_lie_at_snapped, covered_are_positions, grid_is_made, layers_are_covered,

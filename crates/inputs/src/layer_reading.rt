@@ -6,8 +6,9 @@ ghost use Rattle.inputs.specs.Sources.{plus, AllReadTo, FailsToReadAll};
 use crate::fault::BuildFault;
 use crate::watch::Watch;
 use byte_ends::{Feed, MAX_INPUT, ReadFault, Source, read_all};
-use geojson_meaning::{Counts, GeoFaultKind, Layer};
-use geojson_model::read_layer_text;
+use extraction::ExtractedLayer;
+use geojson_meaning::{Counts, GeoFaultKind};
+use geojson_model::read_features_text;
 use json_cursor::Refusal;
 use json_reading::JsonFault;
 use json_value::OwnText;
@@ -19,10 +20,10 @@ fn layer_of(
     bytes: &[u8],
     layer: usize,
     exact: bool,
-) -> Result<(Layer, Counts), BuildFault>
+) -> Result<(ExtractedLayer, Counts), BuildFault>
     ensures { IsLayerOf layer exact bytes.now result }
 {
-    match read_layer_text(alloc, bytes, exact) {
+    match read_features_text::<ExtractedLayer>(alloc, bytes, exact) {
         Ok(read) => Ok(read),
         Err(Refusal::Memory) => Err(BuildFault::Memory),
         Err(Refusal::Text(fault)) => {
@@ -44,7 +45,7 @@ fn layer_of(
 fn show<K: Watch>(
     alloc: Global,
     bytes: &[u8],
-    read: &Result<(Layer, Counts), BuildFault>,
+    read: &Result<(ExtractedLayer, Counts), BuildFault>,
     watch: &mut K,
 ) {
     if let Ok((layer, _counts)) = read {
@@ -59,7 +60,7 @@ fn read_source<R: Feed, K: Watch>(
     layer: usize,
     exact: bool,
     watch: &mut K,
-) -> Result<(Layer, Counts), BuildFault>
+) -> Result<(ExtractedLayer, Counts), BuildFault>
     ensures { ReadsLayer layer exact source.old source.new result }
 {
     let bytes = match read_all(alloc, source, MAX_INPUT) {
@@ -90,7 +91,7 @@ pub fn read_layers<R: Feed, K: Watch>(
     sources: &mut [(OwnText, Source<R>)],
     exact: bool,
     watch: &mut K,
-) -> Result<(Vec<(OwnText, Layer)>, Counts), BuildFault>
+) -> Result<(Vec<(OwnText, ExtractedLayer)>, Counts), BuildFault>
     ensures { MatchResult result (λ r. AllReadTo exact sources.old sources.new r.0.items r.1) (λ e. FailsToReadAll exact sources.old sources.new e) }
 {
     let mut layers = Vec::new(alloc);

@@ -1,5 +1,6 @@
 // Looking on while inputs are read.
-use geojson_meaning::{Dropped, Layer, Position};
+use extraction::ExtractedLayer;
+use geojson_meaning::{Dropped, Position};
 use owned_values::Items;
 use segment_crossings::Crossing;
 use std::alloc::Global;
@@ -9,7 +10,7 @@ use topojson_types::Topology;
 /// it. Nothing that is written rests on it.
 pub trait Watch {
     /// The next layer is read, which these bytes spell.
-    fn layer_read(&mut self, _alloc: Global, _bytes: &[u8], _layer: &Layer) {}
+    fn layer_read(&mut self, _alloc: Global, _bytes: &[u8], _layer: &ExtractedLayer) {}
 
     /// The file of a topology is read, which these bytes spell.
     fn file_read(&mut self, _alloc: Global, _bytes: &[u8]) {}

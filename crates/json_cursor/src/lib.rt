@@ -2,7 +2,8 @@
 //! properties are copied as the text that is written for them. No value is made. It stands on `json_reading`. The layers above use the
 //! contract `Answers` of `specs/Answers.antt`: what stands at the front is read so, or has this first fault whatever value it is, or is no
 //! value; of objects the contracts of `specs/Members.antt`, with an `Occurrence` for each name that is looked for; and the one of
-//! `read_properties`. The top of a reader calls `read_text`, which puts what is malformed before what the value has of faults.
+//! `read_properties`. The top of a reader asks `malformed` for the fault of a text that spells no value, which comes
+//! before any fault of a value.
 #![tactic(auto)]
 
 mod copied_strings;
@@ -34,4 +35,4 @@ pub use passing::{after_elements, after_others};
 pub use properties::read_properties;
 pub use room::{arrays_ahead, numbers_ahead};
 pub use stop::Stop;
-pub use texts::{Refusal, Whole, are_utf8, read_text, text_of};
+pub use texts::{Refusal, are_utf8, malformed, text_of};

@@ -11,12 +11,13 @@ ghost use Rattle.topo_model.specs.Uses.{answers, chosen as chosen_of};
 use crate::at_once::kept_at_once;
 use crate::level::Level;
 use crate::splitting::{joined_arcs, split_arcs};
+use extraction::cells;
 use geojson_types::Position;
 use guarded_meaning::arcs_rise;
 use json_value::Items;
 use owned_values::Memory;
 use std::alloc::Global;
-use topo_model::{ArcRef, Cell, cells, positions_of_all};
+use topo_model::{ArcRef, Cell, positions_of_all};
 
 /// Of each arc the positions that stay where all are reduced at once at a level, no crossing may be made, where that is asked for, and these
 /// rings have to stay; and the threshold, where it was chosen. The arcs are freed.

@@ -41,11 +41,12 @@ use build_meaning::{
 use cutter::{Pieces, cut};
 use effective_area::Reducer;
 use elimination_meaning::{nothing_is_new, zero_law};
-use geojson_types::{Dropped, Layer, Position};
+use extraction::ExtractedLayer;
+use geojson_types::{Dropped, Position};
 use grid_snap::Grid;
 use guarded_meaning::arcs_rise;
 use json_value::{Items, OwnText};
-use linework::{Lines, Outline, Vertices, lines_of_outlines};
+use linework::{Lines, Outlines, Vertices, lines_of_outlines};
 use owned_values::Memory;
 use std::alloc::Global;
 use topo_model::{
@@ -71,15 +72,11 @@ fn cut_lines(alloc: Global, seed: u64, lines: Lines) -> Result<Pieces, Memory>
 }
 
 /// The arcs that the lines and rings of layers share, and for each of these whether it has too few positions.
-fn shared_arcs(
-    alloc: Global,
-    seed: u64,
-    outlines: Vec<Outline>,
-) -> Result<(Table, Vec<bool>), Memory>
-    requires { AllByRecursion IsRingIfClosed outlines.items }
-    ensures table { IfOk result (λ r. (ls : Named) → outlines.items ≡ named_lines_and_rings ls
+fn shared_arcs(alloc: Global, seed: u64, outlines: Outlines) -> Result<(Table, Vec<bool>), Memory>
+    requires { AllByRecursion IsRingIfClosed outlines }
+    ensures table { IfOk result (λ r. (ls : Named) → outlines ≡ named_lines_and_rings ls
         → r.0 ≡ table_of (map (split_of (linework (layers_of ls))) (linework (layers_of ls)))) }
-    ensures short { IfOk result (λ r. r.1.items ≡ map is_short_outline outlines.items) }
+    ensures short { IfOk result (λ r. r.1.items ≡ map is_short_outline outlines) }
 {
     addresses_do_not_matter();
     let (lines, short) = lines_of_outlines(alloc, outlines)?;
@@ -93,7 +90,7 @@ fn shared_arcs(
 fn draft_and_arcs(
     alloc: Global,
     seed: u64,
-    layers: Vec<(OwnText, Layer)>,
+    layers: Vec<(OwnText, ExtractedLayer)>,
 ) -> Result<(Vec<(OwnText, TopoObject)>, Vec<Items<Position>>), Memory>
     requires sound { AreSound layers.items }
     requires names { AreDistinct (names_of layers.items) }
@@ -120,7 +117,7 @@ fn reduced_topology<Q: Reducer>(
     alloc: Global,
     reducer: &mut Q,
     seed: u64,
-    layers: Vec<(OwnText, Layer)>,
+    layers: Vec<(OwnText, ExtractedLayer)>,
     level: Level,
     ring_limit: u128,
 ) -> Result<(Topology, Vec<Dropped>, u64, Option<u128>), Memory>
@@ -250,7 +247,7 @@ fn topology_of_draft(
 fn guarded_topology(
     alloc: Global,
     seed: u64,
-    layers: Vec<(OwnText, Layer)>,
+    layers: Vec<(OwnText, ExtractedLayer)>,
     guards: Guards,
     level: Level,
     ring_limit: u128,
@@ -276,7 +273,7 @@ fn topology_under<Q: Reducer>(
     alloc: Global,
     reducer: &mut Q,
     seed: u64,
-    layers: Vec<(OwnText, Layer)>,
+    layers: Vec<(OwnText, ExtractedLayer)>,
     guards: Guards,
     level: Level,
     ring_limit: u128,
@@ -301,9 +298,9 @@ fn topology_under<Q: Reducer>(
 
 /// The layers snapped to the grid that is asked for, if one is, and the grid.
 fn snapped_layers(
-    layers: Vec<(OwnText, Layer)>,
+    layers: Vec<(OwnText, ExtractedLayer)>,
     count: Option<u32>,
-) -> (Vec<(OwnText, Layer)>, Option<Grid>)
+) -> (Vec<(OwnText, ExtractedLayer)>, Option<Grid>)
     requires count { IsCount count }
     requires inputs { AreInputs layers.items }
     ensures snapped { result.0.items ≡ snapped_to count layers.items }
@@ -325,7 +322,7 @@ pub fn topology_of_layers<Q: Reducer>(
     alloc: Global,
     reducer: &mut Q,
     seed: u64,
-    layers: Vec<(OwnText, Layer)>,
+    layers: Vec<(OwnText, ExtractedLayer)>,
     grid: Option<u32>,
     guards: Guards,
     level: Level,

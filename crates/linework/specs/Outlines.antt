@@ -1,7 +1,10 @@
 -- Lines and rings without the places where they stand.
-use Rattle.std.specs.Prelude.{◌≡◌, Bool, true, not, List}
+use Rattle.std.specs.Prelude.{◌≡◌, Bool, true, not, List, map}
 use Rattle.std.specs.List.{filter}
+use Rattle.geojson_types.specs.Features.{Featured}
+use Rattle.geometry.specs.Lists.{joined}
 use Rattle.geometry.specs.Points.{Point}
+use Rattle.geometry.specs.Pruning.{option_lines_and_rings}
 use Rattle.geometry.specs.Rings.{is_ring}
 use Rattle.junctions.specs.Cleaning.{clean, is_short}
 use Rattle.junctions.specs.declared.stroke.Stroke.{Stroke}
@@ -9,6 +12,10 @@ use Rattle.junctions.specs.declared.stroke.Stroke.{Stroke}
 -- whether it is a ring (true) or an open line (false), and its positions
 abbrev pub Outline : Type 0
 Outline = Bool × List Point
+
+-- those of features, in reading order
+abbrev pub features_lines_and_rings : List Featured → List Outline
+features_lines_and_rings fs = joined (map (λ f. option_lines_and_rings f.shape) fs)
 
 -- that of a line or ring
 abbrev pub outline : Stroke → Outline
@@ -29,3 +36,7 @@ long_outlines bs = filter (λ b. not (is_short_outline b)) bs
 -- with equal neighbours as one position
 abbrev pub clean_outline : Outline → Outline
 clean_outline b = (b.0, clean b.1)
+
+-- the line or ring with what is made of its positions
+abbrev pub over_positions : (List Point → List Point) → Stroke → Stroke
+over_positions f s = record { address = s.address; closed = s.closed; positions = f s.positions }

@@ -8,7 +8,7 @@ ghost use Rattle.junctions.specs.Gathering.{with_lines_and_rings, part_address};
 use crate::cleaning::cleaned;
 use geojson_types::Feature;
 use geometry::{Address, AddressPath, Position, Ring, Shape};
-use junctions::{Lines, Stroke};
+use junctions::{Lines, Stroke, Whereabouts};
 use owned_values::{Items, Memory};
 use std::alloc::Global;
 
@@ -137,6 +137,7 @@ fn add_line_or_ring(
     ensures { OnOk result (lines.new ≡ with_lines_and_rings lines.old (map (line_or_ring_at address) (alone (closed, positions.now)))) }
 {
     let positions = Items::of(cleaned(alloc, positions)?);
+    let address = Whereabouts::of(alloc, address)?;
     lines.add(Stroke {
         address,
         closed,

@@ -13,4 +13,4 @@ mod outlines;
 pub use junctions::{Address, Cause, Dropped, Lines, Stroke, Vertices};
 pub use laws::{no_position_is_new, placed_lines_and_rings_are_all};
 pub use layers::OfLayers;
-pub use outlines::{Outline, lines_of_outlines};
+pub use outlines::{Outlines, lines_of_outlines};

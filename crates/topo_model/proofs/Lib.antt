@@ -1,7 +1,6 @@
 pub mod Assembled
 pub mod AllUsed
 pub mod Along
-pub mod Apart
 pub mod BestRing
 pub mod Chosen
 pub mod Counted

@@ -12,17 +12,14 @@ use Rattle.geometry.specs.DropCauses.{here, inner_cause, area_drop_causes, drop_
 use Rattle.geometry.specs.Paths.{Placed, inside_part, of_parts}
 use Rattle.geometry.specs.Points.{Point}
 use Rattle.geometry.specs.Pruning.{area_by, prune}
-use Rattle.geometry.proofs.ByKind.{AtKinds, at_kinds}
 use Rattle.geometry.proofs.Cases.{drop_causes_at}
 use Rattle.geometry.proofs.Induction.{by_kinds}
 use Rattle.build_meaning.specs.OuterRings.{outer_ring, outer_rings, into_part, ends_here, along, unmarked, rings_marked, marked}
 use Rattle.build_meaning.proofs.GreatestLeft.{put}
 use Rattle.build_meaning.proofs.Marks.{outer_rings_at, some_made, marked_at, marked-line, marked-lines, marked-area, marked-areas, marked-group, left-point, left-points, left-line, left-lines, left-area, left-areas, left-group}
 use Rattle.topojson_types.specs.Topologies.{TopoShape}
-use Rattle.topo_model.specs.Drafts.{RefsOf, relined_step, relined}
-
-pub relined_at : (f : RefsOf) → AtKinds (relined f) (relined_step f)
-relined_at f = unfold relined in at_kinds (relined_step f)
+use Rattle.topo_model.specs.Drafts.{RefsOf, relined}
+pub use Rattle.extraction.proofs.Relined.{relined_at}
 
 abbrev Way : Type 0
 Way = Option (List ℕ)

@@ -1,12 +1,13 @@
 -- Layers as a draft of a topology: each line and ring is replaced by the indexes of its arcs, or by none where it has too few positions
 -- from the first.
-use Rattle.std.specs.Prelude.{◌≡◌, ℕ, ℤ, Bool, true, false, List, [], ◌∷◌, ◌++◌, Option, None, Some, map, if◌then◌else◌}
+use Rattle.std.specs.Prelude.{ℕ, ℤ, Bool, true, false, List, [], ◌∷◌, Option, None, Some, map, if◌then◌else◌}
 use Rattle.build_meaning.specs.Layers.{Named}
-use Rattle.geojson_types.specs.Features.{Featured, Shape}
+pub use Rattle.extraction.specs.Extracts.{RefsOf, TakesApart, feature_relined, no_refs, relined_step}
+unfoldable pub use Rattle.extraction.specs.Extracts.{relined}
+use Rattle.geojson_types.specs.Features.{Featured}
 use Rattle.geometry.specs.declared.shape.Geometry.{fold-Geometry}
 use Rattle.geometry.specs.declared.shape.Geometry.TheOpen.{Geometry-F}
 use Rattle.geometry.specs.declared.shape.Geometry.TheVariants as g
-use Rattle.geometry.specs.Lists.{map_some}
 use Rattle.geometry.specs.Points.{Point}
 use Rattle.junctions.specs.Cleaning.{clean, is_short}
 use Rattle.topojson_types.specs.declared.feature.TopoFeature.{TopoFeature}
@@ -15,10 +16,6 @@ use Rattle.topojson_types.specs.declared.object.TopoObject.TheVariants.{One, Man
 use Rattle.topojson_types.specs.Topologies.{TopoShape}
 
 -- ---- lines and rings
-
--- the arc indexes of an open line (false) or a ring (true)
-abbrev pub RefsOf : Type 0
-RefsOf = Bool → List Point → List ℤ
 
 -- the arc indexes of the lines and rings that have enough positions from the first
 abbrev pub long_refs : RefsOf → List (Bool × List Point) → List (List ℤ)
@@ -31,23 +28,6 @@ draft_refs of closed ps = if is_short closed (clean ps) then [] else of closed p
 
 -- ---- shapes and layers
 
--- one level, with what is made of the shapes of a group in their place
-abbrev pub relined_step : RefsOf → Geometry-F Point (List Point) (List Point) TopoShape → TopoShape
-relined_step f (Geometry-F.Point p) = g.Point p
-relined_step f (Geometry-F.MultiPoint ps) = g.MultiPoint ps
-relined_step f (Geometry-F.Line l) = g.Line (f false l)
-relined_step f (Geometry-F.Lines ls) = g.Lines (map (f false) ls)
-relined_step f (Geometry-F.Area rs) = g.Area (map (f true) rs)
-relined_step f (Geometry-F.Areas areas) = g.Areas (map (map (f true)) areas)
-relined_step f (Geometry-F.Group ss) = g.Group ss
-
--- the shape with each line and ring replaced
-unfoldable pub relined : RefsOf → Shape → TopoShape
-relined f = fold-Geometry Point (List Point) (List Point) TopoShape (relined_step f)
-
-abbrev pub feature_relined : RefsOf → Featured → TopoFeature
-feature_relined f x = record { id = x.id; properties = x.properties; shape = map_some (relined f) x.shape }
-
 -- a layer is a collection of its features, under its name
 abbrev pub objects_relined : RefsOf → Named → List (List ℕ × TopoObject)
 objects_relined f ls = map (λ l. (l.0, Many (map (feature_relined f) l.1.features))) ls
@@ -57,16 +37,6 @@ feature_drafted of = feature_relined (draft_refs of)
 
 abbrev pub objects_drafted : RefsOf → Named → List (List ℕ × TopoObject)
 objects_drafted of = objects_relined (draft_refs of)
-
--- ---- taken apart
-
--- nothing stands for a line or ring
-abbrev pub no_refs : RefsOf
-no_refs closed ps = []
-
--- the lines and rings are taken out, after those that were before, and this is left
-abbrev pub TakesApart : {Y : Type 0} → List (Bool × List Point) → Y → List (Bool × List Point) → Y → List (Bool × List Point) → Type 0
-TakesApart lines left before made after = (made ≡ left) × (after ≡ before ++ lines)
 
 -- ---- filled
 

@@ -19,6 +19,7 @@ use crate::position_counting::position_counts;
 use crate::taking_apart::take_apart;
 use arc_table::Table;
 use elimination_meaning::{ends_stay, nothing_is_new, zero_law};
+use extraction::ExtractedLayer;
 use geojson_types::{Dropped, Layer};
 use json_value::{Items, OwnText};
 use linework::lines_of_outlines;
@@ -53,6 +54,20 @@ pub fn assemble_draft(
     finish(alloc, objects, retained, counts, None, ring_limit, &[])
 }
 
+/// Named layers without their lines and rings, and these by themselves.
+fn extracted(
+    alloc: Global,
+    layers: Vec<(OwnText, Layer)>,
+) -> Result<Vec<(OwnText, ExtractedLayer)>, Memory>
+    ensures { IfOk result (λ all. all.items ≡ layers.items) }
+{
+    let mut all = Vec::with_capacity(alloc, layers.len())?;
+    'layers: for (name, layer) in layers {
+        all.push((name, ExtractedLayer::of(alloc, layer)?))?;
+    }
+    Ok(all)
+}
+
 /// The topology of named layers over the arcs of their lines, where of each arc the positions with these numbers are kept: a list
 /// for each arc, from its first position to its last. What is left out, and what comes with it, is as for `assemble_draft`.
 pub fn assemble(
@@ -75,7 +90,8 @@ pub fn assemble(
     let counts = position_counts(alloc, table.arcs())?;
     let retained = positions_of_all(alloc, kept, table.arcs())?;
     let (_arcs, refs) = table.into_parts();
-    let (objects, outlines) = take_apart(alloc, layers)?;
+    let extracted = extracted(alloc, layers)?;
+    let (objects, outlines) = take_apart(alloc, extracted)?;
     let (_lines, short) = lines_of_outlines(alloc, outlines)?;
     let draft = filled(alloc, objects, refs, &short);
     assemble_draft(alloc, draft, retained, &counts, ring_limit)

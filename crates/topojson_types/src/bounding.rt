@@ -1,5 +1,5 @@
 // The least box that holds the cells of a topology.
-ghost use Rattle.std.specs.Prelude.{◌≡◌, Some};
+ghost use Rattle.std.specs.Prelude.{◌≡◌, None, Some};
 ghost use Rattle.std.specs.Int.{int_min, int_max};
 ghost use Rattle.std.specs.Option.{option_copied};
 ghost use Rattle.geometry.specs.Lists.{joined};
@@ -113,6 +113,13 @@ fn with_features(bounds: Option<Corners>, features: &[TopoFeature]) -> Option<Co
         all = with_option(all, feature.shape.as_ref());
     }
     all
+}
+
+/// The box of the Points and MultiPoints of features, if there is one.
+pub fn corners_of(features: &[TopoFeature]) -> Option<Corners>
+    ensures { result ≡ widened_by None (features_places features.now) }
+{
+    with_features(None, features)
 }
 
 /// With those of an object.

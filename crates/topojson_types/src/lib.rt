@@ -25,6 +25,7 @@ mod transform;
 mod transform_number;
 mod walk;
 
+pub use bounding::{Corners, corners_of};
 pub use cell::Cell;
 pub use decode_fault::DecodeFault;
 pub use differing::{deltas, difference, sums_of_deltas, texts_stand_exactly, units_are_numbers};

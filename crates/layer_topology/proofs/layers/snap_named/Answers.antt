@@ -6,14 +6,14 @@ use Rattle.layer_topology.proofs.layers.snap_named.Goals as goal
 pub layers-init : goal.layers-init
 layers-init c = starts (named_snapped c.args.grid.now) c.args.layers.now
 
-pub snap_layer-requires : goal.snap_layer-requires
-snap_layer-requires c =
+pub snap-requires : goal.snap-requires
+snap-requires c =
     is_covered c.args.grid.now c.args.layers.now c.layers.layer-index c.layers.layers c.layer-item.result c.layers-test.true c.layers.invariant c.layer-item.is c.requires
 
 pub layers-preserved : goal.layers-preserved
 layers-preserved c =
     turns (named_snapped c.args.grid.now) c.args.layers.now c.layers.layer-index c.layers.layers c.layer-item.result _ c.layers-test.true c.layers.invariant
-    (ap (named (get_or c.layers.layers c.layers.layer-index c.layer-item.result).0) c.snap_layer.ensures)
+    (ap (named (get_or c.layers.layers c.layers.layer-index c.layer-item.result).0) c.snap.ensures)
 
 pub returns : goal.returns
 returns c = ends (named_snapped c.args.grid.now) c.args.layers.now c.layers.layer-index c.layers.layers c.layers-test.false c.layers.invariant

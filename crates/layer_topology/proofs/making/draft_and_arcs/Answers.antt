@@ -16,7 +16,7 @@ returns-in-Ok c =
     let made = c.in_ok-objects.ensures in
     let is = c.in-Ok.ensures.table ls made.outlines in
     record {
-      draft = draft_of ls c.into_parts-arcs.result.1.items c.in_ok-objects.outlines.items _ c.in_ok-objects.objects.items c.filled.result.items (c.into_parts-arcs.ensures.refs ∙ ap (λ t. t.refs) is) c.requires.sound
+      draft = draft_of ls c.into_parts-arcs.result.1.items c.in_ok-objects.outlines _ c.in_ok-objects.objects.items c.filled.result.items (c.into_parts-arcs.ensures.refs ∙ ap (λ t. t.refs) is) c.requires.sound
           c.requires.names made.objects made.outlines (c.deref.ensures.value ∙ c.in-Ok.ensures.short) c.filled.ensures;
       arcs = c.into_parts-arcs.ensures.arcs ∙ table_arcs ls c.in-Ok.table is;
       long = subst (AllByRecursion (λ (arc : List Point). 2 ≤ length arc)) (sym c.into_parts-arcs.ensures.arcs) c.into_parts-arcs.ensures.kept.long;

@@ -10,7 +10,7 @@ use Rattle.geojson_model.proofs.MemberOccurrences.{member_found, member_sees, no
 use Rattle.geojson_model.proofs.layers.LayerPartsMembers.member.Goals as goal
 
 pub returns-then-is : goal.returns-then-is
-returns-then-is c =
+returns-then-is g c =
     let d = c.args.depth_left in
     let name = name_of c.in_ok-name.name in
     let found = c.in_ok-features.ensures in
@@ -26,14 +26,14 @@ returns-then-is c =
     }
 
 pub returns-then-is_field : goal.returns-then-is_field
-returns-then-is_field c =
+returns-then-is_field g c =
     let d = c.args.depth_left in
     let name = name_of c.in_ok-name.name in
     member_sees (IsLayerParts c.args.with d) d c.args.bytes.now name c.in_ok-name.value.now _ _ (c.in_ok-name.ensures d) c.see-then-is_field.result
     (with_fields c.args.with d name c.in_ok-name.value.now c.args.self.now.features c.args.self.now.bare c.args.self.now.fields _ (sym c.if-is_field.ensures) c.see-then-is_field.result c.see-then-is_field.ensures)
 
 pub returns : goal.returns
-returns c =
+returns g c =
     let d = c.args.depth_left in
     let name = name_of c.in_ok-name.name in
     member_sees (IsLayerParts c.args.with d) d c.args.bytes.now name c.in_ok-name.value.now _ _ (c.in_ok-name.ensures d) c.member_value.result

@@ -1,0 +1,4 @@
+pub mod Bounded
+pub mod Relined
+pub mod Snapped
+pub mod TakenOut

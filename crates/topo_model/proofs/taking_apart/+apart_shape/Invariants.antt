@@ -1,8 +1,0 @@
-use Rattle.std.proofs.Common.{map}
-use Rattle.geometry.specs.Lists.{joined}
-use Rattle.geometry.specs.Pruning.{lines_and_rings}
-use Rattle.topo_model.specs.Drafts.{TakesApart, no_refs, relined}
-use Rattle.topo_model.proofs.taking_apart.+apart_shape.Given as goal
-
-abbrev pub invariant-shapes : goal.invariant-shapes
-invariant-shapes l = TakesApart (joined (map lines_and_rings l.yielded)) (map (relined no_refs) l.yielded) l.initial.outlines.items l.made.items l.outlines.items

@@ -15,7 +15,7 @@ from pathlib import Path
 ROOT = Path(__file__).resolve().parent.parent
 MAP = ROOT / "docs" / "ARCHITECTURE.md"
 LONGEST = 200
-MOST = 44
+MOST = 43
 PLACE = re.compile(r"(<!-- made: crates -->\n\n).*?(\n\n<!-- end -->)", re.DOTALL)
 
 

@@ -1,18 +1,33 @@
 //! Tries the worked examples on `mapchain_cli::command`. They are pages of Markdown, the `.md` files of the folder that it runs in, which
-//! is `data` under the gate; their blocks name files, commands and what must come of them. It stands on `example_pages`, which tries a page
-//! on any `Program` over files and streams in memory, and on `mapchain_cli`. A line is printed for each run that went otherwise, and then
-//! the counts. `FORMAT.md` says what a page may hold.
+//! is `data` under the gate; their blocks name files, commands and what must come of them. `try_page` runs a page's commands on a `Program`
+//! over files and streams in memory, lends it the failing devices of `byte_ends`, and says which runs went otherwise; the contracts of
+//! `LentFiles` say what it reads of a file, and what is in the place of one that it has written. The program is `mapchain_cli`'s. A line is
+//! printed for each run that went otherwise, and then the counts. `FORMAT.md` says what a page may hold.
 #![tactic(auto)]
 
 ghost use Rattle.std.specs.Prelude.{◌≡◌, IfSome};
 ghost use Rattle.std.specs.Option.{option_map};
 ghost use Rattle.std.specs.String.{string_bytes};
-ghost use Rattle.example_pages.specs.Held.{lent};
+ghost use Rattle.worked_examples.specs.Held.{lent};
 ghost use Rattle.mapchain_cli.specs.Files.{IsFresh};
 
+mod content;
+mod devices;
+mod example;
+mod lent_files;
+mod memory_files;
+mod notes;
+mod page;
+mod page_fault;
+mod program;
+mod running;
+mod tally;
+
+use crate::lent_files::LentFiles;
+use crate::page::try_page;
+use crate::program::{Ended, Program, Streams};
 use byte_ends::devices::{CutReader, CutWriter};
 use byte_ends::{FromRead, Sink, Source, ToWrite};
-use example_pages::{Ended, LentFiles, Program, Streams, try_page};
 use mapchain_cli::{Counts, FileKind, Notes, OwnText, command};
 use std::alloc::{AllocGlobal, Global};
 use std::fs::Files;

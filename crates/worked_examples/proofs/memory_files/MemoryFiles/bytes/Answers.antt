@@ -1,8 +1,8 @@
 use Rattle.std.proofs.Common.{arith, take}
 use Rattle.std.proofs.lemmas.List.{take_more}
-use Rattle.example_pages.proofs.Later.{held_later}
-use Rattle.example_pages.proofs.memory_files.MemoryFiles.bytes.Goals as goal
-use Rattle.example_pages.proofs.memory_files.MemoryFiles.bytes.Goals.{then-eq, else-eq}
+use Rattle.worked_examples.proofs.Later.{held_later}
+use Rattle.worked_examples.proofs.memory_files.MemoryFiles.bytes.Goals as goal
+use Rattle.worked_examples.proofs.memory_files.MemoryFiles.bytes.Goals.{then-eq, else-eq}
 
 pub entries-preserved : goal.entries-preserved
 entries-preserved c =

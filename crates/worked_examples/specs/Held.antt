@@ -3,11 +3,11 @@ use Rattle.std.specs.Prelude.{List, [], ◌∷◌, ℕ, take, Option, None, Some
 use Rattle.std.specs.Option.{option_map}
 use Rattle.std.specs.Str.{bytes_eq}
 use Rattle.std.specs.String.{string_bytes}
-use Rattle.example_pages.specs.declared.devices.Damage.{Damage}
-use Rattle.example_pages.specs.declared.devices.Damage.TheVariants as damage
-use Rattle.example_pages.specs.declared.lent_files.Kept.{Kept}
-use Rattle.example_pages.specs.declared.lent_files.LentFiles.{LentFiles}
-use Rattle.example_pages.specs.declared.memory_files.Entry.{Entry}
+use Rattle.worked_examples.specs.declared.devices.Damage.{Damage}
+use Rattle.worked_examples.specs.declared.devices.Damage.TheVariants as damage
+use Rattle.worked_examples.specs.declared.lent_files.Kept.{Kept}
+use Rattle.worked_examples.specs.declared.lent_files.LentFiles.{LentFiles}
+use Rattle.worked_examples.specs.declared.memory_files.Entry.{Entry}
 
 -- the bytes of this file, if it has this name
 abbrev pub entry_held : Entry → List ℕ → Option (List ℕ)

@@ -26,7 +26,7 @@ impl Entry {
 }
 
 impl MemoryFiles {
-    ghost use Rattle.example_pages.specs.Held.{held};
+    ghost use Rattle.worked_examples.specs.Held.{held};
 
     pub(crate) fn new(alloc: Global) -> MemoryFiles {
         MemoryFiles {

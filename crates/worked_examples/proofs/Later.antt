@@ -1,7 +1,7 @@
 -- The files of a page, one after the other.
 use Rattle.std.proofs.Common.{◌≡◌, ℕ, List, [], ◌∷◌, ◌++◌, Option, None, Some, refl, arith}
-use Rattle.example_pages.specs.Held.{entry_held, held, or_else}
-use Rattle.example_pages.specs.declared.memory_files.Entry.{Entry}
+use Rattle.worked_examples.specs.Held.{entry_held, held, or_else}
+use Rattle.worked_examples.specs.declared.memory_files.Entry.{Entry}
 
 or_else_twice : {A : Type 0} (a b c : Option A) → or_else (or_else a b) c ≡ or_else a (or_else b c)
 or_else_twice (Some x) b c = refl

@@ -78,7 +78,7 @@ impl Written {
 }
 
 impl<'a> LentFiles<'a> {
-    ghost use Rattle.example_pages.specs.Held.{lent};
+    ghost use Rattle.worked_examples.specs.Held.{lent};
 
     /// The files as these devices give them, with an empty room for one that is written.
     pub(crate) fn on(

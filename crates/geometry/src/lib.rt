@@ -16,7 +16,7 @@ mod units;
 
 pub use address::{Address, AddressPath, Cause, Dropped};
 pub use arc_ref::ArcRef;
-pub use moving::{Moves, move_shape};
+pub use moving::{Moves, move_positions, move_shape};
 pub use position::{Position, is_same};
 pub use ring::{Ring, is_closed};
 pub use ring_area::{RingSum, ring_under};

@@ -18,7 +18,7 @@ pub trait Moves {
 }
 
 /// Each position replaced.
-pub(crate) fn move_positions<M: Moves>(moves: &M, positions: &mut [Position])
+pub fn move_positions<M: Moves>(moves: &M, positions: &mut [Position])
     ensures { positions.new ≡ map (M.goes_to moves.now) positions.old }
 {
     'positions: for position in positions.iter_mut() {

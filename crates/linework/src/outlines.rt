@@ -6,7 +6,7 @@ ghost use Rattle.junctions.specs.Gathering as spec;
 ghost use Rattle.linework.specs.Outlines.{IsRingIfClosed, clean_outline, is_short_outline, long_outlines, outline, over_positions};
 
 use crate::cleaning::without_repeats;
-use geometry::{Moves, Position};
+use geometry::{Moves, Position, move_positions};
 use junctions::{Lines, Stroke, Whereabouts, is_collapsed};
 use owned_values::{Items, Memory};
 use std::alloc::Global;
@@ -92,15 +92,6 @@ impl Outlines {
         ensures { self.new ≡ self.old }
     {
         self.strokes.shrink_to_fit();
-    }
-}
-
-/// Each position replaced.
-fn move_positions<M: Moves>(moves: &M, positions: &mut [Position])
-    ensures { positions.new ≡ map (M.goes_to moves.now) positions.old }
-{
-    'positions: for position in positions.iter_mut() {
-        *position = moves.moved(*position);
     }
 }
 

@@ -114,7 +114,11 @@ pub fn read_all<R: Feed>(
     let mut bytes = Vec::new(alloc);
     loop {
         match source.read(block) {
-            Ok(0) => return Ok(bytes),
+            Ok(0) => {
+                // The room that was made ahead is given back.
+                bytes.shrink_to_fit();
+                return Ok(bytes);
+            }
             Ok(n) if n > limit - bytes.len() => return Err(ReadFault::TooLong),
             Ok(n) => bytes.extend_from_slice(&block[..n])?,
             Err(Failed) => return Err(ReadFault::Read),

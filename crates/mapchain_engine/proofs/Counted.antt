@@ -12,7 +12,7 @@ use Rattle.topojson_types.specs.declared.object.TopoObject.TheVariants.{One, Man
 use Rattle.topojson_decoder.specs.ArcEnds.{ends}
 use Rattle.topojson_decoder.specs.Kept.{features_in, listed, of_contents, of_feature, of_named, of_object}
 use Rattle.topojson_decoder.specs.declared.keeping.Keeping.{Keeping}
-use Rattle.topojson_decoder.specs.declared.keeping.Keeping.TheVariants.{Whole, Shapes, Blank}
+use Rattle.topojson_decoder.specs.declared.keeping.Keeping.TheVariants.{Whole, Shapes, Counted}
 use Rattle.topojson_decoder.specs.declared.topologies.Parts.{Parts}
 use Rattle.topo_model.proofs.Stepped as stepped
 use Rattle.reports.specs.declared.summary.Summary.{Summary}
@@ -33,7 +33,7 @@ module _ (k : Keeping) (all : (fs : List TopoFeature) → listed k fs ≡ fs) wh
   all_counted (o ∷ os) = rw (counted_same o, all_counted os) refl
 
 -- where none are, they are counted elsewhere
-all_numbered : (os : List (List ℕ × TopoObject)) → numbered (map (λ o. features_in o.1) os) (map counted (map (of_named Blank) os)) ≡ map counted os
+all_numbered : (os : List (List ℕ × TopoObject)) → numbered (map (λ o. features_in o.1) os) (map counted (map (of_named Counted) os)) ≡ map counted os
 all_numbered [] = refl
 all_numbered (o ∷ os) = ap (λ ns. counted o ∷ ns) (all_numbered os)
 
@@ -44,7 +44,7 @@ summary_of_parts p = record { objects = numbered_by p.features (map counted p.ob
 same_summary : (k : Keeping) (t : Contents) → summary_of_parts (of_contents k t) ≡ summary_of t
 same_summary Whole t = rw (all_counted Whole (λ fs. refl) t.objects) refl
 same_summary Shapes t = rw (all_counted Shapes (λ fs. refl) t.objects) refl
-same_summary Blank t = rw (all_numbered t.objects, length-map t.arcs ends) refl
+same_summary Counted t = rw (all_numbered t.objects, length-map t.arcs ends) refl
 
 -- is the topology's
 pub summary_kept : (parts : Parts) (k : Keeping) (t : Contents) → parts ≡ of_contents k t → (s : Summary) → s ≡ summary_with parts.objects parts.arcs (is_some parts.transform)

@@ -36,7 +36,7 @@ pub fn stat<R: Feed>(alloc: Global, source: &mut Source<R>) -> Result<Summary, F
     ensures decided { (bytes : List ℕ) (outcome : Result Counted Fault) → source.old.left ≡ Some bytes → FileHasOutcome summarised bytes outcome
         → FollowsSummary outcome result }
 {
-    let parts = read_kept(alloc, Keeping::Blank, source, &mut Unwatched)?;
+    let parts = read_kept(alloc, Keeping::Counted, source, &mut Unwatched)?;
     let summary = summary_of_kept(alloc, &parts);
     // (as in building)
     mem::forget(parts);

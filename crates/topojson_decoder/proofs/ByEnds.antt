@@ -31,7 +31,7 @@ use Rattle.topojson_meaning.specs.Shapes.{Readings, part_with, readings_step, ty
 use Rattle.topojson_decoder.specs.ArcEnds.{ends, last_from}
 use Rattle.topojson_decoder.specs.Kept.{of_arcs}
 use Rattle.topojson_decoder.specs.declared.keeping.Keeping.{Keeping}
-use Rattle.topojson_decoder.specs.declared.keeping.Keeping.TheVariants.{Whole, Shapes, Blank}
+use Rattle.topojson_decoder.specs.declared.keeping.Keeping.TheVariants.{Whole, Shapes, Counted}
 use Rattle.topojson_decoder.proofs.Ends.{first_reverse, last_reverse}
 
 -- arcs, and as many others that begin and end where they do
@@ -209,4 +209,4 @@ ends_so arcs (negsuc n) = last_reverse (or_empty (at (map ends arcs) n)) ∙ ap 
 pub over_kept : (k : Keeping) (t : Option Transform) (arcs : List (List Point)) → objects t (of_arcs k arcs) ≡ objects t arcs
 over_kept Whole t arcs = refl
 over_kept Shapes t arcs = refl
-over_kept Blank t arcs = λ i v. of_objects (map ends arcs) arcs (length-map arcs ends) (begins_so arcs) (ends_so arcs) t v i
+over_kept Counted t arcs = λ i v. of_objects (map ends arcs) arcs (length-map arcs ends) (begins_so arcs) (ends_so arcs) t v i

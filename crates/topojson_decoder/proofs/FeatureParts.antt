@@ -32,7 +32,7 @@ use Rattle.topojson_decoder.specs.declared.feature_parts.FeatureParts.{FeaturePa
 use Rattle.topojson_decoder.specs.declared.geometry_parts.GeometryParts.{GeometryParts}
 use Rattle.topojson_decoder.specs.declared.geometry_parts.Start.{Start}
 use Rattle.topojson_decoder.specs.declared.keeping.Keeping.{Keeping}
-use Rattle.topojson_decoder.specs.declared.keeping.Keeping.TheVariants.{Whole, Shapes, Blank}
+use Rattle.topojson_decoder.specs.declared.keeping.Keeping.TheVariants.{Whole, Shapes, Counted}
 use Rattle.json_cursor.specs.declared.occurrence.Occurrence.{Occurrence}
 use Rattle.json_cursor.specs.declared.occurrence.Occurrence.TheVariants.{Never}
 use Rattle.topojson_decoder.specs.Features.{IsFeature, IsFound, IsMemberAt, blank_identifier, blank_members, found, found_in, kept_identifier, kept_members, member_name, typed_feature}
@@ -147,16 +147,16 @@ pub whole_read : {A : Type 0} (k : Keeping) → k ≡ Whole → (r : Result (Opt
 whole_read k h r = rw h (all_of r)
 
 -- and where geometries alone are kept there is as much of them as where nothing is
-pub blank_read : {A : Type 0} (k : Keeping) → (k ≡ Shapes) ⊎ (k ≡ Blank) → (r : Result (Option A) TopoFault) → of_read Blank r ≡ of_read k r
+pub blank_read : {A : Type 0} (k : Keeping) → (k ≡ Shapes) ⊎ (k ≡ Counted) → (r : Result (Option A) TopoFault) → of_read Counted r ≡ of_read k r
 blank_read Whole (inl h) r = absurd cc
 blank_read Whole (inr h) r = absurd cc
 blank_read Shapes h (Ok None) = refl
 blank_read Shapes h (Ok (Some x)) = refl
 blank_read Shapes h (Err e) = refl
-blank_read Blank h r = refl
+blank_read Counted h r = refl
 
 -- and of the kind of a value it is known whether it is faulty
-blank_identifier_in : (x : Json-F Json) → blank_identifier (kind_in x) ≡ of_read Blank (identifier_in x)
+blank_identifier_in : (x : Json-F Json) → blank_identifier (kind_in x) ≡ of_read Counted (identifier_in x)
 blank_identifier_in Json-F.Null = refl
 blank_identifier_in (Json-F.Bool b) = refl
 blank_identifier_in (Json-F.Number n) = refl
@@ -164,10 +164,10 @@ blank_identifier_in (Json-F.Text t) = refl
 blank_identifier_in (Json-F.Array vs) = refl
 blank_identifier_in (Json-F.Object ms) = refl
 
-pub blank_identifier_of : (v : Json) → blank_identifier (kind_of v) ≡ kept_identifier Blank (Some v)
+pub blank_identifier_of : (v : Json) → blank_identifier (kind_of v) ≡ kept_identifier Counted (Some v)
 blank_identifier_of v = blank_identifier_in (out-Json v)
 
-blank_members_in : (x : Json-F Json) → blank_members (kind_in x) ≡ of_read Blank (members_in x)
+blank_members_in : (x : Json-F Json) → blank_members (kind_in x) ≡ of_read Counted (members_in x)
 blank_members_in Json-F.Null = refl
 blank_members_in (Json-F.Bool b) = refl
 blank_members_in (Json-F.Number n) = refl
@@ -175,7 +175,7 @@ blank_members_in (Json-F.Text t) = refl
 blank_members_in (Json-F.Array vs) = refl
 blank_members_in (Json-F.Object ms) = refl
 
-pub blank_members_of : (v : Json) → blank_members (kind_of v) ≡ kept_members Blank (Some v)
+pub blank_members_of : (v : Json) → blank_members (kind_of v) ≡ kept_members Counted (Some v)
 blank_members_of v = blank_members_in (out-Json v)
 
 -- ---- the feature, part by part

@@ -16,8 +16,8 @@ use Rattle.json_cursor.specs.Answers.{Answers}
 use Rattle.json_cursor.specs.declared.stop.Stop.{Stop}
 use Rattle.json_cursor.specs.declared.stop.Stop.TheVariants as stop
 use Rattle.topojson_decoder.specs.declared.keeping.Keeping.{Keeping}
-use Rattle.topojson_decoder.specs.declared.keeping.Keeping.TheVariants.{Whole, Shapes, Blank}
-use Rattle.topojson_decoder.specs.Kept.{features_in, features_of, held_arcs, if_blank, listed, making, of_contents, of_feature, of_named, of_object, of_option, parts_contents}
+use Rattle.topojson_decoder.specs.declared.keeping.Keeping.TheVariants.{Whole, Shapes, Counted}
+use Rattle.topojson_decoder.specs.Kept.{features_in, features_of, held_arcs, if_counted, listed, making, of_contents, of_feature, of_named, of_object, of_option, parts_contents}
 use Rattle.topojson_decoder.specs.Members.{Judges}
 
 -- ---- what is made of what is read
@@ -104,8 +104,8 @@ module _ {A B : Type 0} (f : A → B) (back : B → A) (same : (x : A) → back 
 pub all_held : (k : Keeping) → (k ≡ Whole) ⊎ (k ≡ Shapes) → (arcs : List (List Point)) → held_arcs k arcs ≡ record { list = arcs; positions = None }
 all_held Whole is arcs = refl
 all_held Shapes is arcs = refl
-all_held Blank (inl h) arcs = absurd cc
-all_held Blank (inr h) arcs = absurd cc
+all_held Counted (inl h) arcs = absurd cc
+all_held Counted (inr h) arcs = absurd cc
 
 pub whole_option : {A : Type 0} (x : Option A) → of_option Whole x ≡ x
 whole_option None = refl
@@ -137,27 +137,27 @@ whole_contents t = ap (λ z. record { objects = z; arcs = t.arcs; transform = t.
 pub none_listed : (k : Keeping) → listed k [] ≡ []
 none_listed Whole = refl
 none_listed Shapes = refl
-none_listed Blank = refl
+none_listed Counted = refl
 
 pub listed_more : (k : Keeping) (fs : List TopoFeature) (f : TopoFeature) → listed k (fs ++ f ∷ []) ≡ listed k fs ++ listed k (f ∷ [])
 listed_more Whole fs f = refl
 listed_more Shapes fs f = refl
-listed_more Blank fs f = refl
+listed_more Counted fs f = refl
 
 abbrev numbers_in : List ℕ → Option (List ℕ) → List ℕ
 numbers_in ns None = ns
 numbers_in ns (Some ms) = ms
 
-pub counted_more : (k : Keeping) (os : List (List ℕ × TopoObject)) (o : List ℕ × TopoObject) (ns after : List ℕ) → features_of k os ≡ if_blank k ns → if_blank k after ≡ if_blank k (ns ++ features_in o.1 ∷ []) → features_of k (os ++ o ∷ []) ≡ if_blank k after
+pub counted_more : (k : Keeping) (os : List (List ℕ × TopoObject)) (o : List ℕ × TopoObject) (ns after : List ℕ) → features_of k os ≡ if_counted k ns → if_counted k after ≡ if_counted k (ns ++ features_in o.1 ∷ []) → features_of k (os ++ o ∷ []) ≡ if_counted k after
 counted_more Whole os o ns after h is = refl
 counted_more Shapes os o ns after h is = refl
-counted_more Blank os o ns after h is =
+counted_more Counted os o ns after h is =
     ap Some (map-append (λ p. features_in p.1) os (o ∷ [])) ∙ ap (λ ms. Some (ms ++ features_in o.1 ∷ [])) (ap (numbers_in ns) h) ∙ sym is
 
-pub none_counted : (k : Keeping) → features_of k [] ≡ if_blank k []
+pub none_counted : (k : Keeping) → features_of k [] ≡ if_counted k []
 none_counted Whole = refl
 none_counted Shapes = refl
-none_counted Blank = refl
+none_counted Counted = refl
 
 -- ---- the names of objects
 

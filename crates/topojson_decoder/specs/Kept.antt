@@ -20,7 +20,7 @@ use Rattle.topojson_decoder.specs.ArcEnds.{all_positions, ends}
 use Rattle.topojson_decoder.specs.declared.arc_ends.KeptArcs.{KeptArcs}
 use Rattle.topojson_decoder.specs.declared.collected_features.KeptFeatures.{KeptFeatures}
 use Rattle.topojson_decoder.specs.declared.keeping.Keeping.{Keeping}
-use Rattle.topojson_decoder.specs.declared.keeping.Keeping.TheVariants.{Whole, Shapes, Blank}
+use Rattle.topojson_decoder.specs.declared.keeping.Keeping.TheVariants.{Whole, Shapes, Counted}
 use Rattle.topojson_decoder.specs.declared.named_objects.KeptObjects.{KeptObjects}
 use Rattle.topojson_decoder.specs.declared.object_parts.KeptObject.{KeptObject}
 use Rattle.topojson_decoder.specs.declared.topologies.Parts.{Parts}
@@ -30,7 +30,7 @@ use Rattle.topojson_decoder.specs.declared.topologies.Parts.{Parts}
 abbrev pub of_some : {A : Type 0} → Keeping → A → Option A
 of_some Whole x = Some x
 of_some Shapes x = None
-of_some Blank x = None
+of_some Counted x = None
 
 -- of the identifier or the properties of a feature
 abbrev pub of_option : {A : Type 0} → Keeping → Option A → Option A
@@ -41,7 +41,7 @@ of_option keeping (Some x) = of_some keeping x
 abbrev pub of_shape : Keeping → Option TopoShape → Option TopoShape
 of_shape Whole s = s
 of_shape Shapes s = s
-of_shape Blank s = None
+of_shape Counted s = None
 
 -- of what a part is read as, where it has no fault
 abbrev pub of_read : {A : Type 0} → Keeping → Result (Option A) TopoFault → Result (Option A) TopoFault
@@ -56,7 +56,7 @@ of_feature keeping f = record { id = of_option keeping f.id; properties = of_opt
 abbrev pub listed : Keeping → List TopoFeature → List TopoFeature
 listed Whole fs = fs
 listed Shapes fs = fs
-listed Blank fs = []
+listed Counted fs = []
 
 -- of the features of a collection, and how many these are
 abbrev pub of_features : Keeping → List TopoFeature → List TopoFeature
@@ -81,13 +81,13 @@ abbrev pub held_object : Keeping → TopoObject → KeptObject
 held_object keeping o = record { object = of_object keeping o; features = features_in o }
 
 -- how many each of the objects has, where no features of collections are kept
-abbrev pub if_blank : {A : Type 0} → Keeping → A → Option A
-if_blank Whole x = None
-if_blank Shapes x = None
-if_blank Blank x = Some x
+abbrev pub if_counted : {A : Type 0} → Keeping → A → Option A
+if_counted Whole x = None
+if_counted Shapes x = None
+if_counted Counted x = Some x
 
 abbrev pub features_of : Keeping → List (List ℕ × TopoObject) → Option (List ℕ)
-features_of keeping os = if_blank keeping (map (λ o. features_in o.1) os)
+features_of keeping os = if_counted keeping (map (λ o. features_in o.1) os)
 
 abbrev pub held_objects : Keeping → List (List ℕ × TopoObject) → KeptObjects
 held_objects keeping os = record { list = map (of_named keeping) os; features = features_of keeping os }
@@ -96,10 +96,10 @@ held_objects keeping os = record { list = map (of_named keeping) os; features = 
 abbrev pub of_arcs : Keeping → List (List Point) → List (List Point)
 of_arcs Whole arcs = arcs
 of_arcs Shapes arcs = arcs
-of_arcs Blank arcs = map ends arcs
+of_arcs Counted arcs = map ends arcs
 
 abbrev pub positions_of : Keeping → List (List Point) → Option ℕ
-positions_of keeping arcs = if_blank keeping (all_positions arcs)
+positions_of keeping arcs = if_counted keeping (all_positions arcs)
 
 abbrev pub held_arcs : Keeping → List (List Point) → KeptArcs
 held_arcs keeping arcs = record { list = of_arcs keeping arcs; positions = positions_of keeping arcs }

@@ -8,7 +8,7 @@ use Rattle.topojson_types.specs.declared.object.TopoObject.{TopoObject}
 use Rattle.topojson_meaning.specs.declared.fault.TopoFault.{TopoFault}
 use Rattle.topojson_meaning.specs.Objects as objects
 use Rattle.topojson_meaning.specs.Reader.{Reader, ◌>>=◌, give, each}
-use Rattle.topojson_decoder.specs.Kept.{features_of, held_objects, if_blank, making, of_named}
+use Rattle.topojson_decoder.specs.Kept.{features_of, held_objects, if_counted, making, of_named}
 use Rattle.topojson_decoder.specs.declared.geometry_parts.Start.{Start}
 use Rattle.topojson_decoder.specs.declared.named_objects.KeptObjects.{KeptObjects}
 use Rattle.topojson_decoder.specs.declared.named_objects.NamedObjects.{NamedObjects}
@@ -41,7 +41,7 @@ AreRead start ms os counts (Some failed) = FailsAfter start ms os failed
 pub record AreObjects (start : Start) (d : ℕ) (ms : Members) (occurrence : NamedObjects) : Type 0 where
   pub whole : List (List ℕ × TopoObject)
   pub kept : occurrence.list.items ≡ map (of_named start.keeping) whole
-  pub counted : features_of start.keeping whole ≡ if_blank start.keeping occurrence.features.items
+  pub counted : features_of start.keeping whole ≡ if_counted start.keeping occurrence.features.items
   pub read : AreRead start ms whole occurrence.counts occurrence.failed
 
 -- what is kept of the objects by name with these members

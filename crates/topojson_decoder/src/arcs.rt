@@ -336,7 +336,7 @@ pub(crate) fn kept_arcs_at<'a>(
     ensures { Answers (λ x. x) (kept_arc_list keeping (option_copied transform.entry)) (prefix_value depth_left bytes.now) counts.old counts.new result }
 {
     match keeping {
-        Keeping::Blank => arc_ends_at(alloc, depth_left, transform, bytes, counts),
+        Keeping::Counted => arc_ends_at(alloc, depth_left, transform, bytes, counts),
         Keeping::Whole | Keeping::Shapes => match spelled_arcs_at(
             alloc, depth_left, texts, transform, bytes, counts,
         ) {

@@ -126,7 +126,7 @@ fn list_feature(
 {
     match keeping {
         Keeping::Whole | Keeping::Shapes => list.push(feature)?,
-        Keeping::Blank => drop(feature),
+        Keeping::Counted => drop(feature),
     }
     Ok(())
 }

@@ -171,7 +171,7 @@ impl<'a> FeatureParts<'a> {
                 self.id.see(id);
                 Ok(rest)
             }
-            Keeping::Shapes | Keeping::Blank => {
+            Keeping::Shapes | Keeping::Counted => {
                 let rest = after_value(alloc, depth_left, bytes)?;
                 self.id.see(blank_id(kind_at(bytes)));
                 Ok(rest)
@@ -196,7 +196,7 @@ impl<'a> FeatureParts<'a> {
                 self.properties.see(properties);
                 Ok(rest)
             }
-            Keeping::Shapes | Keeping::Blank => {
+            Keeping::Shapes | Keeping::Counted => {
                 let rest = after_value(alloc, depth_left, bytes)?;
                 self.properties.see(blank_properties(kind_at(bytes)));
                 Ok(rest)

@@ -12,7 +12,7 @@ pub enum Keeping {
     /// The geometries of features, with no identifier and no properties. All that the arcs are.
     Shapes,
     /// How many features there are, and no feature of a collection. Of each arc its ends.
-    Blank,
+    Counted,
 }
 
 impl Keeping {
@@ -24,7 +24,7 @@ impl Keeping {
         match self {
             Keeping::Whole => shape,
             Keeping::Shapes => shape,
-            Keeping::Blank => None,
+            Keeping::Counted => None,
         }
     }
 }

@@ -5,7 +5,7 @@ ghost use Rattle.json_value.specs.Members.{Members as Listed};
 ghost use Rattle.json_cursor.specs.Answers.{Answers};
 ghost use Rattle.json_cursor.specs.Arrays.{prefix_value};
 ghost use Rattle.json_cursor.specs.Names.{name_of};
-ghost use Rattle.topojson_decoder.specs.Kept.{if_blank, kept_objects};
+ghost use Rattle.topojson_decoder.specs.Kept.{if_counted, kept_objects};
 ghost use Rattle.topojson_decoder.specs.Members.{Judges};
 ghost use Rattle.topojson_decoder.specs.NamedObjects.{AreObjects, kept_objects_after};
 ghost use Rattle.topojson_decoder.specs.declared.geometry_parts.Start.{Start as Begun};
@@ -64,22 +64,22 @@ fn owned(alloc: Global, name: Name<'_>) -> Result<OwnText, AllocError>
 
 /// Goes on with how many features one more object has, where that is kept.
 fn count_features(keeping: Keeping, count: u64, features: &mut Vec<u64>) -> Result<(), AllocError>
-    ensures { IfOk result (λ _. if_blank keeping features.new.items ≡ if_blank keeping (features.old.items ++ count ∷ [])) }
+    ensures { IfOk result (λ _. if_counted keeping features.new.items ≡ if_counted keeping (features.old.items ++ count ∷ [])) }
 {
     match keeping {
         Keeping::Whole | Keeping::Shapes => {}
-        Keeping::Blank => features.push(count)?,
+        Keeping::Counted => features.push(count)?,
     }
     Ok(())
 }
 
 /// How many features objects have, where that is kept.
 fn counted_features(keeping: Keeping, features: Vec<u64>) -> Option<Items<u64>>
-    ensures { result ≡ if_blank keeping features.items }
+    ensures { result ≡ if_counted keeping features.items }
 {
     match keeping {
         Keeping::Whole | Keeping::Shapes => None,
-        Keeping::Blank => {
+        Keeping::Counted => {
             let mut features = features;
             features.shrink_to_fit();
             Some(Items::of(features))

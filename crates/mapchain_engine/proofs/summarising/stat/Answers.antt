@@ -1,5 +1,5 @@
 use Rattle.std.proofs.lemmas.Result.{err_from_is_err_and}
-use Rattle.topojson_decoder.specs.declared.keeping.Keeping.TheVariants.{Blank}
+use Rattle.topojson_decoder.specs.declared.keeping.Keeping.TheVariants.{Counted}
 use Rattle.reports.specs.Summaries.{summary_of}
 use Rattle.mapchain_engine.proofs.FilesDecided.{summary_decides, summary_fails}
 use Rattle.mapchain_engine.proofs.summarising.stat.Goals as goal
@@ -12,9 +12,9 @@ returns-in_err-parts-clause-decided g c bytes outcome left comes =
 pub returns-clause-reported : goal.returns-clause-reported
 returns-clause-reported g c =
     let read = c.in_ok-parts.ensures in
-    record { contents = read.contents; counts = read.counts; read = read.read; reported = c.in_ok-summary.ensures Blank read.contents read.kept }
+    record { contents = read.contents; counts = read.counts; read = read.read; reported = c.in_ok-summary.ensures Counted read.contents read.kept }
 
 pub returns-clause-decided : goal.returns-clause-decided
 returns-clause-decided g c bytes outcome left comes =
     let read = c.in_ok-parts.ensures in
-    summary_decides summary_of c.args.source.now c.read_kept.new.source bytes left outcome comes read.contents read.counts _ read.read (c.in_ok-summary.ensures Blank read.contents read.kept)
+    summary_decides summary_of c.args.source.now c.read_kept.new.source bytes left outcome comes read.contents read.counts _ read.read (c.in_ok-summary.ensures Counted read.contents read.kept)

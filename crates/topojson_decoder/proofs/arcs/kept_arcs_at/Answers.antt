@@ -8,8 +8,8 @@ use Rattle.topojson_decoder.specs.Kept.{held_arcs, kept_arc_list}
 use Rattle.topojson_decoder.proofs.KeptParts.{all_held, made}
 use Rattle.topojson_decoder.proofs.arcs.kept_arcs_at.Goals as goal
 
-pub returns-in-Blank : goal.returns-in-Blank
-returns-in-Blank c = rw c.in-Blank.is c.arc_ends_at.ensures
+pub returns-in-Counted : goal.returns-in-Counted
+returns-in-Counted c = rw c.in-Counted.is c.arc_ends_at.ensures
 
 pub returns-in-Err : goal.returns-in-Err
 returns-in-Err c =

@@ -1,7 +1,7 @@
 use Rattle.std.proofs.Common.{[], ◌∷◌, ◌++◌, Err, Ok, ap, sym, ◌∙◌}
 use Rattle.std.specs.Option.{option_copied}
 use Rattle.json_cursor.specs.Names.{name_of}
-use Rattle.topojson_decoder.specs.Kept.{held_object, if_blank, kept_object}
+use Rattle.topojson_decoder.specs.Kept.{held_object, if_counted, kept_object}
 use Rattle.topojson_decoder.specs.NamedObjects.{AreObjects, object}
 use Rattle.topojson_decoder.proofs.KeptParts.{counted_more, unmade, unmade_fault}
 use Rattle.topojson_decoder.proofs.NamedSeen as occurrence
@@ -39,7 +39,7 @@ returns-in_ok-count_features-in-Ok-object c =
         kept = rw (c.in_ok-push-in-Ok-object.ensures.items, c.in_ok-name-2.ensures)
             (occurrence.kept_more with.keeping c.args.self.now.list.items h.whole h.kept (name, c.in-Ok-object.kept.object) (name, read.whole) (ap (λ k. (name, k.object)) read.is));
         counted = counted_more with.keeping h.whole (name, read.whole) c.args.self.now.features.items _ h.counted
-            (c.in_ok-count_features-in-Ok-object.ensures ∙ ap (λ k. if_blank with.keeping (c.args.self.now.features.items ++ k.features ∷ [])) read.is);
+            (c.in_ok-count_features-in-Ok-object.ensures ∙ ap (λ k. if_counted with.keeping (c.args.self.now.features.items ++ k.features ∷ [])) read.is);
         read = occurrence.reads with ms h.whole old name found.0 c.args.self.now.failed (sym c.is_some.ensures ∙ c.if-is_some.false) h.read read.whole new read.reads;
       };
     })

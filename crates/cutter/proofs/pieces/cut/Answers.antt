@@ -4,6 +4,7 @@ use Rattle.cutter.proofs.CleanStarts.{clean_starts}
 use Rattle.cutter.proofs.Joins.{all_split, same_times}
 use Rattle.cutter.proofs.Known.{ready, split_known, structured_splits}
 use Rattle.cutter.proofs.SharedCuts.{AreSplit, all_lines, line_more, next_line}
+use Rattle.cutter.proofs.Unlike.{NoneSet, as_many_flags, flag_more, none_alone}
 use Rattle.cutter.proofs.pieces.cut.Goals as goal
 
 pub split_line-requires : goal.split_line-requires
@@ -35,6 +36,7 @@ loop-i-preserved c =
       split = subst (AreSplit ls (i + 1) new) (sym (c.in_ok-push.ensures.items ∙ ap (λ k. c.loop-i.ends.items ++ (k ∷ [])) n))
           (line_more ls i s t cut c.loop-i.cuts.items new c.loop-i.ends.items h e c.in_ok-split_line.ensures.stroke by (ready ls c.args.vertices.now c.requires s m clean).ends
           c.in_ok-split_line.ensures.cuts c.loop-i.invariant.split);
+      flags = subst (NoneSet ls (i + 1)) (sym c.in_ok-push-2.ensures.items) (flag_more ls i c.loop-i.alone.items h c.loop-i.invariant.flags);
     }
 
 pub invariant_of-result : goal.invariant_of-result
@@ -47,6 +49,8 @@ invariant_of-result c =
       structured_splits ls (split_lines_and_rings c.loop-i.cuts.items 0 c.loop-i.lines_and_rings.items c.loop-i.ends.items) clean r.1,
       subst (λ l. AllSplit l) (sym r.1) (all_split ls clean),
       subst (λ l. AllClean (lines_and_rings l)) (sym r.1) (clean_starts ls clean),
+      as_many_flags ls c.loop-i.lines_and_rings.items c.loop-i.i c.loop-i.alone.items h c.loop-i.invariant.turned c.loop-i.invariant.flags,
+      none_alone ls c.loop-i.i c.loop-i.alone.items (split_lines_and_rings c.loop-i.cuts.items 0 c.loop-i.lines_and_rings.items c.loop-i.ends.items) c.loop-i.invariant.flags,
     )
 
 pub returns-clause-segments : goal.returns-clause-segments

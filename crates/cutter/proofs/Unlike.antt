@@ -1,31 +1,178 @@
 -- Lines of one piece that is alike no other.
-use Rattle.std.proofs.Common.{◌≡◌, ℕ, zero, suc, ◌+◌, ◌<◌, ◌≤◌, Bool, true, false, List, [], ◌∷◌, ◌++◌, length, slice_get, Some, ap, arith}
-use Rattle.cutter.proofs.Names.{length-append, length-map, Replaced, ends, Stroke, is_cut, started, SplitLine}
-use Rattle.cutter.specs.Alone.{AreAlone}
+use Rattle.std.proofs.Common.{◌≡◌, ◌≢◌, ℕ, suc, ◌+◌, ◌<◌, ◌≤◌, Bool, true, false, not, ◌&&◌, List, [], ◌∷◌, ◌++◌, take, length, map, get_or, reverse, slice_get, Some, append-nil, refl, ap, sym, ◌∙◌, subst, arith, inl, inr}
+use Rattle.std.proofs.lemmas.List.Elements.{filter-append}
+use Rattle.owned_values.proofs.Elements.{all_reverse}
+use Rattle.owned_values.proofs.Members.{in_left, in_right}
+use Rattle.junctions.proofs.Members.{from_map, from_flat}
+use Rattle.cutter.proofs.Names.{length-append, length-map, take_all, take_more, Replaced, ends, started, map-append, in_append, all_of, each_of, or-true, same_self, Point, same, Address, Moves, IsClean, AllClean, is_cut, Visit, visits, visits_from, all_visits, visits_at, last, is_end, filter, Stroke, joined, pieces_from, split_at, pieces_of, from_start, In, SplitLine, all_pieces, split_of}
+use Rattle.cutter.proofs.Agreement.{in_start}
+use Rattle.cutter.proofs.OpenPieces.{end_cut}
+use Rattle.cutter.proofs.Starts.{line}
+use Rattle.cutter.proofs.Structured.{clean_in}
+use Rattle.cutter.specs.Alone.{AreAlone, IsUnlike}
 
--- no flag of so many of the lines is set
-pub record NoneSet (ls : List Stroke) (i : ℕ) (flags : List Bool) : Type 0 where
-  pub within : i ≤ length ls
-  pub count : length flags ≡ i
-  pub none : (k : ℕ) → slice_get flags k ≡ Some true → ⊥
+-- ---- lines visit the positions of their pieces
 
-none_more : (flags : List Bool) (k : ℕ) → ((j : ℕ) → slice_get flags j ≡ Some true → ⊥) → slice_get (flags ++ (false ∷ [])) k ≡ Some true → ⊥
-none_more [] zero h e = let bad : ⊥ = cc in bad
-none_more [] (suc k) h e = let bad : ⊥ = cc in bad
-none_more (b ∷ flags) zero h e = h zero e
-none_more (b ∷ flags) (suc k) h e = none_more flags k (λ j. h (suc j)) e
+-- how often a position is visited
+abbrev times_at : Point → List Visit → ℕ
+times_at q vs = length (filter (λ v. same v.here q) vs)
+
+in_last : (p : Point) (ps : List Point) → In (last p ps) (p ∷ ps)
+in_last p [] = inl refl
+in_last p (q ∷ ps) = inr (in_last q ps)
+
+-- each position of a list that goes on is visited, but for the first
+visited_on : (q a b : Point) (ps : List Point) (z : Point) → In q (b ∷ ps) → 1 ≤ times_at q (visits_from a b (ps ++ (z ∷ [])))
+visited_on q a b [] z k = grind (arith, same_self)
+visited_on q a b (c ∷ ps) z k = grind (arith, same_self, visited_on q b c ps z)
+
+-- .. and of one that ends there each but the last
+visited_between : (q a b : Point) (ps : List Point) → In q (b ∷ ps) → q ≢ last b ps → 1 ≤ times_at q (visits_from a b ps)
+visited_between q a b [] k n = grind arith
+visited_between q a b (c ∷ ps) k n = grind (arith, same_self, visited_between q b c ps)
+
+-- a line visits each of its positions at which it isn't cut
+visited : (ls : List Stroke) (at : Address) (c : Bool) (ps : List Point) (q : Point) → In (line at c ps) ls → IsClean (line at c ps) → is_cut ls q ≡ false → In q ps → 1 ≤ times_at q (visits (line at c ps))
+visited ls at c [] q m h f k = elim h [ ]
+visited ls at c (p ∷ []) q m h f k = elim h [ ]
+visited ls at false (p ∷ (r ∷ ps)) q m h f k =
+    let no : is_end q (p ∷ (r ∷ ps)) ≡ true → ⊥ = λ e. (let bad : true ≡ false = sym (end_cut ls (line at false (p ∷ (r ∷ ps))) q m e) ∙ f in cc) in
+    subst (λ l. 1 ≤ times_at q (visits_from p r l)) (sym (append-nil ps))
+    (visited_between q p r ps
+    (elim k [ inl e ↦ absurd (no (grind (arith, same_self, e))) | inr i ↦ i ])
+    (λ e. no (grind (arith, same_self, or-true, e))))
+visited ls at true (p ∷ (r ∷ ps)) q m h f k =
+    visited_on q p r ps r (elim k [ inl e ↦ subst (λ x. In x (r ∷ ps)) (h.1 refl ∙ sym e) (in_last r ps) | inr i ↦ i ])
+
+-- pieces have no other positions than what is split
+in_joined : (b : Bool) (p q : Point) (pieces : List (List Point)) (ps x : List Point) (z : Point) → ((y : List Point) → In y pieces → In z y → In z (q ∷ ps)) → In x (joined b p q pieces) → In z x → In z (p ∷ (q ∷ ps))
+in_joined b p q pieces ps x z h m k = grind arith
+
+in_pieces : (cut : Point → Bool) (p : Point) (ps x : List Point) (z : Point) → In x (pieces_from cut p ps) → In z x → In z (p ∷ ps)
+in_pieces cut p [] x z m k = elim m [ ]
+in_pieces cut p (q ∷ ps) x z m k = in_joined (cut q) p q (pieces_from cut q ps) ps x z (λ y. in_pieces cut q ps y z) m k
+
+in_split : (cut : Point → Bool) (ps x : List Point) (z : Point) → In x (split_at cut ps) → In z x → In z ps
+in_split cut [] x z m k = elim m [ ]
+in_split cut (p ∷ ps) x z m k = in_pieces cut p ps x z m k
+
+module _ (ls : List Stroke) (clean : AllClean ls) (q : Point) (free : is_cut ls q ≡ false) where
+  -- a line with such a piece visits the position
+  has_visit : (s : Stroke) (x : List Point) → In s ls → In x (pieces_of ls s) → In q x → 1 ≤ times_at q (visits s)
+  has_visit s x m i k =
+      visited ls s.address s.closed s.positions q m (clean_in s ls clean m) free
+      (in_start (is_cut ls) s.address s.closed s.positions q (in_split (is_cut ls) (from_start (is_cut ls) s) x q i k))
+
+-- ---- two lines visit it twice
+
+more_visits : (q : Point) (s : Stroke) (ms : List Stroke) → times_at q (all_visits (s ∷ ms)) ≡ times_at q (visits s) + times_at q (all_visits ms)
+more_visits q s ms = ap length (filter-append (λ v. same v.here q) (visits s) (all_visits ms)) ∙ length-append (filter (λ v. same v.here q) (visits s)) (filter (λ v. same v.here q) (all_visits ms))
+
+seen : (q : Point) (s : Stroke) (ms : List Stroke) → In s ms → 1 ≤ times_at q (visits s) → 1 ≤ times_at q (all_visits ms)
+seen q s [] m h = elim m [ ]
+seen q s (t ∷ ms) (inl e) h = omega (arith, more_visits q t ms, subst (λ r. 1 ≤ times_at q (visits r)) e h)
+seen q s (t ∷ ms) (inr m) h = omega (arith, more_visits q t ms, seen q s ms m h)
+
+seen_twice : (q : Point) (before after : List Stroke) (s t : Stroke) → In t (before ++ after) → 1 ≤ times_at q (visits s) → 1 ≤ times_at q (visits t) → 2 ≤ times_at q (all_visits (before ++ (s ∷ after)))
+seen_twice q [] after s t m h k = omega (arith, more_visits q s after, h, seen q t after m k)
+seen_twice q (r ∷ before) after s t (inl e) h k =
+    omega (arith, more_visits q r (before ++ (s ∷ after)), subst (λ x. 1 ≤ times_at q (visits x)) e k, seen q s (before ++ (s ∷ after)) (in_right s before (s ∷ after) (inl refl)) h)
+seen_twice q (r ∷ before) after s t (inr m) h k = omega (arith, more_visits q r (before ++ (s ∷ after)), seen_twice q before after s t m h k)
+
+-- ---- flags
+
+-- the piece has a position that is no cut position and is visited once at most
+pub record IsMarked (ls : List Stroke) (x : List Point) : Type 0 where
+  pub q : Point
+  pub has : In q x
+  pub free : is_cut ls q ≡ false
+  pub once : length (visits_at ls q) ≤ 1
+
+-- there is a flag for each line, and the pieces of one whose flag is set have such a position
+abbrev pub AreMarked : List Stroke → List Stroke → List Bool → Type 0
+AreMarked ls [] [] = Unit {0}
+AreMarked ls [] (b ∷ flags) = ⊥
+AreMarked ls (s ∷ ms) [] = ⊥
+AreMarked ls (s ∷ ms) (b ∷ flags) = (b ≡ true → (x : List Point) → In x (pieces_of ls s) → IsMarked ls x) × AreMarked ls ms flags
+
+as_many_flags : (ls ms : List Stroke) (flags : List Bool) → AreMarked ls ms flags → length flags ≡ length ms
+as_many_flags ls [] [] h = refl
+as_many_flags ls [] (b ∷ flags) h = elim h [ ]
+as_many_flags ls (s ∷ ms) [] h = elim h [ ]
+as_many_flags ls (s ∷ ms) (b ∷ flags) h = ap suc (as_many_flags ls ms flags h.1)
 
 -- one line more
-pub flag_more : (ls : List Stroke) (i : ℕ) (flags : List Bool) → i < length ls → NoneSet ls i flags → NoneSet ls (i + 1) (flags ++ (false ∷ []))
-flag_more ls i flags w h = record {
-  within = omega (arith, w);
-  count = omega (arith, length-append flags (false ∷ []), h.count);
-  none = λ k. none_more flags k h.none;
-}
+flag_more : (ls ms : List Stroke) (flags : List Bool) (s : Stroke) (b : Bool) → AreMarked ls ms flags → (b ≡ true → (x : List Point) → In x (pieces_of ls s) → IsMarked ls x) → AreMarked ls (ms ++ (s ∷ [])) (flags ++ (b ∷ []))
+flag_more ls [] [] s b h k = (k, tt)
+flag_more ls [] (c ∷ flags) s b h k = elim h [ ]
+flag_more ls (t ∷ ms) [] s b h k = elim h [ ]
+flag_more ls (t ∷ ms) (c ∷ flags) s b h k = (h.0, flag_more ls ms flags s b h.1 k)
 
-pub none_alone : (ls : List Stroke) (i : ℕ) (flags : List Bool) (ss : List SplitLine) → NoneSet ls i flags → AreAlone flags ss
-none_alone ls i flags ss h before after s e f = absurd (h.none (length before) f)
+pub flag_next : (ls : List Stroke) (i : ℕ) (flags : List Bool) (s : Stroke) (b : Bool) → i < length ls → s ≡ get_or ls i s → AreMarked ls (take i ls) flags → (b ≡ true → (x : List Point) → In x (pieces_of ls s) → IsMarked ls x) →
+    AreMarked ls (take (i + 1) ls) (flags ++ (b ∷ []))
+flag_next ls i flags s b h e so k = subst (λ l. AreMarked ls l (flags ++ (b ∷ []))) (sym (take_more ls i s h ∙ ap (λ z. take i ls ++ (z ∷ [])) (sym e))) (flag_more ls (take i ls) flags s b so k)
 
--- as many flags as lines
-pub as_many_flags : (ls ss : List Stroke) (i : ℕ) (flags : List Bool) → length ls ≤ i → Replaced (started (is_cut ls)) ls i ss → NoneSet ls i flags → length flags ≡ length ss
-as_many_flags ls ss i flags h so n = omega (arith, h, n.within, n.count, ap length (ends (started (is_cut ls)) ls i ss h so), length-map ls (started (is_cut ls)))
+-- the lines before and after the one at a place
+record IsBetween (f : Stroke → SplitLine) (ls : List Stroke) (before after : List SplitLine) (s : SplitLine) : Type 0 where
+  first : List Stroke
+  here : Stroke
+  rest : List Stroke
+  whole : ls ≡ first ++ (here ∷ rest)
+  before_is : before ≡ map f first
+  here_is : s ≡ f here
+  after_is : after ≡ map f rest
+
+between : (f : Stroke → SplitLine) (ls : List Stroke) (before after : List SplitLine) (s : SplitLine) → map f ls ≡ before ++ (s ∷ after) → IsBetween f ls before after s
+between f [] [] after s e = cc
+between f [] (b ∷ before) after s e = cc
+between f (l ∷ ls) [] after s e = record { first = []; here = l; rest = ls; whole = refl; before_is = refl; here_is = cc; after_is = cc }
+between f (l ∷ ls) (b ∷ before) after s e =
+    let r = between f ls before after s (cc) in
+    let head : b ≡ f l = cc in
+    record {
+      first = l ∷ r.first;
+      here = r.here;
+      rest = r.rest;
+      whole = ap (λ z. l ∷ z) r.whole;
+      before_is = ap (λ z. z ∷ before) head ∙ ap (λ z. f l ∷ z) r.before_is;
+      here_is = r.here_is;
+      after_is = r.after_is;
+    }
+
+flag_here : (ls : List Stroke) (first rest : List Stroke) (s : Stroke) (flags : List Bool) → AreMarked ls (first ++ (s ∷ rest)) flags → slice_get flags (length first) ≡ Some true → (x : List Point) → In x (pieces_of ls s) → IsMarked ls x
+flag_here ls [] rest s [] h e = elim h [ ]
+flag_here ls [] rest s (b ∷ flags) h e = h.0 (cc)
+flag_here ls (t ∷ first) rest s [] h e = elim h [ ]
+flag_here ls (t ∷ first) rest s (b ∷ flags) h e = flag_here ls first rest s flags h.1 e
+
+in_reverse : (z : Point) (y : List Point) → In z (reverse y) → In z y
+in_reverse z y k = each_of (λ p. In p y) (reverse y) z (all_reverse (λ p. In p y) y (all_of (λ p. In p y) y (λ p m. m))) k
+
+-- a line whose flag is set is alike no other: where it were, both lines would visit the position
+marked_alone : (ls : List Stroke) (flags : List Bool) → AllClean ls → AreMarked ls ls flags → AreAlone flags (map (split_of ls) ls)
+marked_alone ls flags clean marked before after s e f x m y k =
+    let r = between (split_of ls) ls before after s e in
+    let i : In x (pieces_of ls r.here) = subst (λ l. In x l.pieces) r.here_is m in
+    let n : length before ≡ length r.first = ap length r.before_is ∙ length-map r.first (split_of ls) in
+    let w = flag_here ls r.first r.rest r.here flags (subst (λ l. AreMarked ls l flags) r.whole marked) (ap (slice_get flags) (sym n) ∙ f) x i in
+    let others : before ++ after ≡ map (split_of ls) (r.first ++ r.rest) = ap (λ l. l ++ after) r.before_is ∙ ap (λ l. map (split_of ls) r.first ++ l) r.after_is ∙ sym (map-append (split_of ls) r.first r.rest) in
+    let u = from_flat (λ t. t.pieces) y (before ++ after) k in
+    let t = from_map (split_of ls) u.0 (r.first ++ r.rest) (subst (λ l. In u.0 l) others u.1) in
+    let j : In y (pieces_of ls t.0) = subst (λ l. In y l.pieces) t.2 u.2 in
+    let here : In r.here ls = subst (In r.here) (sym r.whole) (in_right r.here r.first (r.here ∷ r.rest) (inl refl)) in
+    let there : In t.0 ls = subst (In t.0) (sym r.whole) (elim (in_append t.0 r.first r.rest t.1) [ inl z ↦ in_left t.0 r.first (r.here ∷ r.rest) z | inr z ↦ in_right t.0 r.first (r.here ∷ r.rest) (inr z) ]) in
+    let no : In w.q y → ⊥ = λ z.
+    absurd (omega (
+      arith,
+      w.once,
+      subst (λ l. 2 ≤ times_at w.q (all_visits l)) (sym r.whole)
+          (seen_twice w.q r.first r.rest r.here t.0 t.1 (has_visit ls clean w.q w.free r.here x here i w.has) (has_visit ls clean w.q w.free t.0 y there j z)),
+    )) in
+    (λ same. no (subst (In w.q) same w.has), λ back. no (in_reverse w.q y (subst (In w.q) back w.has)))
+
+-- all flags are there
+pub flags_alone : (ls ss : List Stroke) (i : ℕ) (flags : List Bool) → length ls ≤ i → AllClean ls → Replaced (started (is_cut ls)) ls i ss → AreMarked ls (take i ls) flags →
+    (length flags ≡ length ss) × AreAlone flags (map (split_of ls) ls)
+flags_alone ls ss i flags h clean so marked =
+    let all : AreMarked ls ls flags = subst (λ l. AreMarked ls l flags) (take_all i ls h) marked in
+    (as_many_flags ls ls flags all ∙ sym (ap length (ends (started (is_cut ls)) ls i ss h so) ∙ length-map ls (started (is_cut ls))), marked_alone ls flags clean all)

@@ -14,12 +14,12 @@ pub use Rattle.geometry.specs.Order.{is_least, is_before, least_of}
 pub use Rattle.geometry.specs.Points.{Point}
 unfoldable pub use Rattle.geometry.specs.Rings.{same, is_closed, is_ring}
 pub use Rattle.junctions.specs.Among.{In}
-pub use Rattle.junctions.specs.Answers.{AnswersFor, is_member}
+pub use Rattle.junctions.specs.Answers.{Answers, AnswersFor, is_member}
 pub use Rattle.junctions.specs.Cleaning.{clean, clean_from, is_short, Moves, IsClean, IsCleanList, AllClean}
 pub use Rattle.junctions.specs.Cuts.{is_cut, starts_free_ring}
-pub use Rattle.junctions.specs.Kept.{passed, at_junction, at_cut, junction_at, cut_at, chosen, kept_of, with_number}
+pub use Rattle.junctions.specs.Kept.{passed, at_junction, at_cut, at_once, junction_at, cut_at, once_at, chosen, kept_of, with_number}
 pub use Rattle.junctions.specs.Reading.{AreNumbers, Represents, AllRepresent, Adds, AreClassified, all_ends, beside, line_ends, line_visits, turns, with_position, with_positions}
-pub use Rattle.junctions.specs.Visits.{Visit, all_visits, ends_open, first_seen, inner_visits, is_end, is_junction, is_position_of, last, positions, visits, distinct, visits_from}
+pub use Rattle.junctions.specs.Visits.{Visit, all_visits, ends_open, first_seen, inner_visits, is_end, is_junction, is_position_of, last, positions, visits, distinct, visits_at, visits_from}
 pub use Rattle.junctions.specs.declared.stroke.Stroke.{Stroke}
 pub use Rattle.junctions.specs.declared.vertex.Vertex.{Vertex}
-pub use Rattle.junctions.specs.declared.vertex.Vertex.TheVariants.{Unvisited, Junction, RingStart, Between}
+pub use Rattle.junctions.specs.declared.vertex.Vertex.TheVariants.{Unvisited, Once, Between, Junction, RingStart}

@@ -1,6 +1,6 @@
 -- What is kept of one position, with one visit more.
 use Rattle.std.proofs.Common.{◌≡◌, ℕ, ◌≤◌, Bool, true, false, cond, ◌==◌, not, ◌||◌, List, [], ◌∷◌, ◌++◌, map, length, nat_eq, nat_le, slice_get, Some, ◌⊎◌, inl, inr, refl, ap, sym, ◌∙◌, subst, arith}
-use Rattle.junctions.proofs.Names.{or-true, nat_tests, length-append, map-append, list_any, AreDistinct, same_is, same_self, Point, same, at_cut, at_junction, kept_of, passed, with_number, AreNumbers, Represents, with_position, with_positions, distinct, Vertex, Unvisited, Between, Junction, RingStart}
+use Rattle.junctions.proofs.Names.{or-true, nat_tests, length-append, map-append, list_any, AreDistinct, same_is, same_self, Point, same, at_cut, at_junction, at_once, kept_of, passed, with_number, AreNumbers, Represents, with_position, with_positions, distinct, Vertex, Unvisited, Once, Between, Junction, RingStart}
 use Rattle.junctions.proofs.Cleaned.{same_sym}
 use Rattle.junctions.proofs.Counting.{as_many_distinct}
 use Rattle.junctions.proofs.FirstSeen.{positions_append, seen_member}
@@ -91,6 +91,25 @@ says_visit ks xs ns a b p q d e f are =
     (one_more ks (with_number xs a) (with_position (with_positions [] ns) p) b q d f (one_more ks xs (with_positions [] ns) a p d e (inl are))))
     (among ns p q p (grind (arith, same_self p))) (among ns p q q (grind (arith, same_self q, or-true))))
 
+-- the first visit of a position
+says_first : (ks : List Point) (a b : ℕ) (p q : Point) → AreDistinct ks → slice_get ks a ≡ Some p → slice_get ks b ≡ Some q → Represents ks (passed Unvisited a b) (p ∷ (q ∷ [])) (same p q) false
+says_first ks a b p q d e f = subst (λ s. Represents ks (cond s Junction (Once a b)) (p ∷ (q ∷ [])) (same p q) false) (sym (same_number ks a b p q d e f)) (on (same p q) refl)
+  where
+    on : (s : Bool) → same p q ≡ s → Represents ks (cond s Junction (Once a b)) (p ∷ (q ∷ [])) s false
+    on true g = refl
+    on false g =
+        let two : with_positions [] (p ∷ (q ∷ [])) ≡ p ∷ (q ∷ []) = ap (λ t. cond (t || false) (p ∷ []) (p ∷ (q ∷ []))) (same_sym q p ∙ g) in
+        let are : AreNumbers ks (a ∷ (b ∷ [])) (p ∷ (q ∷ [])) = cc in
+        (refl, subst (AreNumbers ks (a ∷ (b ∷ []))) (sym two) are, refl, refl)
+
+-- one visit more of a position that was visited between two
+says_again : (ks : List Point) (c k : ℕ) (ns : List Point) (turns ends : Bool) (a b : ℕ) (p q : Point) → AreDistinct ks → slice_get ks a ≡ Some p → slice_get ks b ≡ Some q →
+    AreNumbers ks (c ∷ (k ∷ [])) (with_positions [] ns) → turns ≡ false → ends ≡ false → Represents ks (passed (Between c k) a b) (ns ++ (p ∷ (q ∷ []))) (turns || same p q) ends
+says_again ks c k ns turns ends a b p q d e f are t z =
+    subst (λ t. Represents ks (passed (Between c k) a b) (ns ++ (p ∷ (q ∷ []))) (t || same p q) ends) (sym t)
+    (subst (Represents ks (passed (Between c k) a b) (ns ++ (p ∷ (q ∷ []))) (same p q)) (sym z)
+    (says_visit ks (c ∷ (k ∷ [])) ns a b p q d e f are))
+
 -- ---- what is kept
 
 -- one visit more
@@ -99,11 +118,10 @@ pub says_pass : (ks : List Point) (v : Vertex) (ns : List Point) (turns ends : B
 says_pass ks Unvisited ns turns ends a b p q d e f (n, t, z) =
     subst (λ t. Represents ks (passed Unvisited a b) (ns ++ (p ∷ (q ∷ []))) (t || same p q) ends) (sym t)
     (subst (Represents ks (passed Unvisited a b) (ns ++ (p ∷ (q ∷ []))) (same p q)) (sym z)
-    (says_visit ks [] ns a b p q d e f (sym (ap (λ l. map Some (with_positions [] l)) n))))
-says_pass ks (Between c k) ns turns ends a b p q d e f (are, t, z) =
-    subst (λ t. Represents ks (passed (Between c k) a b) (ns ++ (p ∷ (q ∷ []))) (t || same p q) ends) (sym t)
-    (subst (Represents ks (passed (Between c k) a b) (ns ++ (p ∷ (q ∷ []))) (same p q)) (sym z)
-    (says_visit ks (c ∷ (k ∷ [])) ns a b p q d e f are))
+    (subst (λ l. Represents ks (passed Unvisited a b) (l ++ (p ∷ (q ∷ []))) (same p q) false) (sym n)
+    (says_first ks a b p q d e f)))
+says_pass ks (Once c k) ns turns ends a b p q d e f (two, are, t, z) = says_again ks c k ns turns ends a b p q d e f are t z
+says_pass ks (Between c k) ns turns ends a b p q d e f (are, t, z) = says_again ks c k ns turns ends a b p q d e f are t z
 says_pass ks Junction ns turns ends a b p q d e f s = on ends turns s
   where
     more : 3 ≤ length (with_positions [] ns) → 3 ≤ length (with_positions [] (ns ++ (p ∷ (q ∷ []))))
@@ -122,6 +140,7 @@ junction_kept ks v ns turns ends h = on v (length (distinct ns)) (as_many_distin
   where
     on : (v : Vertex) (n : ℕ) → length (with_positions [] ns) ≡ n → Represents ks v ns turns ends → (at_junction v ≡ (ends || (turns || not (n == 2)))) × (at_cut v ≡ (ends || (turns || not (n == 2))))
     on Unvisited n m (e, t, z) = let none : 0 ≡ n = sym (ap (λ l. length (with_positions [] l)) e) ∙ m in grind (arith, nat_tests, none, or-true)
+    on (Once a b) n m (l, are, t, z) = let two : 2 ≡ n = as_many ks (a ∷ (b ∷ [])) (with_positions [] ns) are ∙ m in grind (arith, nat_tests, two)
     on (Between a b) n m (are, t, z) = let two : 2 ≡ n = as_many ks (a ∷ (b ∷ [])) (with_positions [] ns) are ∙ m in grind (arith, nat_tests, two)
     on Junction n m s = both ends turns s
       where
@@ -130,3 +149,11 @@ junction_kept ks v ns turns ends h = on v (length (distinct ns)) (as_many_distin
         both false true s = (refl, refl)
         both false false s = grind (arith, nat_tests, m)
     on RingStart n m s = absurd s
+
+-- what is kept as visited once has two neighbors
+pub once_kept : (ks : List Point) (v : Vertex) (ns : List Point) (turns ends : Bool) → Represents ks v ns turns ends → at_once v ≡ true → length ns ≡ 2
+once_kept ks (Once a b) ns turns ends (two, are, t, z) h = two
+once_kept ks Unvisited ns turns ends s h = cc
+once_kept ks (Between a b) ns turns ends s h = cc
+once_kept ks Junction ns turns ends s h = cc
+once_kept ks RingStart ns turns ends s h = cc

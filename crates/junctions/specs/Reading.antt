@@ -1,13 +1,13 @@
 -- What lines say of a position as they are read, and what is kept of that.
-use Rattle.std.specs.Prelude.{◌≡◌, ℕ, Bool, true, false, ◌||◌, nat_le, List, [], ◌∷◌, ◌++◌, map, take, drop, length, slice_get, Some, if◌then◌else◌}
+use Rattle.std.specs.Prelude.{◌≡◌, ◌≤◌, ℕ, Bool, true, false, ◌||◌, nat_le, List, [], ◌∷◌, ◌++◌, map, take, drop, length, slice_get, Some, if◌then◌else◌}
 use Rattle.std.specs.List.{filter, flat_map, list_any}
 use Rattle.geometry.specs.Points.{Point}
 use Rattle.geometry.specs.Rings.{same}
-use Rattle.junctions.specs.Kept.{at_junction, at_cut}
+use Rattle.junctions.specs.Kept.{at_junction, at_cut, at_once}
 use Rattle.junctions.specs.declared.stroke.Stroke.{Stroke}
 use Rattle.junctions.specs.declared.vertex.Vertex.{Vertex}
-use Rattle.junctions.specs.declared.vertex.Vertex.TheVariants.{Unvisited, Between, Junction, RingStart}
-use Rattle.junctions.specs.Visits.{Visit, inner_visits, last, is_junction}
+use Rattle.junctions.specs.declared.vertex.Vertex.TheVariants.{Unvisited, Once, Between, Junction, RingStart}
+use Rattle.junctions.specs.Visits.{Visit, inner_visits, last, is_junction, visits_at}
 
 -- ---- positions by their numbers
 
@@ -53,6 +53,7 @@ all_ends ls = flat_map (λ s. line_ends s.closed s.positions) ls
 -- given by their places among these positions
 abbrev pub Represents : List Point → Vertex → List Point → Bool → Bool → Type 0
 Represents ks Unvisited ns turns ends = (ns ≡ []) × (turns ≡ false) × (ends ≡ false)
+Represents ks (Once a b) ns turns ends = (length ns ≡ 2) × AreNumbers ks (a ∷ (b ∷ [])) (with_positions [] ns) × (turns ≡ false) × (ends ≡ false)
 Represents ks (Between a b) ns turns ends = AreNumbers ks (a ∷ (b ∷ [])) (with_positions [] ns) × (turns ≡ false) × (ends ≡ false)
 Represents ks Junction ns turns ends = (ends || (turns || nat_le 3 (length (with_positions [] ns)))) ≡ true
 Represents ks RingStart ns turns ends = ⊥
@@ -66,8 +67,10 @@ pub record AllRepresent (ks : List Point) (vs : List Vertex) (visits : List Visi
 abbrev pub Adds : List Point → List Vertex → List Vertex → List Visit → List Point → Type 0
 Adds ks old new visits ends = (read : List Visit) (ended : List Point) → AllRepresent ks old read ended → AllRepresent ks new (read ++ visits) (ended ++ ends)
 
--- of each of the positions it is kept whether it is a junction of the lines, and whether lines are cut there: at junctions, and where the test passes
+-- of each of the positions it is kept whether it is a junction of the lines, and whether lines are cut there: at junctions, and where the test passes.
+-- One that is kept as visited once has no other visit
 pub record AreClassified (ls : List Stroke) (starts : Point → Bool) (ks : List Point) (vs : List Vertex) : Type 0 where
   pub size : length vs ≡ length ks
   pub junctions : (i : ℕ) (p : Point) (v : Vertex) → slice_get ks i ≡ Some p → slice_get vs i ≡ Some v → at_junction v ≡ is_junction ls p
   pub cuts : (i : ℕ) (p : Point) (v : Vertex) → slice_get ks i ≡ Some p → slice_get vs i ≡ Some v → at_cut v ≡ (is_junction ls p || starts p)
+  pub once : (i : ℕ) (p : Point) (v : Vertex) → slice_get ks i ≡ Some p → slice_get vs i ≡ Some v → at_once v ≡ true → length (visits_at ls p) ≤ 1

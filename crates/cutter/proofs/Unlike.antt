@@ -1,15 +1,19 @@
 -- Lines of one piece that is alike no other.
-use Rattle.std.proofs.Common.{◌≡◌, ◌≢◌, ℕ, suc, ◌+◌, ◌<◌, ◌≤◌, Bool, true, false, not, ◌&&◌, List, [], ◌∷◌, ◌++◌, take, length, map, get_or, reverse, slice_get, Some, append-nil, refl, ap, sym, ◌∙◌, subst, arith, inl, inr}
+use Rattle.std.proofs.Common.{◌≡◌, ◌≢◌, ℕ, suc, ◌+◌, ◌<◌, ◌≤◌, Bool, true, false, cond, List, [], ◌∷◌, ◌++◌, take, length, map, get_or, reverse, slice_get, Some, append-nil, refl, ap, sym, ◌∙◌, subst, arith, inl, inr}
 use Rattle.std.proofs.lemmas.List.Elements.{filter-append}
 use Rattle.owned_values.proofs.Elements.{all_reverse}
 use Rattle.owned_values.proofs.Members.{in_left, in_right}
 use Rattle.junctions.proofs.Members.{from_map, from_flat}
-use Rattle.cutter.proofs.Names.{length-append, length-map, take_all, take_more, Replaced, ends, started, map-append, in_append, all_of, each_of, or-true, same_self, Point, same, Address, Moves, IsClean, AllClean, is_cut, Visit, visits, visits_from, all_visits, visits_at, last, is_end, filter, Stroke, joined, pieces_from, split_at, pieces_of, from_start, In, SplitLine, all_pieces, split_of}
+use Rattle.cutter.proofs.Names.{length-append, length-map, take_all, take_more, Replaced, ends, started, map-append, in_append, all_of, each_of, or-true, same_self, Point, same, Address, IsClean, AllClean, is_cut, Visit, visits, visits_from, all_visits, visits_at, last, is_end, filter, Stroke, joined, pieces_from, split_at, pieces_of, from_start, In, SplitLine, split_of, Answers, AnswersFor, is_member, EndsPass, indexes, slices, stitched}
 use Rattle.cutter.proofs.Agreement.{in_start}
+use Rattle.cutter.proofs.Joins.{line_or_ring_split}
+use Rattle.cutter.proofs.Known.{cuts_known, ready, split_known, split_view}
 use Rattle.cutter.proofs.OpenPieces.{end_cut}
+use Rattle.cutter.proofs.SliceLaws.{some_place, whole_slice}
 use Rattle.cutter.proofs.Starts.{line}
 use Rattle.cutter.proofs.Structured.{clean_in}
-use Rattle.cutter.specs.Alone.{AreAlone, IsUnlike}
+use Rattle.cutter.specs.Alone.{AreAlone}
+use Rattle.cutter.specs.Known.{GoesOnceThroughSecond}
 
 -- ---- lines visit the positions of their pieces
 
@@ -56,12 +60,11 @@ in_split : (cut : Point → Bool) (ps x : List Point) (z : Point) → In x (spli
 in_split cut [] x z m k = elim m [ ]
 in_split cut (p ∷ ps) x z m k = in_pieces cut p ps x z m k
 
-module _ (ls : List Stroke) (clean : AllClean ls) (q : Point) (free : is_cut ls q ≡ false) where
-  -- a line with such a piece visits the position
-  has_visit : (s : Stroke) (x : List Point) → In s ls → In x (pieces_of ls s) → In q x → 1 ≤ times_at q (visits s)
-  has_visit s x m i k =
-      visited ls s.address s.closed s.positions q m (clean_in s ls clean m) free
-      (in_start (is_cut ls) s.address s.closed s.positions q (in_split (is_cut ls) (from_start (is_cut ls) s) x q i k))
+-- a line visits each position of its pieces at which it isn't cut
+has_visit : (ls : List Stroke) → AllClean ls → (q : Point) → is_cut ls q ≡ false → (s : Stroke) (x : List Point) → In s ls → In x (pieces_of ls s) → In q x → 1 ≤ times_at q (visits s)
+has_visit ls clean q free s x m i k =
+    visited ls s.address s.closed s.positions q m (clean_in s ls clean m) free
+    (in_start (is_cut ls) s.address s.closed s.positions q (in_split (is_cut ls) (from_start (is_cut ls) s) x q i k))
 
 -- ---- two lines visit it twice
 
@@ -127,9 +130,12 @@ between f [] [] after s e = cc
 between f [] (b ∷ before) after s e = cc
 between f (l ∷ ls) [] after s e = record { first = []; here = l; rest = ls; whole = refl; before_is = refl; here_is = cc; after_is = cc }
 between f (l ∷ ls) (b ∷ before) after s e =
-    let r = between f ls before after s (cc) in
     let head : b ≡ f l = cc in
-    record {
+    let tails : map f ls ≡ before ++ (s ∷ after) = cc in
+    behind (between f ls before after s tails) head
+  where
+    behind : IsBetween f ls before after s → b ≡ f l → IsBetween f (l ∷ ls) (b ∷ before) after s
+    behind r head = record {
       first = l ∷ r.first;
       here = r.here;
       rest = r.rest;
@@ -141,7 +147,7 @@ between f (l ∷ ls) (b ∷ before) after s e =
 
 flag_here : (ls : List Stroke) (first rest : List Stroke) (s : Stroke) (flags : List Bool) → AreMarked ls (first ++ (s ∷ rest)) flags → slice_get flags (length first) ≡ Some true → (x : List Point) → In x (pieces_of ls s) → IsMarked ls x
 flag_here ls [] rest s [] h e = elim h [ ]
-flag_here ls [] rest s (b ∷ flags) h e = h.0 (cc)
+flag_here ls [] rest s (b ∷ flags) h e = h.0 cc
 flag_here ls (t ∷ first) rest s [] h e = elim h [ ]
 flag_here ls (t ∷ first) rest s (b ∷ flags) h e = flag_here ls first rest s flags h.1 e
 
@@ -176,3 +182,42 @@ pub flags_alone : (ls ss : List Stroke) (i : ℕ) (flags : List Bool) → length
 flags_alone ls ss i flags h clean so marked =
     let all : AreMarked ls ls flags = subst (λ l. AreMarked ls l flags) (take_all i ls h) marked in
     (as_many_flags ls ls flags all ∙ sym (ap length (ends (started (is_cut ls)) ls i ss h so) ∙ length-map ls (started (is_cut ls))), marked_alone ls flags clean all)
+
+-- ---- what vertices know of the pieces of a line
+
+-- of a list that is cut at its ends alone the second position is no cut position
+second_free : (cut : Point → Bool) (p q r : Point) (ps : List Point) → cut p ≡ true → cut (last r ps) ≡ true → length (indexes cut 0 (p ∷ (q ∷ (r ∷ ps)))) ≡ 2 → cut q ≡ false
+second_free cut p q r ps h k n = on (cut q) (indexes cut 2 (r ∷ ps)) refl (some_place cut 2 r ps k) (sym (ap (λ b. length (cond b (0 ∷ indexes cut 1 (q ∷ (r ∷ ps))) (indexes cut 1 (q ∷ (r ∷ ps))))) h) ∙ n)
+  where
+    on : (b : Bool) (is : List ℕ) → cut q ≡ b → is ≢ [] → suc (length (cond b (1 ∷ is) is)) ≡ 2 → cut q ≡ false
+    on false is e m n = e
+    on true [] e m n = absurd (m refl)
+    on true (i ∷ is) e m n = absurd (omega (arith, n))
+
+-- a line that is cut at its ends alone and goes once through its second position has one piece, in which that stands
+pub second_marks : (ls : List Stroke) (v : Answers) → AnswersFor ls v → AllClean ls → (s t : Stroke) → In s ls → t ≡ started (is_member v.cuts) s → length (indexes (is_member v.cuts) 0 t.positions) ≡ 2 → GoesOnceThroughSecond v.once t.positions →
+    (x : List Point) → In x (pieces_of ls s) → IsMarked ls x
+second_marks ls v known clean s t m st n goes x i =
+    let cut = is_member v.cuts in
+    let is = indexes cut 0 t.positions in
+    let by = split_known ls v known s m in
+    let pass = (ready ls v known s m clean).ends in
+    let made : slices t.positions is ≡ pieces_of ls s = ap (λ z. z.pieces) (split_view cut s t is st refl pass ∙ by) in
+    let from : t.positions ≡ from_start (is_cut ls) s = ap (λ z. z.positions) st ∙ ap (λ z. z.stroke.positions) by in
+    let joins = ap stitched made ∙ (line_or_ring_split ls s m (clean_in s ls clean m)).joins ∙ sym from in
+    let whole : pieces_of ls s ≡ t.positions ∷ [] = sym made ∙ whole_slice t.positions is joins n in
+    let is_all : x ≡ t.positions = elim (subst (In x) whole i) [ inl e ↦ e | inr j ↦ elim j [ ] ] in
+    subst (IsMarked ls) (sym is_all)
+    (on t.positions n goes (subst (EndsPass cut) (sym (ap (λ z. z.positions) st)) pass)
+    (λ q j. cuts_known ls v known s m q (in_start (is_cut ls) s.address s.closed s.positions q (subst (In q) from j))))
+  where
+    on : (ps : List Point) → length (indexes (is_member v.cuts) 0 ps) ≡ 2 → GoesOnceThroughSecond v.once ps → EndsPass (is_member v.cuts) ps → ((q : Point) → In q ps → is_member v.cuts q ≡ is_cut ls q) → IsMarked ls ps
+    on [] n g h same = elim g [ ]
+    on (p ∷ []) n g h same = elim g [ ]
+    on (p ∷ (q ∷ [])) n g h same = elim g [ ]
+    on (p ∷ (q ∷ (r ∷ ps))) n g h same = record {
+      q = q;
+      has = inr (inl refl);
+      free = sym (same q (inr (inl refl))) ∙ second_free (is_member v.cuts) p q r ps h.0 h.1 n;
+      once = known.once q g;
+    }

@@ -66,9 +66,9 @@ pub fn cut(alloc: Global, lines: Lines, vertices: &Vertices) -> Result<Pieces, M
     let mut alone = Vec::with_capacity(alloc, lines_and_rings.len())?;
     let mut visit: usize = 0;
     for i in 0..lines_and_rings.len() {
-        split_line(&mut lines_and_rings[i], visit, vertices, &mut cuts)?;
+        let once = split_line(&mut lines_and_rings[i], visit, vertices, &mut cuts)?;
         ends.push(cuts.len())?;
-        alone.push(false)?;
+        alone.push(once)?;
         visit = visit.wrapping_add(lines_and_rings[i].positions.len());
     }
     Ok(Pieces {

@@ -5,7 +5,7 @@ use Rattle.owned_values.proofs.Elements.{all_reverse}
 use Rattle.owned_values.proofs.Members.{in_left, in_right}
 use Rattle.junctions.proofs.Members.{from_map, from_flat}
 use Rattle.cutter.proofs.Names.{length-append, length-map, take_all, take_more, Replaced, ends, started, map-append, in_append, all_of, each_of, or-true, same_self, Point, same, Address, IsClean, AllClean, is_cut, Visit, visits, visits_from, all_visits, visits_at, last, is_end, filter, Stroke, joined, pieces_from, split_at, pieces_of, from_start, In, SplitLine, split_of, Answers, AnswersFor, is_member, EndsPass, indexes, slices, stitched}
-use Rattle.cutter.proofs.Agreement.{in_start}
+use Rattle.cutter.proofs.Agreement.{in_start, last_in}
 use Rattle.cutter.proofs.Joins.{line_or_ring_split}
 use Rattle.cutter.proofs.Known.{cuts_known, ready, split_known, split_view}
 use Rattle.cutter.proofs.OpenPieces.{end_cut}
@@ -20,10 +20,6 @@ use Rattle.cutter.specs.Known.{GoesOnceThroughSecond}
 -- how often a position is visited
 abbrev times_at : Point → List Visit → ℕ
 times_at q vs = length (filter (λ v. same v.here q) vs)
-
-in_last : (p : Point) (ps : List Point) → In (last p ps) (p ∷ ps)
-in_last p [] = inl refl
-in_last p (q ∷ ps) = inr (in_last q ps)
 
 -- each position of a list that goes on is visited, but for the first
 visited_on : (q a b : Point) (ps : List Point) (z : Point) → In q (b ∷ ps) → 1 ≤ times_at q (visits_from a b (ps ++ (z ∷ [])))
@@ -46,7 +42,7 @@ visited ls at false (p ∷ (r ∷ ps)) q m h f k =
     (elim k [ inl e ↦ absurd (no (grind (arith, same_self, e))) | inr i ↦ i ])
     (λ e. no (grind (arith, same_self, or-true, e))))
 visited ls at true (p ∷ (r ∷ ps)) q m h f k =
-    visited_on q p r ps r (elim k [ inl e ↦ subst (λ x. In x (r ∷ ps)) (h.1 refl ∙ sym e) (in_last r ps) | inr i ↦ i ])
+    visited_on q p r ps r (elim k [ inl e ↦ subst (λ x. In x (r ∷ ps)) (h.1 refl ∙ sym e) (last_in r ps) | inr i ↦ i ])
 
 -- pieces have no other positions than what is split
 in_joined : (b : Bool) (p q : Point) (pieces : List (List Point)) (ps x : List Point) (z : Point) → ((y : List Point) → In y pieces → In z y → In z (q ∷ ps)) → In x (joined b p q pieces) → In z x → In z (p ∷ (q ∷ ps))

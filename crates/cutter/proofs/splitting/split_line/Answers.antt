@@ -1,5 +1,5 @@
 use Rattle.std.proofs.Common.{◌≡◌, ◌≤◌, ◌-◌, ◌++◌, ◌∷◌, [], true, length, min, ap, sym, subst, ◌∙◌, arith}
-use Rattle.cutter.proofs.Names.{length-append, is_member, AllKnown, indexes}
+use Rattle.cutter.proofs.Names.{length-append, is_member, indexes}
 use Rattle.cutter.specs.Known.{GoesOnceThroughSecond}
 use Rattle.cutter.proofs.Alone.{alone}
 use Rattle.cutter.proofs.Known.{known_start}
@@ -8,13 +8,11 @@ use Rattle.cutter.proofs.splitting.split_line.Goals as goal
 
 pub add_cuts-requires : goal.add_cuts-requires
 add_cuts-requires c =
-    subst (λ l. AllKnown c.args.vertices.now.points l) (sym (c.as_slice-positions.ensures ∙ ap (λ s. s.positions) c.start_ring-start.ensures.stroke))
-    (known_start c.args.vertices.now.points (is_member c.args.vertices.now.cuts) c.args.stroke.now c.requires.known)
+    known_start c.args.vertices.now.points (is_member c.args.vertices.now.cuts) c.args.stroke.now c.start_ring-start.new.stroke c.as_slice-positions.result.now c.start_ring-start.ensures.stroke c.as_slice-positions.ensures c.requires.known
 
 pub goes_once_through_second-requires : goal.goes_once_through_second-requires
 goes_once_through_second-requires c =
-    subst (λ l. AllKnown c.args.vertices.now.points l) (sym (c.as_slice-positions.ensures ∙ ap (λ s. s.positions) c.start_ring-start.ensures.stroke))
-    (known_start c.args.vertices.now.points (is_member c.args.vertices.now.cuts) c.args.stroke.now c.requires.known)
+    known_start c.args.vertices.now.points (is_member c.args.vertices.now.cuts) c.args.stroke.now c.start_ring-start.new.stroke c.as_slice-positions.result.now c.start_ring-start.ensures.stroke c.as_slice-positions.ensures c.requires.known
 
 pub returns-then-saturating_sub-eq2-clause-cuts : goal.returns-then-saturating_sub-eq2-clause-cuts
 returns-then-saturating_sub-eq2-clause-cuts c =

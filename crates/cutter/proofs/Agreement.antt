@@ -16,6 +16,10 @@ in_turned k x ps h = elim (in_append x (drop k ps) (drop 1 (take (k + 1) ps)) h)
 pub in_start : (f : Point → Bool) (at : Address) (c : Bool) (ps : List Point) (x : Point) → In x (from_start f (line at c ps)) → In x ps
 in_start f at c ps x h = grind (arith, in_turned)
 
+pub last_in : (p : Point) (ps : List Point) → In (last p ps) (p ∷ ps)
+last_in p [] = inl refl
+last_in p (q ∷ ps) = inr (last_in q ps)
+
 -- a split line of its parts
 abbrev pub split : Address → Bool → List Point → List (List Point) → SplitLine
 split at c ps xs = record { stroke = line at c ps; pieces = xs }
@@ -49,10 +53,6 @@ module _ (f g : Point → Bool) where
   ends_agree_of : (ps : List Point) → ((x : Point) → In x ps → f x ≡ g x) → EndsPass g ps → EndsPass f ps
   ends_agree_of [] h k = tt
   ends_agree_of (p ∷ ps) h k = (h p (inl refl) ∙ k.0, h (last p ps) (last_in p ps) ∙ k.1)
-    where
-      last_in : (p : Point) (ps : List Point) → In (last p ps) (p ∷ ps)
-      last_in p [] = inl refl
-      last_in p (q ∷ ps) = inr (last_in q ps)
 
   -- the ends pass both
   pub ends_agree : (s : Stroke) → ((x : Point) → In x s.positions → f x ≡ g x) → EndsPass g (from_start g s) → EndsPass f (from_start f s)

@@ -1,5 +1,5 @@
 -- What is known of lines by their vertices.
-use Rattle.cutter.proofs.Names.{or-true, flat_map, any_from_in, same_self, Point, same, Address, get_in, Answers, is_member, AnswersFor, AllClean, IsClean, is_cut, Stroke, AllKnown, IsReady, start_in, from_start, pieces_of, In, IsStructured, slices, indexes, SplitLine, split_by, split_of, all_pieces, EndsPass}
+use Rattle.cutter.proofs.Names.{or-true, flat_map, any_from_in, same_self, Point, same, Address, get_in, Answers, is_member, AnswersFor, AllClean, IsClean, is_cut, Stroke, AllKnown, IsReady, start_in, from_start, pieces_of, In, IsStructured, slices, indexes, SplitLine, split_by, split_of, started, all_pieces, EndsPass}
 use Rattle.std.proofs.Common.{◌≡◌, ℕ, ◌<◌, Bool, true, false, List, [], ◌∷◌, ◌++◌, length, map, get_or, refl, ap, sym, ◌∙◌, subst, arith}
 use Rattle.cutter.proofs.Agreement.{in_start, start_agree, by_agree, ends_agree, split}
 use Rattle.cutter.proofs.OpenPieces.{end_cut}
@@ -21,8 +21,8 @@ pub known_at : (known ps : List Point) (i : ℕ) (x : Point) → AllKnown known 
 known_at known ps i x h k e = h x (get_in ps i x k e)
 
 -- a line from its start has no other positions than the line
-pub known_start : (known : List Point) (cut : Point → Bool) (s : Stroke) → AllKnown known s.positions → AllKnown known (from_start cut s)
-known_start known cut s h x i = h x (in_start cut s.address s.closed s.positions x i)
+pub known_start : (known : List Point) (cut : Point → Bool) (s t : Stroke) (ps : List Point) → t ≡ started cut s → ps ≡ t.positions → AllKnown known s.positions → AllKnown known ps
+known_start known cut s t ps et ep h = λ x i. h x (in_start cut s.address s.closed s.positions x (subst (In x) (ep ∙ ap (λ z. z.positions) et) i))
 
 -- each line begins and ends at cut positions, from its start
 ends : (ls : List Stroke) (at : Address) (c : Bool) (ps : List Point) → In (line at c ps) ls → IsClean (line at c ps) → EndsPass (is_cut ls) (from_start (is_cut ls) (line at c ps))

@@ -18,3 +18,4 @@ pub mod CleanStarts
 pub mod Words
 mod Rows
 mod Alone
+mod Unlike

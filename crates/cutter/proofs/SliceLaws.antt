@@ -16,7 +16,7 @@ module _ (cut : Point → Bool) where
   indexes_from k m (p ∷ ps) h = grind (arith, indexes_from k (m + 1) ps (omega (arith, h)))
 
   -- the last passes, so an index is left
-  some_place : (m : ℕ) (p : Point) (ps : List Point) → cut (last p ps) ≡ true → indexes cut m (p ∷ ps) ≢ []
+  pub some_place : (m : ℕ) (p : Point) (ps : List Point) → cut (last p ps) ≡ true → indexes cut m (p ∷ ps) ≢ []
   some_place m p [] h e = let z : m ∷ [] ≡ [] = ap (λ b. cond b (m ∷ []) []) (sym h) ∙ e in cc
   some_place m p (q ∷ ps) h e = grind (arith, some_place (m + 1) q ps h)
 

@@ -1,5 +1,5 @@
 -- What vertices know of the positions of a line that is to be split.
-use Rattle.std.specs.Prelude.{◌≡◌, ◌<◌, true, List, length}
+use Rattle.std.specs.Prelude.{◌≡◌, ◌<◌, true, List, ◌∷◌, length}
 use Rattle.geometry.specs.Points.{Point}
 use Rattle.junctions.specs.Answers.{Answers, is_member}
 use Rattle.junctions.specs.declared.stroke.Stroke.{Stroke}
@@ -16,3 +16,8 @@ pub record IsReady (v : Answers) (s : Stroke) : Type 0 where
   pub known : AllKnown v.points s.positions
   pub starts : s.closed ≡ true → start_in (is_member v.cuts) s.positions < length s.positions
   pub ends : EndsPass (is_member v.cuts) (from_start (is_member v.cuts) s)
+
+-- its second position isn't its last, and is one of these
+abbrev pub GoesOnceThroughSecond : List Point → List Point → Type 0
+GoesOnceThroughSecond once (p ∷ (q ∷ (r ∷ ps))) = is_member once q ≡ true
+GoesOnceThroughSecond once ps = ⊥

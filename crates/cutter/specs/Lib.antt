@@ -1,3 +1,4 @@
+pub mod Alone
 pub mod Known
 pub mod Pieces
 pub mod Places

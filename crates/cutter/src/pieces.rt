@@ -3,6 +3,7 @@ ghost use Rattle.std.specs.Prelude.{◌≡◌, ◌<◌, IfOk, Some, length, map,
 ghost use Rattle.geometry.specs.Points.{Point};
 ghost use Rattle.junctions.specs.Answers.{AnswersFor};
 ghost use Rattle.junctions.specs.Cleaning.{AllClean};
+ghost use Rattle.cutter.specs.Alone.{AreAlone};
 ghost use Rattle.cutter.specs.Places.{IsStructured};
 ghost use Rattle.cutter.specs.Segments.{line_segments, piece_segments, times};
 ghost use Rattle.cutter.specs.SharedCuts.{AllRise, cut_lines};
@@ -26,10 +27,13 @@ pub struct Pieces {
     cuts: Vec<usize>,
     /// For each line, how many of the indexes are its own or those of lines before it.
     ends: Vec<usize>,
+    /// For each line, whether it is known to be one whole piece that is alike no other.
+    alone: Vec<bool>,
 }
 
 impl Model for Pieces {
-    ghost use Rattle.std.specs.Prelude.{List};
+    ghost use Rattle.std.specs.Prelude.{◌≡◌, List, length};
+    ghost use Rattle.cutter.specs.Alone.{AreAlone};
     ghost use Rattle.cutter.specs.Places.{IsStructured};
     ghost use Rattle.cutter.specs.Slices.{SplitLine, AllSplit, all_pieces, lines_and_rings as lines_and_rings_of};
     ghost use Rattle.cutter.specs.SharedCuts.{AreCutIndexes, split_lines_and_rings};
@@ -42,7 +46,9 @@ impl Model for Pieces {
     ghost invariant = { λ s. AreCutIndexes s.cuts.items 0 s.lines_and_rings.items s.ends.items
         × IsStructured (all_pieces (split_lines_and_rings s.cuts.items 0 s.lines_and_rings.items s.ends.items))
         × AllSplit (split_lines_and_rings s.cuts.items 0 s.lines_and_rings.items s.ends.items)
-        × AllClean (lines_and_rings_of (split_lines_and_rings s.cuts.items 0 s.lines_and_rings.items s.ends.items)) };
+        × AllClean (lines_and_rings_of (split_lines_and_rings s.cuts.items 0 s.lines_and_rings.items s.ends.items))
+        × (length s.alone.items ≡ length s.lines_and_rings.items)
+        × AreAlone s.alone.items (split_lines_and_rings s.cuts.items 0 s.lines_and_rings.items s.ends.items) };
 }
 
 /// The lines, each split at its cut positions, which both pieces keep; a ring is first turned to its start. What was left
@@ -57,16 +63,19 @@ pub fn cut(alloc: Global, lines: Lines, vertices: &Vertices) -> Result<Pieces, M
     // Each line is cut at its two ends. Where there are more cuts the list grows.
     let mut cuts = Vec::with_capacity(alloc, lines_and_rings.len().saturating_mul(2))?;
     let mut ends = Vec::with_capacity(alloc, lines_and_rings.len())?;
+    let mut alone = Vec::with_capacity(alloc, lines_and_rings.len())?;
     let mut visit: usize = 0;
     for i in 0..lines_and_rings.len() {
-        split_line(&mut lines_and_rings[i], visit, vertices, &mut cuts)?;
+        let once = split_line(&mut lines_and_rings[i], visit, vertices, &mut cuts)?;
         ends.push(cuts.len())?;
+        alone.push(once)?;
         visit = visit.wrapping_add(lines_and_rings[i].positions.len());
     }
     Ok(Pieces {
         lines_and_rings,
         cuts,
         ends,
+        alone,
     })
 }
 
@@ -91,15 +100,24 @@ impl Pieces {
         self.cuts.len().saturating_sub(self.ends.len())
     }
 
-    /// The lines and rings, rings turned to their starts, and the indexes at which each is cut, by value.
-    pub fn into_parts(self) -> (Vec<Stroke>, CutIndexes)
+    /// How many pieces there are without those of lines that are alone; it is only how much room is made for them.
+    pub fn room_for_shared(&self) -> usize {
+        let alone = self.alone.iter().filter(|alone| **alone).count();
+        self.room().saturating_sub(alone)
+    }
+
+    /// The lines and rings, rings turned to their starts, the indexes at which each is cut, and for each line whether it is known to be one
+    /// whole piece that is alike no other, by value.
+    pub fn into_parts(self) -> (Vec<Stroke>, CutIndexes, Vec<bool>)
         ensures lines { result.0.items ≡ lines_and_rings self }
         ensures pieces { cut_lines result.0.items result.1 ≡ self }
         ensures rising { AllRise result.0.items result.1 }
+        ensures flags { length result.2.items ≡ length self }
+        ensures alone { AreAlone result.2.items self }
     {
         let pieces = self;
         let indexes = CutIndexes::of(pieces.cuts, pieces.ends);
-        (pieces.lines_and_rings, indexes)
+        (pieces.lines_and_rings, indexes, pieces.alone)
     }
 
     /// What the pieces of lines have in common. A call does nothing; its contract is what `Pieces` keeps.

@@ -1,8 +1,8 @@
 // Lines and rings, split at their cut positions.
-ghost use Rattle.std.specs.Prelude.{◌≡◌, ◌<◌, ◌≤◌, ◌-◌, ◌++◌, ◌∷◌, [], true, OnOk, drop, length, take, if◌then◌else◌};
+ghost use Rattle.std.specs.Prelude.{◌≡◌, ◌<◌, ◌≤◌, ◌-◌, ◌++◌, ◌∷◌, [], true, IfOk, OnOk, drop, length, take, if◌then◌else◌};
 ghost use Rattle.std.specs.List.{filter};
 ghost use Rattle.junctions.specs.Answers.{is_member};
-ghost use Rattle.cutter.specs.Known.{AllKnown, IsReady};
+ghost use Rattle.cutter.specs.Known.{AllKnown, GoesOnceThroughSecond, IsReady};
 ghost use Rattle.cutter.specs.Pieces.{start_in, turned};
 ghost use Rattle.cutter.specs.Slices.{indexes, started as started_by};
 
@@ -12,23 +12,40 @@ use junctions::{Stroke, Vertices};
 use owned_values::Memory;
 
 /// Splits the line whose first visit has this number: a ring is turned so that it begins at its start, and the indexes at which the line is
-/// cut are added after those of other lines.
+/// cut are added after those of other lines. The answer is whether it is one piece whose second position is known to be visited once.
 pub fn split_line(
     stroke: &mut Stroke,
     visit: usize,
     vertices: &Vertices,
     cuts: &mut Vec<usize>,
-) -> Result<(), Memory>
+) -> Result<bool, Memory>
     requires { IsReady vertices.now stroke.old }
     ensures stroke { OnOk result (stroke.new ≡ started_by (is_member vertices.now.cuts) stroke.old) }
     ensures cuts { OnOk result (cuts.new.items ≡ cuts.old.items ++ indexes (is_member vertices.now.cuts) 0 stroke.new.positions) }
+    ensures once { IfOk result (λ once. once ≡ true → (length (indexes (is_member vertices.now.cuts) 0 stroke.new.positions) ≡ 2)
+        × GoesOnceThroughSecond vertices.now.once stroke.new.positions) }
 {
     let (start, count) = start_ring(stroke, visit, vertices);
     let positions = stroke.positions.as_slice();
+    let before = cuts.len();
     if stroke.closed && positions.len() > 1 && count <= 2 - start.min(1) {
-        return add_ends(cuts, positions.len());
+        add_ends(cuts, positions.len())?;
+    } else {
+        add_cuts(cuts, positions, visit, start, vertices)?;
     }
-    add_cuts(cuts, positions, visit, start, vertices)
+    let second = visit_after(visit.wrapping_add(start), visit, positions.len());
+    Ok(
+        cuts.len().saturating_sub(before) == 2
+            && goes_once_through_second(positions, second, vertices),
+    )
+}
+
+// Whether the second position, whose visit has this number, isn't the last and is known to be visited once.
+fn goes_once_through_second(positions: &[Position], visit: usize, vertices: &Vertices) -> bool
+    requires { AllKnown vertices.now.points positions.now }
+    ensures { result ≡ true → GoesOnceThroughSecond vertices.now.once positions.now }
+{
+    positions.len() > 2 && vertices.is_once_at(visit, positions[1])
 }
 
 // Turns the line, if it is a ring, so that it begins at its start, and returns the index at which the start was before, and how many of a

@@ -1,5 +1,5 @@
 -- The pieces of a line that is alone are apart from the arcs and from all pieces to come.
-use Rattle.std.proofs.Common.{◌≡◌, ℕ, zero, suc, ◌+◌, Bool, true, false, List, [], ◌∷◌, ◌++◌, take, drop, length, reverse, refl, ap, sym, ◌∙◌, subst, add-one, arith, ◌⊎◌, inl, inr, Some}
+use Rattle.std.proofs.Common.{◌≡◌, ℕ, zero, suc, ◌+◌, Bool, true, false, List, [], ◌∷◌, ◌++◌, take, drop, length, reverse, refl, ap, sym, ◌∙◌, subst, add-one, ◌⊎◌, inl, inr, Some}
 use Rattle.std.proofs.lemmas.Grind.{flat_map-append}
 use Rattle.std.proofs.lemmas.List.{reverse-reverse}
 use Rattle.std.specs.Prelude.{slice_get}

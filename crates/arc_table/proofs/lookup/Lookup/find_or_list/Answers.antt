@@ -1,4 +1,4 @@
-use Rattle.std.proofs.Common.{◌≡◌, [], ◌∷◌, ◌++◌, get_or, not, ap, ap₂, ◌∙◌, arith, Some}
+use Rattle.std.proofs.Common.{◌≡◌, get_or, not, ap, ap₂, ◌∙◌, arith, Some}
 use Rattle.std.proofs.lemmas.Grind.{get_or_default_zero}
 use Rattle.geometry.specs.Joins.{number_of}
 use Rattle.arc_table.specs.Growth.{directed}

@@ -20,7 +20,7 @@ first_is i (n ∷ numbers) h = grind (arith, nat_tests)
 
 -- ---- one arc more
 
--- it is listed
+-- .. that is listed
 list_more : (i k : ℕ) (numbers : List ℕ) (arcs : List (List Point)) (x : List Point) → k ≡ i + length arcs → length (listed i numbers arcs) ≡ length numbers →
     (listed i (numbers ++ (k ∷ [])) (arcs ++ (x ∷ [])) ≡ listed i numbers arcs ++ (x ∷ [])) × (unlisted i (numbers ++ (k ∷ [])) (arcs ++ (x ∷ [])) ≡ unlisted i numbers arcs)
 list_more i k [] [] x e h = grind (arith, nat_tests)
@@ -28,7 +28,7 @@ list_more i k (n ∷ numbers) [] x e h = absurd (omega (arith, h))
 list_more i k [] (arc ∷ arcs) x e h = grind (arith, nat_tests, list_more (i + 1) k [] arcs x)
 list_more i k (n ∷ numbers) (arc ∷ arcs) x e h = grind (arith, nat_tests, list_more (i + 1) k numbers arcs x, list_more (i + 1) k (n ∷ numbers) arcs x)
 
--- it isn't
+-- .. that isn't
 skip_more : (i : ℕ) (numbers : List ℕ) (arcs : List (List Point)) (x : List Point) → length (listed i numbers arcs) ≡ length numbers →
     (listed i numbers (arcs ++ (x ∷ [])) ≡ listed i numbers arcs) × (unlisted i numbers (arcs ++ (x ∷ [])) ≡ unlisted i numbers arcs ++ (x ∷ []))
 skip_more i [] [] x h = (refl, refl)
@@ -36,7 +36,7 @@ skip_more i (n ∷ numbers) [] x h = absurd (omega (arith, h))
 skip_more i [] (arc ∷ arcs) x h = grind (arith, skip_more (i + 1) [] arcs x)
 skip_more i (n ∷ numbers) (arc ∷ arcs) x h = grind (arith, skip_more (i + 1) numbers arcs x, skip_more (i + 1) (n ∷ numbers) arcs x)
 
--- an arc that is alike none becomes one that isn't looked up
+-- a piece that is alike no arc becomes an arc that isn't listed
 pub record IsSkipped (numbers : List ℕ) (arcs more : List (List Point)) (x : List Point) : Type 0 where
   pub known : (ends : EndsAndWays) → AreListed arcs numbers ends → AreListed more numbers ends
   pub apart : (rest : List (List Point)) → AreApart (unlisted 0 numbers arcs) rest → AreApart (x ∷ []) rest → AreApart (unlisted 0 numbers more) rest

@@ -20,7 +20,7 @@ abbrev pub unlisted : ℕ → List ℕ → List (List Point) → List (List Poin
 unlisted i numbers [] = []
 unlisted i numbers (arc ∷ arcs) = if is_first i numbers then unlisted (i + 1) (tail numbers) arcs else arc ∷ unlisted (i + 1) numbers arcs
 
--- each of the numbers is that of an arc, whose end is the one at its place
+-- each of the numbers is that of an arc, which has the end at the same place
 abbrev pub AreListed : List (List Point) → List ℕ → EndsAndWays → Type 0
 AreListed arcs numbers ends = (length (listed 0 numbers arcs) ≡ length numbers) × AreEnds (listed 0 numbers arcs) ends
 

@@ -9,16 +9,15 @@ use geometry::{ArcRef, Position};
 use owned_values::{Items, Memory};
 use std::alloc::Global;
 
-/// Of some of the arcs, in order, the ends by which they are found.
+/// The arcs that are looked up, in order: the end by which each is found, and its number among all arcs.
 #[derive(Debug, Drop)]
 pub struct Lookup {
     ends: Ends,
-    /// The numbers of these arcs among all arcs.
     numbers: Vec<usize>,
 }
 
 impl Lookup {
-    /// No arcs yet, with room for so many, which are found by hashes that begin with the seed.
+    /// None yet, with room for so many, which are found by hashes that begin with the seed.
     pub fn with_room(alloc: Global, arcs: usize, seed: u64) -> Result<Lookup, Memory>
         ensures numbers { IfOk result (λ lookup. lookup.numbers.items ≡ []) }
         ensures ends { IfOk result (λ lookup. lookup.ends ≡ no_ends) }
@@ -28,8 +27,7 @@ impl Lookup {
         Ok(Lookup { ends, numbers })
     }
 
-    /// The index of the first arc that is alike the piece, where no unlisted one is. If there is none, the next arc, which is to be the piece,
-    /// is listed.
+    /// The index of the first arc that is alike the piece, where no unlisted one is. If there is none, the piece is listed as the next arc.
     pub fn find_or_list(
         &mut self,
         arcs: &[Items<Position>],
@@ -45,12 +43,11 @@ impl Lookup {
         ensures unlisted { OnOk result
             (unlisted 0 self.new.numbers.items (grown arcs.now piece.now) ≡ unlisted 0 self.old.numbers.items arcs.now) }
     {
-        let next = arcs.len();
         if let Some(r) = self.ends.find_or_add(piece)? {
             let number = self.numbers[r.index()];
             return Ok(Some(directed(number, !r.reversed())));
         }
-        self.numbers.push(next)?;
+        self.numbers.push(arcs.len())?;
         Ok(None)
     }
 }

@@ -1,4 +1,4 @@
-use Rattle.std.proofs.Common.{◌≡◌, get_or, not, ap, ap₂, ◌∙◌, arith, Some}
+use Rattle.std.proofs.Common.{get_or, not, ap, ap₂, ◌∙◌, arith, Some}
 use Rattle.std.proofs.lemmas.Grind.{get_or_default_zero}
 use Rattle.geometry.specs.Joins.{number_of}
 use Rattle.arc_table.specs.Growth.{directed}
@@ -11,7 +11,8 @@ index-number-requires c =
     let arcs = c.args.arcs.now in
     let numbers = c.args.self.now.numbers.items in
     let x = c.args.piece.now in
-    let o = old numbers arcs x c.requires.known.0 c.requires.apart c.in_ok-r.field-0 (c.in_ok-r.ensures.found (listed 0 numbers arcs) c.requires.known.1 (listed_identify numbers arcs x c.requires.identifies)) c.in-Some.r c.in-Some.is in
+    let found = c.in_ok-r.ensures.found (listed 0 numbers arcs) c.requires.known.1 (listed_identify numbers arcs x c.requires.identifies) in
+    let o = old numbers arcs x c.requires.known.0 c.requires.apart c.in_ok-r.field-0 found c.in-Some.r c.in-Some.is in
     omega (arith, o.within, c.index.ensures)
 
 pub directed-requires : goal.directed-requires
@@ -19,55 +20,30 @@ directed-requires c =
     let arcs = c.args.arcs.now in
     let numbers = c.args.self.now.numbers.items in
     let x = c.args.piece.now in
-    let o = old numbers arcs x c.requires.known.0 c.requires.apart c.in_ok-r.field-0 (c.in_ok-r.ensures.found (listed 0 numbers arcs) c.requires.known.1 (listed_identify numbers arcs x c.requires.identifies)) c.in-Some.r c.in-Some.is in
-    let e : c.index-number.result.now ≡ get_or numbers (number_of c.in-Some.r) 0 = c.index-number.ensures ∙ ap (λ k. get_or numbers k c.index-number.result.now) c.index.ensures ∙ get_or_default_zero numbers (number_of c.in-Some.r) c.index-number.result.now o.within in
+    let found = c.in_ok-r.ensures.found (listed 0 numbers arcs) c.requires.known.1 (listed_identify numbers arcs x c.requires.identifies) in
+    let o = old numbers arcs x c.requires.known.0 c.requires.apart c.in_ok-r.field-0 found c.in-Some.r c.in-Some.is in
+    let e = c.index-number.ensures ∙ ap (λ k. get_or numbers k c.index-number.result.now) c.index.ensures ∙ get_or_default_zero numbers (number_of c.in-Some.r) c.index-number.result.now o.within in
     omega (arith, e, o.number, c.requires.small)
 
-pub returns-in-Some-clause-found : goal.returns-in-Some-clause-found
-returns-in-Some-clause-found c =
+pub returns-in-Some : goal.returns-in-Some
+returns-in-Some c =
     let arcs = c.args.arcs.now in
     let numbers = c.args.self.now.numbers.items in
     let x = c.args.piece.now in
-    let o = old numbers arcs x c.requires.known.0 c.requires.apart c.in_ok-r.field-0 (c.in_ok-r.ensures.found (listed 0 numbers arcs) c.requires.known.1 (listed_identify numbers arcs x c.requires.identifies)) c.in-Some.r c.in-Some.is in
-    let e : c.index-number.result.now ≡ get_or numbers (number_of c.in-Some.r) 0 = c.index-number.ensures ∙ ap (λ k. get_or numbers k c.index-number.result.now) c.index.ensures ∙ get_or_default_zero numbers (number_of c.in-Some.r) c.index-number.result.now o.within in
-    ap (λ z. Some z) (c.directed.ensures ∙ ap₂ (λ b n. directed (not b) n) c.reversed.ensures e ∙ translated_directed numbers c.in-Some.r) ∙ o.index
+    let identifies = listed_identify numbers arcs x c.requires.identifies in
+    let o = old numbers arcs x c.requires.known.0 c.requires.apart c.in_ok-r.field-0 (c.in_ok-r.ensures.found (listed 0 numbers arcs) c.requires.known.1 identifies) c.in-Some.r c.in-Some.is in
+    let e = c.index-number.ensures ∙ ap (λ k. get_or numbers k c.index-number.result.now) c.index.ensures ∙ get_or_default_zero numbers (number_of c.in-Some.r) c.index-number.result.now o.within in
+    record {
+      found = ap (λ z. Some z) (c.directed.ensures ∙ ap₂ (λ b n. directed (not b) n) c.reversed.ensures e ∙ translated_directed numbers c.in-Some.r) ∙ o.index;
+      known = o.known c.find_or_add.new.self (c.in_ok-r.ensures.known (listed 0 numbers arcs) c.requires.known.1 identifies);
+      unlisted = o.others;
+    }
 
-pub returns-in-Some-clause-known : goal.returns-in-Some-clause-known
-returns-in-Some-clause-known c =
+pub returns : goal.returns
+returns c =
     let arcs = c.args.arcs.now in
     let numbers = c.args.self.now.numbers.items in
     let x = c.args.piece.now in
-    let o = old numbers arcs x c.requires.known.0 c.requires.apart c.in_ok-r.field-0 (c.in_ok-r.ensures.found (listed 0 numbers arcs) c.requires.known.1 (listed_identify numbers arcs x c.requires.identifies)) c.in-Some.r c.in-Some.is in
-    o.known c.find_or_add.new.self (c.in_ok-r.ensures.known (listed 0 numbers arcs) c.requires.known.1 (listed_identify numbers arcs x c.requires.identifies))
-
-pub returns-in-Some-clause-unlisted : goal.returns-in-Some-clause-unlisted
-returns-in-Some-clause-unlisted c =
-    let arcs = c.args.arcs.now in
-    let numbers = c.args.self.now.numbers.items in
-    let x = c.args.piece.now in
-    let o = old numbers arcs x c.requires.known.0 c.requires.apart c.in_ok-r.field-0 (c.in_ok-r.ensures.found (listed 0 numbers arcs) c.requires.known.1 (listed_identify numbers arcs x c.requires.identifies)) c.in-Some.r c.in-Some.is in
-    o.others
-
-pub returns-clause-found : goal.returns-clause-found
-returns-clause-found c =
-    let arcs = c.args.arcs.now in
-    let numbers = c.args.self.now.numbers.items in
-    let x = c.args.piece.now in
-    let n = new numbers arcs x c.requires.known.0 c.requires.apart c.in_ok-r.field-0 (c.in_ok-r.ensures.found (listed 0 numbers arcs) c.requires.known.1 (listed_identify numbers arcs x c.requires.identifies)) c.push.new.self.items c.in_default.is c.in_ok-push.ensures.items in
-    n.index
-
-pub returns-clause-known : goal.returns-clause-known
-returns-clause-known c =
-    let arcs = c.args.arcs.now in
-    let numbers = c.args.self.now.numbers.items in
-    let x = c.args.piece.now in
-    let n = new numbers arcs x c.requires.known.0 c.requires.apart c.in_ok-r.field-0 (c.in_ok-r.ensures.found (listed 0 numbers arcs) c.requires.known.1 (listed_identify numbers arcs x c.requires.identifies)) c.push.new.self.items c.in_default.is c.in_ok-push.ensures.items in
-    n.known c.find_or_add.new.self (c.in_ok-r.ensures.known (listed 0 numbers arcs) c.requires.known.1 (listed_identify numbers arcs x c.requires.identifies))
-
-pub returns-clause-unlisted : goal.returns-clause-unlisted
-returns-clause-unlisted c =
-    let arcs = c.args.arcs.now in
-    let numbers = c.args.self.now.numbers.items in
-    let x = c.args.piece.now in
-    let n = new numbers arcs x c.requires.known.0 c.requires.apart c.in_ok-r.field-0 (c.in_ok-r.ensures.found (listed 0 numbers arcs) c.requires.known.1 (listed_identify numbers arcs x c.requires.identifies)) c.push.new.self.items c.in_default.is c.in_ok-push.ensures.items in
-    n.others
+    let identifies = listed_identify numbers arcs x c.requires.identifies in
+    let n = new numbers arcs x c.requires.known.0 c.requires.apart c.in_ok-r.field-0 (c.in_ok-r.ensures.found (listed 0 numbers arcs) c.requires.known.1 identifies) c.push.new.self.items c.in_default.is c.in_ok-push.ensures.items in
+    record { found = n.index; known = n.known c.find_or_add.new.self (c.in_ok-r.ensures.known (listed 0 numbers arcs) c.requires.known.1 identifies); unlisted = n.others }

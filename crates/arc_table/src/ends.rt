@@ -95,7 +95,7 @@ fn is_same_way(turned: bool, other_turned: bool) -> bool
 }
 
 // The arc of this number, as it stands or reversed.
-fn directed(number: usize, forward: bool) -> ArcRef
+pub fn directed(number: usize, forward: bool) -> ArcRef
     requires { number < 2 ^ 63 }
     ensures { result ≡ spec.directed forward number }
 {

@@ -1,3 +1,4 @@
+pub mod Inverses
 pub mod Layered
 pub mod Least
 pub mod Rows

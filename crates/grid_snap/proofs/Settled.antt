@@ -1,14 +1,12 @@
 -- Cells, and the positions that they lie at.
-use Rattle.std.proofs.Common.{◌≡◌, ℕ, ◌+◌, ◌*◌, ◌≤◌, ℤ, pos, negsuc, ◌+ℤ◌, ◌-ℤ◌, ◌≤ℤ◌, unsigned_abs, int_le, Bool, true, ◌&&◌, refl, sym, ap, subst, ◌∙◌, ◌/◌, arith, leb, to_z, w64}
+use Rattle.std.proofs.Common.{◌≡◌, ℕ, ◌+◌, ◌*◌, ◌≤◌, ℤ, pos, ◌+ℤ◌, ◌-ℤ◌, ◌≤ℤ◌, unsigned_abs, Bool, true, ◌&&◌, refl, sym, ap, subst, ◌∙◌, ◌/◌, arith, to_z, w64}
 use Rattle.std.proofs.lemmas.Bool.{and_parts}
-use Rattle.std.proofs.lemmas.Bool.Decides.{nat_tests}
 use Rattle.std.proofs.lemmas.Int.{ints}
-use Rattle.std.specs.Prelude.{nat_le}
 use Rattle.decimal_text.specs.Rounding.{nearest}
 use Rattle.geometry.specs.Points.{Point}
 use Rattle.geometry.specs.Units.{input_limit}
 use Rattle.grid_snap.specs.declared.axis.Axis.{Axis}
-use Rattle.grid_snap.specs.Axes.{offset, is_on, number, coordinate, Axes, covers, cell, back, snapped, IsAxis, IsGrid, IsNumbered, count_limit, reach}
+use Rattle.grid_snap.specs.Axes.{offset, is_on, number, coordinate, Axes, covers, cell, back, IsAxis, IsGrid, IsNumbered, count_limit, reach}
 use Rattle.grid_snap.specs.Laws.{SnappedSettle, CellsAreBack, CoveredAreWithin}
 use Rattle.grid_snap.proofs.Spacing.{nearest_whole, nearest_within, scaled_within}
 
@@ -55,11 +53,27 @@ step_within a axis = let e : a.step ≤ a.last * a.step = times_one a.last a.ste
 pub offset_within : (a : Axis) (x : ℤ) → IsAxis a → is_on a x ≡ true → offset a x ≤ 2 * input_limit + count_limit
 offset_within a x axis on = let e : offset a x ≤ a.last * a.step = (on_facts a x on).near in omega (arith, e, axis.length)
 
-pub cast_number : (n m : ℕ) → n ≡ m → m ≤ count_limit → to_z w64 n ≡ pos m
+pub offset_is : (a : Axis) (x : ℤ) → is_on a x ≡ true → x -ℤ a.first ≡ pos (offset a x)
+offset_is a x on = let e : a.first ≤ℤ x = (on_facts a x on).following in omega (arith, ints, e)
+
+-- twice the distance of the coordinate of a number, as it is computed
+pub twice_offset : (a : Axis) (x : ℤ) (k d : ℕ) → coordinate a (pos k) ≡ x → d ≡ offset a x → 2 * d ≡ k * (2 * a.step)
+twice_offset a x k d there e =
+    let f : offset a x ≡ k * a.step = ap (offset a) (sym there) ∙ offset_at a.first (k * a.step) in
+    omega (arith, e, f)
+
+cast_number : (n m : ℕ) → n ≡ m → m ≤ count_limit → to_z w64 n ≡ pos m
 cast_number n m e h = omega (arith, ints, e, h)
 
-pub numbered : (a : Axis) (k : ℕ) → k ≤ a.last → IsNumbered a (pos k)
+numbered : (a : Axis) (k : ℕ) → k ≤ a.last → IsNumbered a (pos k)
 numbered a k h = (omega (arith, ints), omega (arith, ints))
+
+-- the number of a covered coordinate, as it is cast
+pub cast_covered : (a : Axis) (x : ℤ) (n : ℕ) → IsAxis a → is_on a x ≡ true → n ≡ number a x → to_z w64 n ≡ pos (number a x)
+cast_covered a x n axis on e = let k : number a x ≤ a.last = number_within a x axis on in cast_number n (number a x) e (omega (arith, k, axis.few))
+
+pub cast_numbered : (a : Axis) (x : ℤ) (n : ℕ) → IsAxis a → is_on a x ≡ true → n ≡ number a x → IsNumbered a (to_z w64 n)
+cast_numbered a x n axis on e = subst (IsNumbered a) (sym (cast_covered a x n axis on e)) (numbered a (number a x) (number_within a x axis on))
 
 between : (first x : ℤ) (length bound far : ℕ) → first ≤ℤ x → unsigned_abs (x -ℤ first) ≤ length → unsigned_abs first ≤ bound → bound ≤ far
     → unsigned_abs (first +ℤ pos length) ≤ far → unsigned_abs x ≤ far

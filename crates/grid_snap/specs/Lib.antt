@@ -1,4 +1,5 @@
 pub mod Axes
 pub mod Bounds
+pub mod Inverses
 pub mod Laws
 pub mod Snapping

@@ -1,10 +1,12 @@
 // Equally spaced coordinates.
-ghost use Rattle.std.specs.Prelude.{◌≡◌, ◌≤◌, pos, unsigned_abs, true};
+ghost use Rattle.std.specs.Prelude.{◌≡◌, ◌≤◌, ◌+◌, ◌*◌, pos, unsigned_abs, true};
+ghost use Rattle.geometry.specs.Units.{input_limit};
 ghost use Rattle.grid_snap.specs.Axes.{IsAxis, IsNumbered, axis_over, count_limit, is_on, reach};
 ghost use Rattle.grid_snap.specs.Axes as spec;
 ghost use Rattle.grid_snap.specs.Bounds.{IsSpan};
+ghost use Rattle.grid_snap.specs.Inverses.{IsInverse};
 
-use crate::dividing::quotient;
+use crate::dividing::{inverse, near_quotient, quotient};
 
 /// The coordinates `first`, `first + step` and so on, in units, the last of which has the number `last`, counted from zero.
 #[derive(Clone, Copy, Debug)]
@@ -42,22 +44,46 @@ impl Axis {
         self.first <= x && x.abs_diff(self.first) <= self.last * self.step
     }
 
-    /// What is near 2^64 over twice the step, rounded up, so that halves between two coordinates are guessed right, too.
-    pub(crate) fn inverse(self) -> u64
-        requires { IsAxis self }
+    /// How far a coordinate is from the first one, in units.
+    fn offset(self, x: i64) -> u64
+        requires axis { IsAxis self }
+        requires covered { is_on self x ≡ true }
+        ensures offset { result ≡ spec.offset self x }
+        ensures within { result ≤ 2 * input_limit + count_limit }
     {
-        u64::MAX / 2 / self.step + 1
+        (x - self.first) as u64
     }
 
-    /// The number of the nearest of its coordinates, the higher one of two. Any inverse gives one answer.
+    /// The inverse of twice the step, by which halves between two coordinates are numbered, too.
+    pub(crate) fn inverse(self) -> u64
+        requires { IsAxis self }
+        ensures { IsInverse (2 * self.step) result }
+    {
+        inverse(2 * self.step)
+    }
+
+    /// The number of the nearest of its coordinates, the higher one of two.
     pub(crate) fn number(self, x: i64, inverse: u64) -> i64
         requires axis { IsAxis self }
+        requires inverse { IsInverse (2 * self.step) inverse }
         requires covered { is_on self x ≡ true }
         ensures number { result ≡ pos (spec.number self x) }
         ensures within { IsNumbered self result }
     {
-        let halves = 2 * x.abs_diff(self.first) + self.step;
+        let halves = 2 * self.offset(x) + self.step;
         quotient(halves, 2 * self.step, inverse) as i64
+    }
+
+    /// The number of one of its coordinates.
+    pub(crate) fn number_at(self, x: i64, inverse: u64) -> i64
+        requires axis { IsAxis self }
+        requires inverse { IsInverse (2 * self.step) inverse }
+        requires covered { is_on self x ≡ true }
+        requires there { spec.coordinate self (pos (spec.number self x)) ≡ x }
+        ensures number { result ≡ pos (spec.number self x) }
+        ensures within { IsNumbered self result }
+    {
+        near_quotient(2 * self.offset(x), inverse) as i64
     }
 
     /// The coordinate of a number.

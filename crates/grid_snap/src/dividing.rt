@@ -1,18 +1,34 @@
 // Division by a number that is divided by again and again.
-ghost use Rattle.std.specs.Prelude.{◌≡◌, ◌≤◌, ◌/◌};
+ghost use Rattle.std.specs.Prelude.{◌≡◌, ℕ, ◌*◌, ◌/◌, ◌^◌, ◌≤◌};
+ghost use Rattle.grid_snap.specs.Inverses.{IsInverse, IsNearQuotient};
 
-/// The whole part of a number over another, which is guessed from the inverse: what is near 2^64 over the latter. What is left of the
-/// number shows whether the guess is right, and takes less time than a division. Any inverse gives one answer.
+/// 2^64 over a divisor, rounded up.
+pub(crate) fn inverse(divisor: u64) -> u64
+    requires { 2 ≤ divisor }
+    ensures { IsInverse divisor result }
+{
+    u64::MAX / divisor + 1
+}
+
+/// How often the divisor of an inverse goes into a number, or one more. Of a multiple of the divisor it is right.
+pub(crate) fn near_quotient(n: u64, inverse: u64) -> u64
+    ensures near { (divisor : ℕ) → IsInverse divisor inverse → IsNearQuotient n divisor result }
+    ensures exact { (divisor k : ℕ) → IsInverse divisor inverse → n ≡ k * divisor → result ≡ k }
+{
+    ((u128::from(n) * u128::from(inverse)) >> 64) as u64
+}
+
+/// The whole part of a number over a divisor whose inverse is known. Products take less time than a division.
 pub(crate) fn quotient(n: u64, divisor: u64, inverse: u64) -> u64
-    requires { 1 ≤ divisor }
+    requires inverse { IsInverse divisor inverse }
+    requires few { divisor ≤ 2 ^ 63 }
     ensures { result ≡ n / divisor }
 {
-    let guess = ((u128::from(n) * u128::from(inverse)) >> 64) as u64;
-    // Of a guess that is too great more is left than a divisor can be.
-    let left = u128::from(n).wrapping_sub(u128::from(guess) * u128::from(divisor));
-    if left < u128::from(divisor) {
-        guess
+    let near = near_quotient(n, inverse);
+    // Where it is one more, what is left of the number is below zero, and wraps round to more than the divisor.
+    if n.wrapping_sub(near.wrapping_mul(divisor)) < divisor {
+        near
     } else {
-        n / divisor
+        near - 1
     }
 }

@@ -18,19 +18,22 @@ use std::marker::Model;
 pub struct Grid {
     across: Axis,
     up: Axis,
-    /// The axes' inverses, which are in no contract.
+    /// The axes' inverses.
     across_inverse: u64,
     up_inverse: u64,
 }
 
 impl Model for Grid {
+    ghost use Rattle.std.specs.Prelude.{◌*◌};
     ghost use Rattle.grid_snap.specs.Axes.{Axes, IsGrid};
+    ghost use Rattle.grid_snap.specs.Inverses.{IsInverse};
 
     ghost Value = { Axes };
 
     ghost view = { λ g. record { x = g.across; y = g.up } };
 
-    ghost invariant = { λ g. IsGrid (record { x = g.across; y = g.up }) };
+    ghost invariant = { λ g. IsGrid (record { x = g.across; y = g.up })
+        × IsInverse (2 * g.across.step) g.across_inverse × IsInverse (2 * g.up.step) g.up_inverse };
 }
 
 impl Grid {
@@ -96,6 +99,19 @@ impl Grid {
         (
             self.across.number(position.x(), self.across_inverse),
             self.up.number(position.y(), self.up_inverse),
+        )
+    }
+
+    /// The cell of a position that lies where a cell does: it is covered, and snapping leaves it where it is.
+    pub fn cell_on(&self, position: Position) -> (i64, i64)
+        requires covered { spec.covers self.now position ≡ true }
+        requires there { snapped self.now position ≡ position }
+        ensures cell { spec.cell self.now position ≡ record { x = result.0; y = result.1 } }
+        ensures within { IsCell self.now (record { x = result.0; y = result.1 }) }
+    {
+        (
+            self.across.number_at(position.x(), self.across_inverse),
+            self.up.number_at(position.y(), self.up_inverse),
         )
     }
 

@@ -1,22 +1,25 @@
 -- What numbers of a grid stand for is in their order, or in the other.
-use Rattle.std.proofs.Common.{◌≡◌, ◌⊎◌, inl, inr, ℕ, zero, suc, ◌≤◌, ℤ, pos, negsuc, ◌+ℤ◌, ◌*ℤ◌, ◌≤ℤ◌, unsigned_abs, List, [], ◌∷◌, map, Option, None, Some, refl, sym, subst, ap, ◌∙◌, arith}
+use Rattle.std.proofs.Common.{◌≡◌, ◌⊎◌, inl, inr, ℕ, zero, suc, ◌≤◌, lit≤, Bool, true, false, if◌then◌else◌, ℤ, pos, negsuc, ◌+ℤ◌, ◌*ℤ◌, ◌≤ℤ◌, unsigned_abs, List, [], ◌∷◌, map, Option, None, Some, refl, sym, subst, ap, ◌∙◌, arith}
 use Rattle.std.proofs.Math.IntN.{neg_ℤ, *ℤ_comm, zero-*ℤ, suc_ℤ-*ℤ, pred_ℤ-*ℤ}
 use Rattle.std.proofs.lemmas.Int.{by_lt_z, ints, clamps}
+use Rattle.std.proofs.lemmas.Bool.Decides.{nat_tests}
 use Rattle.std.specs.Int.{int_min, int_max}
 use Rattle.std.specs.List.{AllByRecursion, fold}
+use Rattle.std.specs.Option.{is_some}
 use Rattle.owned_values.proofs.Elements.{all_weaker}
 use Rattle.decimal_text.specs.Rounding.{nearest}
 use Rattle.geometry.specs.Lists.{joined}
-use Rattle.geometry.specs.Points.{Point}
+use Rattle.geometry.specs.Points.{Point, IsWithin, IsPosition}
 use Rattle.geometry.specs.Units.{fine_units, position_limit}
 use Rattle.topojson_types.specs.declared.transform.Transform.{Transform}
 use Rattle.topojson_types.specs.Bounds.{Corners, bounds, box}
 use Rattle.topojson_types.specs.Topologies.{Contents}
-use Rattle.topojson_types.specs.Transforms.{grid_limit, place, place_on}
+use Rattle.topojson_types.specs.Transforms.{grid_limit, is_within, place, placed, place_on, PlacesAll}
 use Rattle.topojson_types.specs.TransformNumbers.{or_zero, stands_for, to_units, transform_value}
 use Rattle.topojson_types.specs.Validity.{IsPlace, IsTopology, objects_places}
 use Rattle.topojson_types.specs.Widening.{widened, widened_by}
 use Rattle.topojson_types.proofs.Boxes.{cells_of, cells_there, found}
+use Rattle.topojson_types.proofs.Grids.{is_within-both}
 
 times_more : (n : ℕ) (a b : ℤ) → a ≤ℤ b → (pos n *ℤ a) ≤ℤ (pos n *ℤ b)
 times_more zero a b h = omega (arith, ints, zero-*ℤ a, zero-*ℤ b)
@@ -111,6 +114,56 @@ module _ (f : ℤ → ℤ) (order : InOrder f) where
 
     all_lie : (c : Point) (cs : List Point) → Least (part c) (part c) (lies (at c)) (lies (at c)) cs
     all_lie c cs = ends_lie (part c) (part c) (lies (at c)) (lies (at c)) cs (omega (arith, ints)) (rw (same c) (omega (arith, ints, clamps))) (rw (same c) (omega (arith, ints, clamps)))
+
+-- ---- where the corners of the grid lie at positions, each of its cells does
+
+within_ends : (f : ℤ → ℤ) (order : InOrder f) (bound limit : ℕ) (k : ℤ) → unsigned_abs k ≤ bound
+    → unsigned_abs (f (neg_ℤ (pos bound))) ≤ limit → unsigned_abs (f (pos bound)) ≤ limit → unsigned_abs (f k) ≤ limit
+within_ends f order bound limit k h least greatest =
+    elim (sorted f order (neg_ℤ (pos bound)) k (pos bound) (omega (arith, ints, h)) (omega (arith, ints, h))) [
+      | inl s ↦ omega (arith, ints, s.0, s.1, least, greatest)
+      | inr s ↦ omega (arith, ints, s.0, s.1, least, greatest)
+    ]
+
+abbrev pub least_corner : Point
+least_corner = record { x = neg_ℤ (pos grid_limit); y = neg_ℤ (pos grid_limit) }
+
+abbrev pub greatest_corner : Point
+greatest_corner = record { x = pos grid_limit; y = pos grid_limit }
+
+all_between : (t : Transform) → IsPosition (place_on t least_corner) → IsPosition (place_on t greatest_corner) → PlacesAll t
+unfolding place_on
+all_between t least greatest c h = (
+  within_ends (stands_for t.scale.0 t.translate.0) (in_order t.scale.0 t.translate.0) grid_limit position_limit c.x h.0 least.0 greatest.0,
+  within_ends (stands_for t.scale.1 t.translate.1) (in_order t.scale.1 t.translate.1) grid_limit position_limit c.y h.1 least.1 greatest.1,
+)
+
+is_some_if : (b : Bool) (p : Point) → is_some (if b then Some p else None) ≡ b
+is_some_if true p = refl
+is_some_if false p = refl
+
+lies : (t : Transform) (c : Point) → is_some (placed (Some t) c) ≡ is_within position_limit (place_on t c)
+unfolding placed
+lies t c = is_some_if (is_within position_limit (place_on t c)) (place_on t c)
+
+both_within : (bound : ℕ) (p : Point) → is_within bound p ≡ true → IsWithin bound p
+unfolding is_within
+both_within bound p h = (grind (arith, nat_tests, h), grind (arith, nat_tests, h))
+
+module _ (t : Transform) (least greatest : Option Point) (first : least ≡ placed (Some t) least_corner) (second : greatest ≡ placed (Some t) greatest_corner) where
+  pub all_by_corners : is_some least ≡ true → is_some greatest ≡ true → PlacesAll t
+  all_by_corners h k =
+      all_between t
+      (both_within position_limit (place_on t least_corner) (sym (ap is_some first ∙ lies t least_corner) ∙ h))
+      (both_within position_limit (place_on t greatest_corner) (sym (ap is_some second ∙ lies t greatest_corner) ∙ k))
+
+  pub corners_by_all : PlacesAll t → (is_some least ≡ true) × (is_some greatest ≡ true)
+  corners_by_all all =
+      let low = all least_corner (lit≤ tt, lit≤ tt) in
+      let high = all greatest_corner (lit≤ tt, lit≤ tt) in (
+        ap is_some first ∙ (lies t least_corner ∙ is_within-both position_limit (place_on t least_corner) low.0 low.1),
+        ap is_some second ∙ (lies t greatest_corner ∙ is_within-both position_limit (place_on t greatest_corner) high.0 high.1),
+      )
 
 -- ---- the box of where cells lie, by the box of the cells
 

@@ -1,6 +1,6 @@
 -- Where the cells of a topology lie (TopoJSON 1.0, sections 2.1.2 and 2.1.3).
 use Rattle.std.specs.Prelude.{ℕ, ◌^◌, pos, ◌+ℤ◌, unsigned_abs, nat_le, Bool, ◌&&◌, List, [], ◌∷◌, Option, Some, None, if◌then◌else◌}
-use Rattle.geometry.specs.Points.{Point}
+use Rattle.geometry.specs.Points.{Point, IsWithin, IsPosition}
 use Rattle.geometry.specs.Units.{position_limit}
 use Rattle.topojson_types.specs.declared.transform.Transform.{Transform}
 use Rattle.topojson_types.specs.TransformNumbers.{stands_for, IsTransformNumber}
@@ -33,6 +33,10 @@ placed transform c = if is_within position_limit (place transform c) then Some (
 -- how far from zero the numbers of the grid may be
 abbrev pub grid_limit : ℕ
 grid_limit = 2 ^ 31
+
+-- each cell of the grid lies at a position
+abbrev pub PlacesAll : Transform → Type 0
+PlacesAll t = (c : Point) → IsWithin grid_limit c → IsPosition (place_on t c)
 
 -- the cell that lies so far from another
 abbrev pub moved : Point → Point → Point

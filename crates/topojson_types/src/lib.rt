@@ -35,7 +35,7 @@ pub use line_walk::LineWalk;
 pub use lines::positions;
 pub use object::TopoObject;
 pub use objects::{features, named_object};
-pub use placing::{placed, position_at};
+pub use placing::{placed, places_all_cells, position_at};
 pub use summing::{GRID_LIMIT, SumFault, cell_after, sums};
 pub use topology::Topology;
 pub use transform::Transform;

@@ -1,5 +1,5 @@
 // Where cells lie.
-ghost use Rattle.std.specs.Prelude.{◌≡◌, ◌≤◌, ◌^◌, ℤ, ◌+ℤ◌, ◌*ℤ◌, IfSome, IfNone, Some, ◌<◌, unsigned_abs};
+ghost use Rattle.std.specs.Prelude.{◌≡◌, ◌≤◌, ◌^◌, ℤ, ◌+ℤ◌, ◌*ℤ◌, IfSome, IfNone, Some, ◌<◌, ◌↔◌, IsTrue, unsigned_abs};
 ghost use Rattle.std.specs.Option.{option_copied};
 ghost use Rattle.decimal_text.specs.Rounding.{nearest};
 ghost use Rattle.geometry.specs.Units.{fine_units, position_limit};
@@ -9,6 +9,7 @@ ghost use Rattle.topojson_types.specs.Validity.{IsPlace};
 ghost use Rattle.topojson_types.specs.Widening.{widened};
 
 use crate::cell::Cell;
+use crate::summing::GRID_LIMIT;
 use crate::transform::Transform;
 use crate::transform_number::TransformNumber;
 use geojson_types::{PLACES, POSITION_LIMIT, Position};
@@ -114,6 +115,19 @@ pub fn placed(transform: Option<&Transform>, cell: Cell) -> Option<Position>
     let x = coordinate_on(&transform.scale.0, &transform.translate.0, cell.x())?;
     let y = coordinate_on(&transform.scale.1, &transform.translate.1, cell.y())?;
     Some(Position::at(x, y))
+}
+
+/// The greatest number of the grid.
+const GRID_END: i64 = GRID_LIMIT as i64;
+
+/// Whether each cell of the grid lies at a position. What a number of the grid stands for is between what the least and the greatest of them
+/// stand for, so no other cell is placed.
+pub fn places_all_cells(transform: &Transform) -> bool
+    ensures { IsTrue result ↔ spec.PlacesAll transform.now }
+{
+    let least = placed(Some(transform), Cell::at(-GRID_END, -GRID_END));
+    let greatest = placed(Some(transform), Cell::at(GRID_END, GRID_END));
+    least.is_some() && greatest.is_some()
 }
 
 /// Where a cell that may stand in a topology lies.

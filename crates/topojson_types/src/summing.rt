@@ -47,6 +47,7 @@ impl<T: Drop> From<AllocFailed<T>> for SumFault {
 }
 
 /// The cell that lies so far from another, if it is one of a grid.
+#[inline(always)]
 #[tactic(auto, unfolding(crate::specs::Transforms::is_within))]
 pub fn cell_after(before: Cell, difference: Cell) -> Option<Cell>
     ensures some { IfSome result (λ c. (c ≡ moved before difference) × (is_within grid_limit (moved before difference) ≡ true)) }

@@ -1,6 +1,7 @@
 -- Positions and cells by their pairs of numbers.
-use Rattle.std.proofs.Common.{◌≡◌, ℕ, ◌≤◌, Bool, true, false, List, [], ◌∷◌, length, Option, Some, None, Result, Ok, Err, if◌then◌else◌, refl}
+use Rattle.std.proofs.Common.{◌≡◌, ℕ, ◌≤◌, Bool, true, false, List, [], ◌∷◌, length, Option, Some, None, Result, Ok, Err, if◌then◌else◌, refl, arith}
 use Rattle.std.specs.Prelude.{ℤ, nat_lt, not, unsigned_abs, IfSome}
+use Rattle.std.proofs.lemmas.Bool.Decides.{nat_tests}
 use Rattle.decimal_text.specs.declared.num_text.Scaled.{Scaled}
 use Rattle.decimal_text.specs.declared.num_text.Range.{Range as OutOfRange}
 use Rattle.decimal_text.specs.Scaling.{scaled_of}
@@ -8,10 +9,10 @@ use Rattle.json_value.specs.declared.json.Json.{Json}
 use Rattle.json_value.specs.Kinds.{array_of, number_of}
 use Rattle.geojson_types.specs.declared.counts.Counts.{Counts}
 use Rattle.geojson_types.specs.Counting.{count_extra, count_rounded}
-use Rattle.geometry.specs.Points.{Point}
+use Rattle.geometry.specs.Points.{Point, IsWithin}
 use Rattle.geometry.specs.Units.{unit_places, position_limit}
 use Rattle.topojson_types.specs.declared.transform.Transform.{Transform}
-use Rattle.topojson_types.specs.Transforms.{moved, grid_limit, origin}
+use Rattle.topojson_types.specs.Transforms.{moved, grid_limit, is_within, origin, place_on, PlacesAll}
 use Rattle.topojson_meaning.specs.declared.fault.TopoFault.{TopoFault}
 use Rattle.topojson_meaning.specs.declared.fault.TopoFault.TheVariants.{WrongKind, GridNumber}
 use Rattle.topojson_meaning.specs.Arcs as arcs
@@ -100,6 +101,20 @@ module _ (t : Transform) (bound : ℕ) (before : Point) where
   pub cell_is : (v : Json) (c : Counts) → arcs.cell t bound before v c ≡ and_then (cell_of t before) (pair (scale.Whole bound) v c)
   unfolding arcs.cell elements array_by
   cell_is v c = cell_by (array_of v) c
+
+-- ---- cells of a grid whose cells all lie at positions
+
+within_by : (bound : ℕ) (p : Point) → is_within bound p ≡ true → IsWithin bound p
+unfolding is_within
+within_by bound p h = (grind (arith, nat_tests, h), grind (arith, nat_tests, h))
+
+is_within_by : (bound : ℕ) (p : Point) → IsWithin bound p → is_within bound p ≡ true
+unfolding is_within
+is_within_by bound p h = grind (arith, h.0, h.1)
+
+pub cell_if_all : (t : Transform) (c : Point) → PlacesAll t → is_within grid_limit c ≡ true → arcs.grid_cell t c ≡ Ok c
+unfolding arcs.grid_cell
+cell_if_all t c all h = let lies : is_within position_limit (place_on t c) ≡ true = is_within_by position_limit (place_on t c) (all c (within_by grid_limit c h)) in rw (h, lies) refl
 
 -- ---- places
 

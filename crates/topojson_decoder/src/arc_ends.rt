@@ -6,6 +6,7 @@ ghost use Rattle.json_cursor.specs.Arrays.{prefix_value};
 ghost use Rattle.geometry.specs.Points.{Point};
 ghost use Rattle.topojson_decoder.specs.ArcEnds.{EndsOfArcsSoFar, EndsSoFar, arc_ends, arc_ends_list, ends_from, more_ends, with_arc_ends, with_end};
 
+use crate::grids::Grid;
 use crate::next_cells::{ByDifferences, ByPositions, NextCell};
 use crate::spelled_arcs::SpelledArcs;
 use geojson_types::Counts;
@@ -220,7 +221,8 @@ pub(crate) fn arc_ends_at<'a>(
     match transform {
         None => arc_ends_by(alloc, depth_left, ByPositions, bytes, counts),
         Some(transform) => {
-            let by = ByDifferences { transform };
+            let grid = Grid::of_many(transform);
+            let by = ByDifferences { grid };
             arc_ends_by(alloc, depth_left, by, bytes, counts)
         }
     }

@@ -14,6 +14,7 @@ ghost use Rattle.topojson_decoder.specs.Cells.{ArcsSoFar, CellsSoFar, with_arc, 
 ghost use Rattle.topojson_decoder.specs.Kept.{kept_arc_list};
 
 use crate::arc_ends::{KeptArcs, arc_ends_at};
+use crate::grids::Grid;
 use crate::keeping::Keeping;
 use crate::next_cells::{ByDifferences, ByPositions, NextCell};
 use crate::spelled_arcs::SpelledArcs;
@@ -162,7 +163,8 @@ pub fn arc_at<'a>(
     match transform {
         None => arc_by(alloc, depth_left, ByPositions, bytes, counts),
         Some(transform) => {
-            let by = ByDifferences { transform };
+            let grid = Grid::of_many(transform);
+            let by = ByDifferences { grid };
             arc_by(alloc, depth_left, by, bytes, counts)
         }
     }
@@ -305,8 +307,9 @@ fn spelled_arcs_at<'a>(
             ))
         }
         Some(transform) => {
+            let grid = Grid::of_many(transform);
             let start = Arcs {
-                by: ByDifferences { transform },
+                by: ByDifferences { grid },
                 arcs: SpelledArcs::none(alloc, false),
                 used,
             };

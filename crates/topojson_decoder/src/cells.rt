@@ -3,17 +3,18 @@ ghost use Rattle.std.specs.Prelude.{◌≡◌, ◌≤◌, ◌^◌};
 ghost use Rattle.std.specs.Option.{option_copied};
 ghost use Rattle.json_cursor.specs.Answers.{Answers};
 ghost use Rattle.json_cursor.specs.Arrays.{prefix_value};
-ghost use Rattle.topojson_types.specs.Transforms.{grid_limit, moved, origin};
+ghost use Rattle.topojson_types.specs.Transforms.{grid_limit, origin};
 ghost use Rattle.topojson_meaning.specs.Arcs as spec;
 ghost use Rattle.topojson_decoder.specs.Cells.{whole};
 
+use crate::grids::Grid;
 use crate::numbers::Scale;
 use crate::pairs::{pair_at, plain_pair_at};
 use geojson_types::Counts;
 use json_cursor::Stop;
 use std::alloc::Global;
 use topojson_meaning::TopoFault;
-use topojson_types::{Cell, GRID_LIMIT, Transform, cell_after, placed};
+use topojson_types::{Cell, GRID_LIMIT, Transform};
 use unit_scanning::Units;
 
 /// How far from zero a difference may be.
@@ -76,21 +77,6 @@ fn grid_number(number: Option<Units>) -> Option<i64>
     Some(number.value)
 }
 
-/// The cell of the grid that lies so far from another, and at a position. It isn't put in its place, so that what reads a cell is.
-#[inline(never)]
-#[tactic(auto, unfolding(topojson_meaning::specs::Arcs::grid_cell, topojson_types::specs::Transforms::placed))]
-fn grid_cell(transform: &Transform, before: Cell, difference: Cell) -> Result<Cell, TopoFault>
-    ensures { result ≡ spec.grid_cell transform.now (moved before difference) }
-{
-    let Some(cell) = cell_after(before, difference) else {
-        return Err(TopoFault::GridNumber);
-    };
-    match placed(Some(transform), cell) {
-        None => Err(TopoFault::Range),
-        Some(_) => Ok(cell),
-    }
-}
-
 /// The cell at the front, however it is written, which stands as its difference from this one, and what follows it: the numbers of the
 /// difference are no farther from zero than the bound.
 #[cold]
@@ -98,14 +84,14 @@ fn grid_cell(transform: &Transform, before: Cell, difference: Cell) -> Result<Ce
 fn any_cell_within<'a>(
     alloc: Global,
     depth_left: u32,
-    transform: &Transform,
+    grid: Grid,
     bound: u64,
     before: Cell,
     bytes: &'a [u8],
     counts: &mut Counts,
 ) -> Result<(Cell, &'a [u8]), Stop<TopoFault>>
     requires { bound ≤ 2 ^ 32 }
-    ensures { Answers (λ c. c) (spec.cell transform.now bound before) (prefix_value depth_left bytes.now) counts.old counts.new result }
+    ensures { Answers (λ c. c) (spec.cell grid.entry.transform.now bound before) (prefix_value depth_left bytes.now) counts.old counts.new result }
 {
     match pair_at(alloc, depth_left, Scale::Whole(bound), bytes) {
         Err(stop) => Err(stop),
@@ -116,7 +102,7 @@ fn any_cell_within<'a>(
             let Some(y) = grid_number(pair.y) else {
                 return Err(Stop::Fault(TopoFault::GridNumber));
             };
-            match grid_cell(transform, before, Cell::at(x, y)) {
+            match grid.cell(before, Cell::at(x, y)) {
                 Err(fault) => Err(Stop::Fault(fault)),
                 Ok(cell) => {
                     counts.count_extra(pair.more);
@@ -133,20 +119,20 @@ fn any_cell_within<'a>(
 fn cell_within<'a>(
     alloc: Global,
     depth_left: u32,
-    transform: &Transform,
+    grid: Grid,
     bound: u64,
     before: Cell,
     bytes: &'a [u8],
     counts: &mut Counts,
 ) -> Result<(Cell, &'a [u8]), Stop<TopoFault>>
     requires { bound ≤ 2 ^ 32 }
-    ensures { Answers (λ c. c) (spec.cell transform.now bound before) (prefix_value depth_left bytes.now) counts.old counts.new result }
+    ensures { Answers (λ c. c) (spec.cell grid.entry.transform.now bound before) (prefix_value depth_left bytes.now) counts.old counts.new result }
 {
     let scale = Scale::Whole(bound);
     let Some((x, y, more, rest)) = plain_pair_at(alloc, depth_left, scale, bytes) else {
-        return any_cell_within(alloc, depth_left, transform, bound, before, bytes, counts);
+        return any_cell_within(alloc, depth_left, grid, bound, before, bytes, counts);
     };
-    match grid_cell(transform, before, Cell::at(x, y)) {
+    match grid.cell(before, Cell::at(x, y)) {
         Err(fault) => Err(Stop::Fault(fault)),
         Ok(cell) => {
             counts.count_extra(more);
@@ -169,7 +155,7 @@ fn grid_place_at<'a>(
     cell_within(
         alloc,
         depth_left,
-        transform,
+        Grid::of_few(transform),
         GRID_LIMIT,
         Cell::at(0, 0),
         bytes,
@@ -199,17 +185,17 @@ pub fn place_at<'a>(
 pub(crate) fn difference_at<'a>(
     alloc: Global,
     depth_left: u32,
-    transform: &Transform,
+    grid: Grid,
     before: Cell,
     bytes: &'a [u8],
     counts: &mut Counts,
 ) -> Result<(Cell, &'a [u8]), Stop<TopoFault>>
-    ensures { Answers (λ c. c) (spec.cell transform.now spec.difference_limit before) (prefix_value depth_left bytes.now) counts.old counts.new result }
+    ensures { Answers (λ c. c) (spec.cell grid.entry.transform.now spec.difference_limit before) (prefix_value depth_left bytes.now) counts.old counts.new result }
 {
     cell_within(
         alloc,
         depth_left,
-        transform,
+        grid,
         DIFFERENCE_LIMIT,
         before,
         bytes,

@@ -15,6 +15,7 @@ mod escaping;
 mod feature_parts;
 mod geometries;
 mod geometry_parts;
+mod grids;
 mod held;
 mod index;
 mod joins;

@@ -10,12 +10,13 @@ ghost use Rattle.topojson_meaning.specs.Arcs as spec;
 ghost use Rattle.topojson_decoder.specs.Cells.{cell_from};
 
 use crate::cells::{difference_at, position_at};
+use crate::grids::Grid;
 use crate::least_arcs::least_arc_at;
 use geojson_types::Counts;
 use json_cursor::Stop;
 use std::alloc::{AllocError, Global};
 use topojson_meaning::TopoFault;
-use topojson_types::{Cell, Transform};
+use topojson_types::Cell;
 
 /// How a cell is read that stands after another in its arc. What reads an arc is made for each way, so that its loop has one alone.
 pub trait NextCell: Copy {
@@ -77,11 +78,11 @@ impl NextCell for ByPositions {
 /// Each cell stands as its difference from the one before it.
 #[derive(Clone, Copy)]
 pub struct ByDifferences<'t> {
-    pub transform: &'t Transform,
+    pub(crate) grid: Grid<'t>,
 }
 
 impl<'t> NextCell for ByDifferences<'t> {
-    ghost transform = { λ s. Some s.transform.now };
+    ghost transform = { λ s. Some s.grid.transform.now };
 
     #[inline(always)]
     fn next_at<'a>(
@@ -92,7 +93,7 @@ impl<'t> NextCell for ByDifferences<'t> {
         bytes: &'a [u8],
         counts: &mut Counts,
     ) -> Result<(Cell, &'a [u8]), Stop<TopoFault>> {
-        difference_at(alloc, depth_left, self.transform, before, bytes, counts)
+        difference_at(alloc, depth_left, self.grid, before, bytes, counts)
     }
 
     #[inline(always)]

@@ -4,4 +4,4 @@ pub returns-in-None : goal.returns-in-None
 returns-in-None c = rw c.in-None.is c.arc_ends_by.ensures
 
 pub returns-in-Some : goal.returns-in-Some
-returns-in-Some c = rw c.in-Some.is c.arc_ends_by-in-Some.ensures
+returns-in-Some c = rw c.in-Some.is (rw c.of_many-grid.ensures at c.arc_ends_by-in-Some.ensures)

@@ -9,7 +9,6 @@ use Rattle.build_meaning.specs.GridTransforms.{transform_of}
 use Rattle.build_meaning.specs.Celled.{feature_celled, object_celled, objects_celled, celled, EachCell}
 use Rattle.build_meaning.proofs.CelledDecoding.{placed_alike}
 use Rattle.owned_values.proofs.Elements.{all_weaker, all_left, all_right}
-use Rattle.owned_values.proofs.Lists.{map_agree}
 use Rattle.topojson_types.specs.declared.feature.TopoFeature.{TopoFeature}
 use Rattle.topojson_types.specs.declared.object.TopoObject.{TopoObject}
 use Rattle.topojson_types.specs.declared.transform.Transform.{Transform}
@@ -37,9 +36,6 @@ module _ (axes : Axes) where
   all_same : (ps : List Point) → AllOn ps → AllByRecursion Same ps
   all_same ps on = all_weaker On Same (λ p k. if_covered axes p k.0) ps on
 
-  arcs_same : (arcs : List (List Point)) → AllByRecursion AllOn arcs → map (map f) arcs ≡ map (map (cell axes)) arcs
-  arcs_same arcs on = grind (arith, map_agree, all_weaker, all_same)
-
   shape_same : (s : Option TopoShape) → AllOn (option_places s) → then_some (prune f as_they_are) s ≡ then_some (prune (cell axes) as_they_are) s
   shape_same None on = refl
   shape_same (Some s) on = placed_alike f (cell axes) as_they_are s (all_same (places s) on)
@@ -63,12 +59,12 @@ abbrev pub made_of : List (List ℕ × TopoObject) → List (List Point) → Opt
 made_of os arcs t = record { objects = os; arcs = arcs; transform = t }
 
 pub put_on : (axes : Axes) (y : Contents) → EachCell (IsOn (Some axes)) y
-    → made_of (objects_placed (cell_if_covered axes) as_they_are y.objects) (map (map (cell_if_covered axes)) y.arcs) (Some (transform_of axes)) ≡ quantized (Some axes) y
+    → made_of (objects_placed (cell_if_covered axes) as_they_are y.objects) (map (map (cell axes)) y.arcs) (Some (transform_of axes)) ≡ quantized (Some axes) y
 unfolding celled
-put_on axes y on = grind (arith, objects_same axes y.objects on.1, arcs_same axes y.arcs on.0)
+put_on axes y on = grind (arith, objects_same axes y.objects on.1)
 
 -- what is made of parts that are the quantized objects, arcs and transform is the quantized topology
 pub finished : (axes : Axes) (y : Contents) (os : List (List ℕ × TopoObject)) (arcs : List (List Point)) (t : Transform) → EachCell (IsOn (Some axes)) y
-    → t ≡ transform_of axes → os ≡ objects_placed (cell_if_covered axes) as_they_are y.objects → arcs ≡ map (map (cell_if_covered axes)) y.arcs
+    → t ≡ transform_of axes → os ≡ objects_placed (cell_if_covered axes) as_they_are y.objects → arcs ≡ map (map (cell axes)) y.arcs
     → made_of os arcs (Some t) ≡ quantized (Some axes) y
 finished axes y os arcs t on e k l = grind (arith, put_on)

@@ -1,5 +1,8 @@
 // Cells in place of positions, in arcs, points and MultiPoints.
-ghost use Rattle.std.specs.Prelude.{◌≡◌, map};
+ghost use Rattle.std.specs.Prelude.{◌≡◌, Some, map};
+ghost use Rattle.std.specs.List.{AllByRecursion};
+ghost use Rattle.build_meaning.specs.Quantized.{IsOn};
+ghost use Rattle.grid_snap.specs.Axes.{cell};
 ghost use Rattle.topo_model.specs.ArcUses.{as_they_are};
 ghost use Rattle.layer_topology.specs.Replacing.{cell_if_covered};
 
@@ -11,7 +14,7 @@ use topo_model::Keeps;
 use topojson_types::{ArcRef, Cell};
 
 /// The cell that stands for a position of a topology without a transform. One that the grid doesn't cover stays.
-pub(crate) fn cell_on(grid: &Grid, position: Cell) -> Cell
+fn cell_if_covered(grid: &Grid, position: Cell) -> Cell
     ensures { result ≡ cell_if_covered grid.now position }
 {
     grid.law();
@@ -25,18 +28,30 @@ pub(crate) fn cell_on(grid: &Grid, position: Cell) -> Cell
     Cell::at(x, y)
 }
 
-/// Each position replaced.
-pub(crate) fn cells_on(grid: &Grid, cells: &mut [Cell])
-    ensures { cells.new ≡ map (cell_if_covered grid.now) cells.old }
+/// The cell that stands for a position on the grid.
+fn cell_on(grid: &Grid, position: Cell) -> Cell
+    requires { IsOn (Some grid.now) position }
+    ensures { result ≡ cell grid.now position }
+{
+    grid.law();
+    let (x, y) = grid.cell_on(Position::at(position.x(), position.y()));
+    Cell::at(x, y)
+}
+
+/// Each position replaced, all of which are on the grid.
+fn cells_on(grid: &Grid, cells: &mut [Cell])
+    requires { AllByRecursion (IsOn (Some grid.now)) cells.old }
+    ensures { cells.new ≡ map (cell grid.now) cells.old }
 {
     'cells: for cell in cells.iter_mut() {
         *cell = cell_on(grid, *cell);
     }
 }
 
-/// Each position of each arc replaced.
+/// Each position of each arc replaced, all of which are on the grid.
 pub(crate) fn arcs_on(grid: &Grid, arcs: &mut [Items<Cell>])
-    ensures { arcs.new ≡ map (map (cell_if_covered grid.now)) arcs.old }
+    requires { AllByRecursion (λ a. AllByRecursion (IsOn (Some grid.now)) a) arcs.old }
+    ensures { arcs.new ≡ map (map (cell grid.now)) arcs.old }
 {
     'arcs: for arc in arcs.iter_mut() {
         cells_on(grid, arc.as_mut_slice());
@@ -71,7 +86,7 @@ impl<'a> Keeps for Gridding<'a> {
     ghost keeps = { λ grid. as_they_are };
 
     fn place(&self, cell: Cell) -> Cell {
-        cell_on(self.grid, cell)
+        cell_if_covered(self.grid, cell)
     }
 
     fn keep(&self, _closed: bool, _refs: &mut Items<ArcRef>) -> bool {

@@ -2,13 +2,21 @@ use Rattle.std.proofs.Common.{ℕ, List, map, Some, refl, sym, ap, ◌∙◌, su
 use Rattle.geometry.proofs.Moved.{refilled}
 use Rattle.topojson_types.specs.declared.object.TopoObject.{TopoObject}
 use Rattle.topojson_types.specs.Validity.{IsTopology}
-use Rattle.layer_topology.specs.Replacing.{cell_if_covered}
+use Rattle.std.specs.List.{AllByRecursion}
+use Rattle.geometry.specs.Points.{Point}
+use Rattle.grid_snap.specs.Axes.{cell}
+use Rattle.build_meaning.specs.Quantized.{IsOn}
 use Rattle.layer_topology.proofs.Agreeing.{finished, named_placed}
 use Rattle.layer_topology.proofs.topology.with_cells.Goals as goal
 
+pub arcs_on-requires : goal.arcs_on-requires
+arcs_on-requires c =
+    subst (λ (arcs : List (List Point)). AllByRecursion (λ a. AllByRecursion (IsOn (Some c.args.grid.now)) a) arcs)
+    (sym (c.as_mut_slice-2.ensures.value ∙ c.into_parts-objects.ensures.arcs)) c.requires.on.0
+
 pub of-requires : goal.of-requires
 of-requires c =
-    let f = cell_if_covered c.args.grid.now in
+    let f = cell c.args.grid.now in
     let placed : List ℕ × TopoObject → List ℕ × TopoObject = named_placed c.on.result in
     record {
       valid = subst IsTopology
@@ -21,7 +29,7 @@ of-requires c =
 
 pub returns : goal.returns
 returns c =
-    let f = cell_if_covered c.args.grid.now in
+    let f = cell c.args.grid.now in
     let placed : List ℕ × TopoObject → List ℕ × TopoObject = named_placed c.on.result in
     c.of.ensures
     ∙ finished c.args.grid.now c.args.topology _ _ c.args.transform c.requires.on c.requires.transform

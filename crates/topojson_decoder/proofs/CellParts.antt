@@ -1,5 +1,5 @@
 -- Positions and cells by their pairs of numbers.
-use Rattle.std.proofs.Common.{◌≡◌, ℕ, ◌≤◌, Bool, true, false, List, [], ◌∷◌, length, Option, Some, None, Result, Ok, Err, if◌then◌else◌, refl, arith}
+use Rattle.std.proofs.Common.{◌≡◌, ℕ, ◌≤◌, Bool, true, false, List, [], ◌∷◌, length, Option, Some, None, Result, Ok, Err, if◌then◌else◌, refl, sym, ap, ◌∙◌, arith}
 use Rattle.std.specs.Prelude.{ℤ, nat_lt, not, unsigned_abs, IfSome}
 use Rattle.std.proofs.lemmas.Bool.Decides.{nat_tests}
 use Rattle.decimal_text.specs.declared.num_text.Scaled.{Scaled}
@@ -115,6 +115,10 @@ is_within_by bound p h = grind (arith, h.0, h.1)
 pub cell_if_all : (t : Transform) (c : Point) → PlacesAll t → is_within grid_limit c ≡ true → arcs.grid_cell t c ≡ Ok c
 unfolding arcs.grid_cell
 cell_if_all t c all h = let lies : is_within position_limit (place_on t c) ≡ true = is_within_by position_limit (place_on t c) (all c (within_by grid_limit c h)) in rw (h, lies) refl
+
+pub known_by : (t : Transform) (c : Point) (o : Option Point) → PlacesAll t → IfSome o (λ found. (found ≡ c) × (is_within grid_limit c ≡ true)) → IfSome o (λ found. arcs.grid_cell t c ≡ Ok found)
+known_by t c None all h = tt
+known_by t c (Some found) all h = cell_if_all t c all h.1 ∙ ap Ok (sym h.0)
 
 -- ---- places
 

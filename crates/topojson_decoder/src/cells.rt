@@ -132,7 +132,12 @@ fn cell_within<'a>(
     let Some((x, y, more, rest)) = plain_pair_at(alloc, depth_left, scale, bytes) else {
         return any_cell_within(alloc, depth_left, grid, bound, before, bytes, counts);
     };
-    match grid.cell(before, Cell::at(x, y)) {
+    let difference = Cell::at(x, y);
+    if let Some(cell) = grid.known_cell(before, difference) {
+        counts.count_extra(more);
+        return Ok((cell, rest));
+    }
+    match grid.cell(before, difference) {
         Err(fault) => Err(Stop::Fault(fault)),
         Ok(cell) => {
             counts.count_extra(more);

@@ -1,5 +1,5 @@
 // The grid that the cells of a topology with a transform lie on (TopoJSON 1.0, section 2.1.2).
-ghost use Rattle.std.specs.Prelude.{◌≡◌, true};
+ghost use Rattle.std.specs.Prelude.{◌≡◌, true, IfSome, Ok};
 ghost use Rattle.topojson_types.specs.Transforms.{PlacesAll, moved};
 ghost use Rattle.topojson_meaning.specs.Arcs as spec;
 
@@ -13,21 +13,6 @@ pub(crate) struct Grid<'t> {
     is_placed: bool,
     // where that is set, each cell lies at a position
     ghost known: { is_placed ≡ true → PlacesAll transform.now },
-}
-
-/// The cell of the grid that lies so far from another, and at a position. It isn't put in its place, so that what reads a cell is.
-#[inline(never)]
-#[tactic(auto, unfolding(topojson_meaning::specs::Arcs::grid_cell, topojson_types::specs::Transforms::placed))]
-fn placed_cell(transform: &Transform, before: Cell, difference: Cell) -> Result<Cell, TopoFault>
-    ensures { result ≡ spec.grid_cell transform.now (moved before difference) }
-{
-    let Some(cell) = cell_after(before, difference) else {
-        return Err(TopoFault::GridNumber);
-    };
-    match placed(Some(transform), cell) {
-        None => Err(TopoFault::Range),
-        Some(_) => Ok(cell),
-    }
 }
 
 impl<'t> Grid<'t> {
@@ -52,18 +37,29 @@ impl<'t> Grid<'t> {
         }
     }
 
-    /// The cell that lies so far from another, and at a position.
+    /// The cell that lies so far from another, if it is one of the grid and each of these is known to lie at a position.
     #[inline(always)]
-    #[tactic(auto, unfolding(topojson_meaning::specs::Arcs::grid_cell))]
+    pub(crate) fn known_cell(self, before: Cell, difference: Cell) -> Option<Cell>
+        ensures { IfSome result (λ c. spec.grid_cell self.entry.transform.now (moved before difference) ≡ Ok c) }
+    {
+        if !self.is_placed {
+            return None;
+        }
+        cell_after(before, difference)
+    }
+
+    /// The cell that lies so far from another, and at a position. It isn't put in its place, so that what reads a cell is.
+    #[inline(never)]
+    #[tactic(auto, unfolding(topojson_meaning::specs::Arcs::grid_cell, topojson_types::specs::Transforms::placed))]
     pub(crate) fn cell(self, before: Cell, difference: Cell) -> Result<Cell, TopoFault>
         ensures { result ≡ spec.grid_cell self.entry.transform.now (moved before difference) }
     {
-        if !self.is_placed {
-            return placed_cell(self.transform, before, difference);
-        }
-        match cell_after(before, difference) {
-            None => Err(TopoFault::GridNumber),
-            Some(cell) => Ok(cell),
+        let Some(cell) = cell_after(before, difference) else {
+            return Err(TopoFault::GridNumber);
+        };
+        match placed(Some(self.transform), cell) {
+            None => Err(TopoFault::Range),
+            Some(_) => Ok(cell),
         }
     }
 }

@@ -11,11 +11,12 @@ use owned_values::{Items, Memory, OwnText};
 use std::alloc::Global;
 use std::marker::Model;
 
-// What properties are kept as: their members, or the text of the object with these members.
+// What properties are kept as: their members, or the text of the object with these members, in memory of its own or in memory that stays.
 #[derive(Debug, Drop)]
 enum Form {
     Values(Items<(OwnText, Json)>),
     Text(Items<u8>),
+    Lent(&'static [u8]),
 }
 
 /// The properties of a feature, which are an object: its members in order, with duplicates.
@@ -70,6 +71,16 @@ impl Properties {
         }
     }
 
+    /// The same where the text stands in memory that stays to the end of the process, in which it is left.
+    pub fn lent(text: &'static [u8]) -> Properties
+        requires { json_text (j.Object (members_in text.now)) ≡ text.now }
+        ensures { result ≡ members_in text.now }
+    {
+        Properties {
+            form: Form::Lent(text),
+        }
+    }
+
     /// Their members, or their text.
     pub fn form(&self) -> PropertiesForm<'_>
         ensures { Shows self.now result }
@@ -77,6 +88,7 @@ impl Properties {
         match &self.form {
             Form::Values(members) => PropertiesForm::Values(members.as_slice()),
             Form::Text(text) => PropertiesForm::Text(text.as_slice()),
+            Form::Lent(text) => PropertiesForm::Text(text),
         }
     }
 

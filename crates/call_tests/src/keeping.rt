@@ -34,7 +34,7 @@ fn are_as_read(alloc: Global, properties: &Properties) -> bool {
 
 /// Whether the properties at the front are as they are read, and this follows them.
 fn is_read(alloc: Global, text: &str, following: &str) -> bool {
-    let Ok(read) = read_properties(alloc, 124, text.as_bytes()) else {
+    let Ok(read) = read_properties(alloc, 124, text.as_bytes(), None) else {
         return false;
     };
     let (given, rest) = read;
@@ -76,7 +76,7 @@ fn are_copied(alloc: Global, members: Items<(OwnText, Json)>) -> bool {
 }
 
 fn values_are_copied(alloc: Global) -> bool {
-    let Ok(read) = read_properties(alloc, 124, MEMBERS.as_bytes()) else {
+    let Ok(read) = read_properties(alloc, 124, MEMBERS.as_bytes(), None) else {
         return false;
     };
     let (given, _rest) = read;

@@ -77,7 +77,7 @@ fn properties_at<'a>(
 ) -> Result<(Result<Option<Properties>, GeoFaultKind>, &'a [u8]), Fault>
     ensures { FindsValue IsProperties depth_left bytes.now result }
 {
-    let (read, rest) = read_properties(alloc, depth_left, bytes)?;
+    let (read, rest) = read_properties(alloc, depth_left, bytes, None)?;
     match read {
         None => Ok((Err(GeoFaultKind::WrongKind), rest)),
         Some(properties) => Ok((Ok(properties), rest)),

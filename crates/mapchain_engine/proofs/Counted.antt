@@ -42,7 +42,7 @@ abbrev summary_of_parts : Parts → Summary
 summary_of_parts p = record { objects = numbered_by p.features (map counted p.objects); arcs = length p.arcs; positions = unwrap_or p.positions (positions_in p.arcs); grid = is_some p.transform; crossings = None }
 
 same_summary : (k : Keeping) (t : Contents) → summary_of_parts (of_contents k t) ≡ summary_of t
-same_summary Whole t = rw (all_counted Whole (λ fs. refl) t.objects) refl
+same_summary (Whole text) t = rw (all_counted (Whole text) (λ fs. refl) t.objects) refl
 same_summary Shapes t = rw (all_counted Shapes (λ fs. refl) t.objects) refl
 same_summary Counted t = rw (all_numbered t.objects, length-map t.arcs ends) refl
 

@@ -36,10 +36,10 @@ fn send<W: Drain>(
     Ok(sent)
 }
 
-/// Writes the features of the object of this name of the topology that the bytes spell, and flushes the sink.
+/// Writes the features of the object of this name of the topology that the bytes spell, which stay to the end of the process, and flushes the sink.
 fn decode<W: Drain>(
     alloc: Global,
-    bytes: &[u8],
+    bytes: &'static [u8],
     name: &str,
     sink: &mut Sink<W>,
 ) -> Result<u64, FileFault>
@@ -65,7 +65,7 @@ fn decode<W: Drain>(
 /// The topology is read from its source to the end, and refused as by `stat`. A GeometryCollection is a FeatureCollection, any other
 /// object a Feature; each line and ring is its arcs, forwards or reversed, put together. On each fault but `Write` the sink is as
 /// it was. On `Write` it took a prefix of the text, of the length that is reported. At `Ok` the sink is flushed. The memory of the
-/// topology and of its text, from which lines are copied, is left to the end of the process.
+/// topology and of its text, from which lines and properties are copied, is left to the end of the process.
 pub fn to_geo<R: Feed, W: Drain>(
     alloc: Global,
     source: &mut Source<R>,
@@ -80,9 +80,7 @@ pub fn to_geo<R: Feed, W: Drain>(
     ensures decided { (bytes : List ℕ) (outcome : Result (List ℕ) Fault) → source.old.left ≡ Some bytes → FileHasOutcome (object_text name.now) bytes outcome
         → FollowsText sink.old sink.new outcome result }
 {
-    let bytes = bytes_of(alloc, source)?;
-    let sent = decode(alloc, &bytes, name, sink);
     // (as in building)
-    mem::forget(bytes);
-    sent
+    let bytes = bytes_of(alloc, source)?.leak();
+    decode(alloc, bytes, name, sink)
 }

@@ -46,11 +46,12 @@ fn topology_of(alloc: Global, bytes: &[u8]) -> Result<(Topology, Counts), FileFa
     }
 }
 
-/// The same beside the texts in which the arcs of the topology stand, as far as these are what is written of them.
-pub(crate) fn spelled_of<'a>(
+/// The same of bytes that stay to the end of the process, beside the texts in which the arcs of the topology stand, as far as these are what is
+/// written of them.
+pub(crate) fn spelled_of(
     alloc: Global,
-    bytes: &'a [u8],
-) -> Result<(SpelledTopology<'a>, Counts), FileFault>
+    bytes: &'static [u8],
+) -> Result<(SpelledTopology<'static>, Counts), FileFault>
     ensures { IsSpelledOf bytes.now result }
 {
     match read_spelled_text(alloc, bytes) {

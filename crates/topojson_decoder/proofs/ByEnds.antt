@@ -207,6 +207,6 @@ ends_so arcs (negsuc n) = last_reverse (or_empty (at (map ends arcs) n)) ∙ ap 
 
 -- objects are read over what is kept of arcs as over the arcs
 pub over_kept : (k : Keeping) (t : Option Transform) (arcs : List (List Point)) → objects t (of_arcs k arcs) ≡ objects t arcs
-over_kept Whole t arcs = refl
+over_kept (Whole text) t arcs = refl
 over_kept Shapes t arcs = refl
 over_kept Counted t arcs = λ i v. of_objects (map ends arcs) arcs (length-map arcs ends) (begins_so arcs) (ends_so arcs) t v i

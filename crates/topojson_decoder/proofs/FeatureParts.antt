@@ -139,17 +139,17 @@ module _ {A : Type 0} (k : Keeping) where
       kept_fault e h = fault_kept (found_in read vs) e (sym (found_kept (with_fault lookup_fault (only vs))) ∙ sym h)
 
 -- nothing is lost of the whole
-all_of : {A : Type 0} (r : Result (Option A) TopoFault) → r ≡ of_read Whole r
-all_of (Ok x) = ap Ok (sym (whole_option x))
-all_of (Err e) = refl
+all_of : {A : Type 0} (t : Option (Bor (List ℕ))) (r : Result (Option A) TopoFault) → r ≡ of_read (Whole t) r
+all_of t (Ok x) = ap Ok (sym (whole_option t x))
+all_of t (Err e) = refl
 
-pub whole_read : {A : Type 0} (k : Keeping) → k ≡ Whole → (r : Result (Option A) TopoFault) → r ≡ of_read k r
-whole_read k h r = rw h (all_of r)
+pub whole_read : {A : Type 0} (k : Keeping) (t : Option (Bor (List ℕ))) → k ≡ Whole t → (r : Result (Option A) TopoFault) → r ≡ of_read k r
+whole_read k t h r = rw h (all_of t r)
 
 -- and where geometries alone are kept there is as much of them as where nothing is
 pub blank_read : {A : Type 0} (k : Keeping) → (k ≡ Shapes) ⊎ (k ≡ Counted) → (r : Result (Option A) TopoFault) → of_read Counted r ≡ of_read k r
-blank_read Whole (inl h) r = absurd cc
-blank_read Whole (inr h) r = absurd cc
+blank_read (Whole t) (inl h) r = absurd cc
+blank_read (Whole t) (inr h) r = absurd cc
 blank_read Shapes h (Ok None) = refl
 blank_read Shapes h (Ok (Some x)) = refl
 blank_read Shapes h (Err e) = refl

@@ -101,46 +101,47 @@ module _ {A B : Type 0} (f : A → B) (back : B → A) (same : (x : A) → back 
   answers_back read prefix old new (Err stop.Memory) h = tt
 
 -- all of arcs
-pub all_held : (k : Keeping) → (k ≡ Whole) ⊎ (k ≡ Shapes) → (arcs : List (List Point)) → held_arcs k arcs ≡ record { list = arcs; positions = None }
-all_held Whole is arcs = refl
+pub all_held : (k : Keeping) → ((t : Option (Bor (List ℕ))) × (k ≡ Whole t)) ⊎ (k ≡ Shapes) → (arcs : List (List Point)) → held_arcs k arcs ≡ record { list = arcs; positions = None }
+all_held (Whole t) is arcs = refl
 all_held Shapes is arcs = refl
 all_held Counted (inl h) arcs = absurd cc
 all_held Counted (inr h) arcs = absurd cc
 
-pub whole_option : {A : Type 0} (x : Option A) → of_option Whole x ≡ x
-whole_option None = refl
-whole_option (Some x) = refl
+module _ (text : Option (Bor (List ℕ))) where
+  pub whole_option : {A : Type 0} (x : Option A) → of_option (Whole text) x ≡ x
+  whole_option None = refl
+  whole_option (Some x) = refl
 
-pub whole_feature : (f : TopoFeature) → of_feature Whole f ≡ f
-whole_feature f = rw (whole_option f.id, whole_option f.properties) refl
+  pub whole_feature : (f : TopoFeature) → of_feature (Whole text) f ≡ f
+  whole_feature f = rw (whole_option f.id, whole_option f.properties) refl
 
-pub whole_features : (fs : List TopoFeature) → map (of_feature Whole) fs ≡ fs
-whole_features [] = refl
-whole_features (f ∷ fs) = rw (whole_feature f, whole_features fs) refl
+  pub whole_features : (fs : List TopoFeature) → map (of_feature (Whole text)) fs ≡ fs
+  whole_features [] = refl
+  whole_features (f ∷ fs) = rw (whole_feature f, whole_features fs) refl
 
-pub whole_object : (o : TopoObject) → of_object Whole o ≡ o
-whole_object (One f) = ap One (whole_feature f)
-whole_object (Many fs) = ap Many (whole_features fs)
+  pub whole_object : (o : TopoObject) → of_object (Whole text) o ≡ o
+  whole_object (One f) = ap One (whole_feature f)
+  whole_object (Many fs) = ap Many (whole_features fs)
 
-pub whole_named : (o : List ℕ × TopoObject) → of_named Whole o ≡ o
-whole_named o = ap (λ z. (o.0, z)) (whole_object o.1)
+  pub whole_named : (o : List ℕ × TopoObject) → of_named (Whole text) o ≡ o
+  whole_named o = ap (λ z. (o.0, z)) (whole_object o.1)
 
-pub whole_objects : (os : List (List ℕ × TopoObject)) → map (of_named Whole) os ≡ os
-whole_objects [] = refl
-whole_objects (o ∷ os) = rw (whole_named o, whole_objects os) refl
+  pub whole_objects : (os : List (List ℕ × TopoObject)) → map (of_named (Whole text)) os ≡ os
+  whole_objects [] = refl
+  whole_objects (o ∷ os) = rw (whole_named o, whole_objects os) refl
 
-pub whole_contents : (t : Contents) → parts_contents (of_contents Whole t) ≡ t
-whole_contents t = ap (λ z. record { objects = z; arcs = t.arcs; transform = t.transform }) (whole_objects t.objects)
+  pub whole_contents : (t : Contents) → parts_contents (of_contents (Whole text) t) ≡ t
+  whole_contents t = ap (λ z. record { objects = z; arcs = t.arcs; transform = t.transform }) (whole_objects t.objects)
 
 -- ---- lists of features, and how many these are
 
 pub none_listed : (k : Keeping) → listed k [] ≡ []
-none_listed Whole = refl
+none_listed (Whole t) = refl
 none_listed Shapes = refl
 none_listed Counted = refl
 
 pub listed_more : (k : Keeping) (fs : List TopoFeature) (f : TopoFeature) → listed k (fs ++ f ∷ []) ≡ listed k fs ++ listed k (f ∷ [])
-listed_more Whole fs f = refl
+listed_more (Whole t) fs f = refl
 listed_more Shapes fs f = refl
 listed_more Counted fs f = refl
 
@@ -149,13 +150,13 @@ numbers_in ns None = ns
 numbers_in ns (Some ms) = ms
 
 pub counted_more : (k : Keeping) (os : List (List ℕ × TopoObject)) (o : List ℕ × TopoObject) (ns after : List ℕ) → features_of k os ≡ if_counted k ns → if_counted k after ≡ if_counted k (ns ++ features_in o.1 ∷ []) → features_of k (os ++ o ∷ []) ≡ if_counted k after
-counted_more Whole os o ns after h is = refl
+counted_more (Whole t) os o ns after h is = refl
 counted_more Shapes os o ns after h is = refl
 counted_more Counted os o ns after h is =
     ap Some (map-append (λ p. features_in p.1) os (o ∷ [])) ∙ ap (λ ms. Some (ms ++ features_in o.1 ∷ [])) (ap (numbers_in ns) h) ∙ sym is
 
 pub none_counted : (k : Keeping) → features_of k [] ≡ if_counted k []
-none_counted Whole = refl
+none_counted (Whole t) = refl
 none_counted Shapes = refl
 none_counted Counted = refl
 

@@ -28,7 +28,7 @@ use Rattle.topojson_decoder.specs.declared.topologies.Parts.{Parts}
 -- ---- what is kept
 
 abbrev pub of_some : {A : Type 0} → Keeping → A → Option A
-of_some Whole x = Some x
+of_some (Whole t) x = Some x
 of_some Shapes x = None
 of_some Counted x = None
 
@@ -39,7 +39,7 @@ of_option keeping (Some x) = of_some keeping x
 
 -- of its geometry
 abbrev pub of_shape : Keeping → Option TopoShape → Option TopoShape
-of_shape Whole s = s
+of_shape (Whole t) s = s
 of_shape Shapes s = s
 of_shape Counted s = None
 
@@ -54,7 +54,7 @@ of_feature keeping f = record { id = of_option keeping f.id; properties = of_opt
 
 -- of the list of the features of a collection
 abbrev pub listed : Keeping → List TopoFeature → List TopoFeature
-listed Whole fs = fs
+listed (Whole t) fs = fs
 listed Shapes fs = fs
 listed Counted fs = []
 
@@ -82,7 +82,7 @@ held_object keeping o = record { object = of_object keeping o; features = featur
 
 -- how many each of the objects has, where no features of collections are kept
 abbrev pub if_counted : {A : Type 0} → Keeping → A → Option A
-if_counted Whole x = None
+if_counted (Whole t) x = None
 if_counted Shapes x = None
 if_counted Counted x = Some x
 
@@ -94,7 +94,7 @@ held_objects keeping os = record { list = map (of_named keeping) os; features = 
 
 -- of arcs: of each its ends, where not all of it, and then how many positions they have
 abbrev pub of_arcs : Keeping → List (List Point) → List (List Point)
-of_arcs Whole arcs = arcs
+of_arcs (Whole t) arcs = arcs
 of_arcs Shapes arcs = arcs
 of_arcs Counted arcs = map ends arcs
 

@@ -340,7 +340,7 @@ pub(crate) fn kept_arcs_at<'a>(
 {
     match keeping {
         Keeping::Counted => arc_ends_at(alloc, depth_left, transform, bytes, counts),
-        Keeping::Whole | Keeping::Shapes => match spelled_arcs_at(
+        Keeping::Whole(_) | Keeping::Shapes => match spelled_arcs_at(
             alloc, depth_left, texts, transform, bytes, counts,
         ) {
             Err(stop) => Err(stop),

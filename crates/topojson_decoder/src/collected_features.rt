@@ -107,7 +107,7 @@ pub fn feature_at<'a>(
     kept_feature_at(
         alloc,
         depth_left,
-        Keeping::Whole,
+        Keeping::Whole(None),
         transform,
         arcs,
         bytes,
@@ -125,7 +125,7 @@ fn list_feature(
     ensures { IfOk result (λ _. list.new.items ≡ list.old.items ++ listed keeping (feature ∷ [])) }
 {
     match keeping {
-        Keeping::Whole | Keeping::Shapes => list.push(feature)?,
+        Keeping::Whole(_) | Keeping::Shapes => list.push(feature)?,
         Keeping::Counted => drop(feature),
     }
     Ok(())

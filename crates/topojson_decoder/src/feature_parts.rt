@@ -131,10 +131,11 @@ fn whole_properties_at<'a>(
     alloc: Global,
     depth_left: u32,
     bytes: &'a [u8],
+    lasting: Option<&'static [u8]>,
 ) -> Result<(Result<Option<Properties>, TopoFault>, &'a [u8]), Fault>
     ensures { FindsValue (IsFound members_if) depth_left bytes.now result }
 {
-    let (read, rest) = read_properties(alloc, depth_left, bytes)?;
+    let (read, rest) = read_properties(alloc, depth_left, bytes, lasting)?;
     match read {
         None => Ok((Err(TopoFault::WrongKind), rest)),
         Some(properties) => Ok((Ok(properties), rest)),
@@ -166,7 +167,7 @@ impl<'a> FeatureParts<'a> {
         ensures { GoesOnWith (IsFeature start.entry depth_left) depth_left (codes "id") self.old self.new bytes.now result }
     {
         match start.keeping {
-            Keeping::Whole => {
+            Keeping::Whole(_) => {
                 let (id, rest) = whole_id_at(alloc, depth_left, bytes)?;
                 self.id.see(id);
                 Ok(rest)
@@ -191,8 +192,9 @@ impl<'a> FeatureParts<'a> {
         ensures { GoesOnWith (IsFeature start.entry depth_left) depth_left (codes "properties") self.old self.new bytes.now result }
     {
         match start.keeping {
-            Keeping::Whole => {
-                let (properties, rest) = whole_properties_at(alloc, depth_left, bytes)?;
+            Keeping::Whole(lasting) => {
+                let (properties, rest) =
+                    whole_properties_at(alloc, depth_left, bytes, lasting)?;
                 self.properties.see(properties);
                 Ok(rest)
             }

@@ -335,7 +335,7 @@ pub fn geometry_at<'a>(
         transform,
         arcs,
         counts: *counts,
-        keeping: Keeping::Whole,
+        keeping: Keeping::Whole(None),
     };
     let (held, rest) = held_geometry_at(alloc, depth_left, start, bytes, counts)?;
     match held {

@@ -67,7 +67,7 @@ fn count_features(keeping: Keeping, count: u64, features: &mut Vec<u64>) -> Resu
     ensures { IfOk result (λ _. if_counted keeping features.new.items ≡ if_counted keeping (features.old.items ++ count ∷ [])) }
 {
     match keeping {
-        Keeping::Whole | Keeping::Shapes => {}
+        Keeping::Whole(_) | Keeping::Shapes => {}
         Keeping::Counted => features.push(count)?,
     }
     Ok(())
@@ -78,7 +78,7 @@ fn counted_features(keeping: Keeping, features: Vec<u64>) -> Option<Items<u64>>
     ensures { result ≡ if_counted keeping features.items }
 {
     match keeping {
-        Keeping::Whole | Keeping::Shapes => None,
+        Keeping::Whole(_) | Keeping::Shapes => None,
         Keeping::Counted => {
             let mut features = features;
             features.shrink_to_fit();

@@ -338,7 +338,7 @@ pub fn object_at<'a>(
     match kept_object_at(
         alloc,
         depth_left,
-        Keeping::Whole,
+        Keeping::Whole(None),
         transform,
         arcs,
         bytes,

@@ -127,14 +127,15 @@ pub struct SpelledTopology<'a> {
     pub texts: Vec<Option<&'a [u8]>>,
 }
 
-/// The same as `read_text`, beside the texts of arcs.
-pub fn read_spelled_text<'a>(
+/// The same as `read_text`, beside the texts of arcs, of bytes that stay to the end of the process: properties are left in them where they stand as
+/// they are written.
+pub fn read_spelled_text(
     alloc: Global,
-    bytes: &'a [u8],
-) -> Result<(SpelledTopology<'a>, Counts), Refusal>
+    bytes: &'static [u8],
+) -> Result<(SpelledTopology<'static>, Counts), Refusal>
     ensures { SpelledAnswers bytes.now result }
 {
-    match read_spelled_parts(alloc, Keeping::Whole, true, bytes) {
+    match read_spelled_parts(alloc, Keeping::Whole(Some(bytes)), true, bytes) {
         Err(refusal) => Err(refusal),
         Ok((spelled, counts)) => {
             let (parts, texts) = spelled.taken_apart();
@@ -149,7 +150,7 @@ pub fn read_spelled_text<'a>(
 pub fn read_text(alloc: Global, bytes: &[u8]) -> Result<(Topology, Counts), Refusal>
     ensures { TextAnswers bytes.now result }
 {
-    match read_parts(alloc, Keeping::Whole, bytes) {
+    match read_parts(alloc, Keeping::Whole(None), bytes) {
         Err(refusal) => Err(refusal),
         Ok((parts, counts)) => Ok((topology_of(parts), counts)),
     }

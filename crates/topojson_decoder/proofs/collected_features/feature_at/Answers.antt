@@ -8,5 +8,5 @@ use Rattle.topojson_decoder.proofs.collected_features.feature_at.Goals as goal
 
 pub returns : goal.returns
 returns c =
-    answers_back (of_feature Whole) (λ x. x) whole_feature (feature_element (option_copied c.args.transform) c.args.arcs.now) (prefix_value c.args.depth_left c.args.bytes.now) c.args.counts.now c.kept_feature_at.new.counts
+    answers_back (of_feature (Whole None)) (λ x. x) (whole_feature None) (feature_element (option_copied c.args.transform) c.args.arcs.now) (prefix_value c.args.depth_left c.args.bytes.now) c.args.counts.now c.kept_feature_at.new.counts
     c.kept_feature_at.result c.kept_feature_at.ensures

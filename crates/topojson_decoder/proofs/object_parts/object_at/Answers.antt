@@ -9,10 +9,10 @@ use Rattle.topojson_decoder.proofs.object_parts.object_at.Goals as goal
 
 pub returns-in-Err : goal.returns-in-Err
 returns-in-Err c =
-    answers_back (held_object Whole) (λ k. k.object) whole_object (object (option_copied c.args.transform) c.args.arcs.now) (prefix_value c.args.depth_left c.args.bytes.now) c.args.counts.now c.kept_object_at.new.counts
+    answers_back (held_object (Whole None)) (λ k. k.object) (whole_object None) (object (option_copied c.args.transform) c.args.arcs.now) (prefix_value c.args.depth_left c.args.bytes.now) c.args.counts.now c.kept_object_at.new.counts
     (Err c.in-Err.stop) c.in-Err.ensures
 
 pub returns-in-Ok : goal.returns-in-Ok
 returns-in-Ok c =
-    answers_back (held_object Whole) (λ k. k.object) whole_object (object (option_copied c.args.transform) c.args.arcs.now) (prefix_value c.args.depth_left c.args.bytes.now) c.args.counts.now c.kept_object_at.new.counts
+    answers_back (held_object (Whole None)) (λ k. k.object) (whole_object None) (object (option_copied c.args.transform) c.args.arcs.now) (prefix_value c.args.depth_left c.args.bytes.now) c.args.counts.now c.kept_object_at.new.counts
     (Ok (c.in-Ok.kept, c.in-Ok.rest)) c.in-Ok.ensures

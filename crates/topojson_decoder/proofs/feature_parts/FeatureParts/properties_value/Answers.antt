@@ -11,7 +11,7 @@ returns-in_ok-properties-in-Whole c =
     record {
       value = found.0;
       prefix = found.1;
-      holds = λ ms h. occurrence.sees_properties c.args.start c.args.depth_left (codes "properties") ms c.args.self.now found.0 h c.in_ok-properties-in-Whole.properties _ c.see.ensures refl (found.2 ∙ occurrence.whole_read c.args.start.keeping c.in-Whole.is (members_if (Some found.0)));
+      holds = λ ms h. occurrence.sees_properties c.args.start c.args.depth_left (codes "properties") ms c.args.self.now found.0 h c.in_ok-properties-in-Whole.properties _ c.see.ensures refl (found.2 ∙ occurrence.whole_read c.args.start.keeping _ c.in-Whole.is (members_if (Some found.0)));
     }
 
 pub returns-in_ok-rest-in-Shapes : goal.returns-in_ok-rest-in-Shapes

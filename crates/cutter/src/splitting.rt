@@ -34,10 +34,7 @@ pub fn split_line(
         add_cuts(cuts, positions, visit, start, vertices)?;
     }
     let second = visit_after(visit.wrapping_add(start), visit, positions.len());
-    Ok(
-        cuts.len().saturating_sub(before) == 2
-            && goes_once_through_second(positions, second, vertices),
-    )
+    Ok(cuts.len() - before == 2 && goes_once_through_second(positions, second, vertices))
 }
 
 // Whether the second position, whose visit has this number, isn't the last and is known to be visited once.

@@ -1,17 +1,17 @@
 -- Layers whose covered positions are snapped.
-use Rattle.std.proofs.Common.{◌≡◌, true, List, [], ◌∷◌, map, refl, sym, ap, subst, arith}
+use Rattle.std.proofs.Common.{◌≡◌, true, List, [], ◌∷◌, map, refl, sym, subst, arith}
 use Rattle.std.specs.List.{AllByRecursion}
 use Rattle.owned_values.proofs.Elements.{all_weaker, all_left, all_right, all_map}
 use Rattle.geojson_types.specs.declared.layer.Layer.{Layer}
 use Rattle.geojson_types.specs.Features.{Featured}
 use Rattle.geojson_types.specs.Moving.{moved_feature}
 use Rattle.geojson_types.specs.Places.{option_points, features_points}
-use Rattle.geometry.specs.Points.{Point, IsWithin, IsPosition}
+use Rattle.geometry.specs.Points.{Point, IsPosition}
 use Rattle.geometry.specs.Pruning.{option_lines_and_rings}
 use Rattle.geometry.proofs.MovedShapes.{option_moved_alike, option_proper_moved, option_lines_and_rings_moved, option_points_moved, line_or_ring_moved}
 use Rattle.geometry.proofs.Moved.{ring_moved}
-use Rattle.grid_snap.specs.Axes.{Axes, IsGrid, covers, snapped, reach}
-use Rattle.grid_snap.specs.Laws.{IsRingIfClosed, Settles, SnappedAreSound}
+use Rattle.grid_snap.specs.Axes.{Axes, IsGrid, covers, snapped}
+use Rattle.grid_snap.specs.Laws.{IsRingIfClosed, SnappedAreSound}
 use Rattle.grid_snap.proofs.Settled.{settled, covered_within}
 use Rattle.grid_snap.specs.Snapping.{snapped_if_covered}
 

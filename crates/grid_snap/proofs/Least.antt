@@ -1,5 +1,5 @@
 -- The grid over positions: from the least of their coordinates on, in the least step that serves.
-use Rattle.std.proofs.Common.{◌≡◌, ℕ, ◌+◌, ◌-◌, ◌*◌, ◌≤◌, max, ℤ, pos, ◌+ℤ◌, ◌-ℤ◌, ◌≤ℤ◌, unsigned_abs, true, List, [], ◌∷◌, map, Option, None, Some, refl, sym, ap, ◌∙◌, arith, inl, inr, ◌⊎◌, ⊎_elim, subst, Bool, false, cond, int_lt, to_z, of_z, w64}
+use Rattle.std.proofs.Common.{◌≡◌, ℕ, ◌+◌, ◌-◌, ◌*◌, ◌≤◌, max, ℤ, pos, ◌+ℤ◌, ◌-ℤ◌, ◌≤ℤ◌, unsigned_abs, true, List, [], ◌∷◌, map, Option, None, Some, refl, ap, ◌∙◌, arith, inl, ◌⊎◌, subst, to_z, of_z, w64}
 use Rattle.std.proofs.lemmas.Int.{ints, fold-int_min_bounds, fold-int_max_bounds}
 use Rattle.std.proofs.lemmas.List.Elements.{recursion_from_All}
 use Rattle.std.specs.Int.{int_min, int_max}
@@ -10,8 +10,8 @@ use Rattle.geometry.specs.Points.{Point, IsInput}
 use Rattle.geometry.specs.Units.{input_limit}
 use Rattle.grid_snap.specs.declared.axis.Axis.{Axis}
 use Rattle.grid_snap.specs.declared.bounds.Bounds.{Bounds}
-use Rattle.grid_snap.specs.Axes.{rounded_up, axis_over, Axes, covers, is_on, grid_over, count_limit, IsAxis, IsGrid, reach}
-use Rattle.grid_snap.specs.Bounds.{widened_by, IsSpan, AreBounds, AreBoundsIfSome}
+use Rattle.grid_snap.specs.Axes.{rounded_up, axis_over, Axes, covers, is_on, grid_over, count_limit, IsAxis, reach}
+use Rattle.grid_snap.specs.Bounds.{widened_by, IsSpan, AreBounds}
 use Rattle.grid_snap.specs.Laws.{IsLeast, IsOver, StepIsLeast, CoversAll, IsMade}
 use Rattle.grid_snap.proofs.Settled.{on_from}
 use Rattle.grid_snap.proofs.Widening.{bounds_from, bounds_are, bounds_of_input}

@@ -1,7 +1,6 @@
 -- The arithmetic of equal steps: rounding up, and the nearest multiple.
-use Rattle.std.proofs.Common.{◌≡◌, ℕ, zero, suc, ◌+◌, ◌-◌, ◌*◌, ◌/◌, ◌<◌, ◌≤◌, max, refl, arith, ⊎_elim}
+use Rattle.std.proofs.Common.{◌≡◌, ℕ, ◌+◌, ◌-◌, ◌*◌, ◌/◌, ◌<◌, ◌≤◌, max, arith}
 use Rattle.std.proofs.Math.Nat.{mul-le-mul_left}
-use Rattle.std.proofs.lemmas.Bool.{cases_lt}
 use Rattle.decimal_text.specs.Rounding.{nearest, IsRounded}
 use Rattle.decimal_text.proofs.Nearest.{nearest-only}
 use Rattle.decimal_text.proofs.RoundedFractions.{IsRounded-whole, IsRounded-some}

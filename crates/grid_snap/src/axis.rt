@@ -93,6 +93,6 @@ impl Axis {
         ensures coordinate { result ≡ spec.coordinate self number }
         ensures within { unsigned_abs result ≤ reach }
     {
-        self.first + (number.unsigned_abs() * self.step) as i64
+        self.first + (number as u64 * self.step) as i64
     }
 }

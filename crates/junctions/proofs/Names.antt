@@ -17,7 +17,7 @@ pub use Rattle.junctions.specs.Among.{In}
 pub use Rattle.junctions.specs.Answers.{Answers, AnswersFor, is_member}
 pub use Rattle.junctions.specs.Cleaning.{clean, clean_from, is_short, Moves, IsClean, IsCleanList, AllClean}
 pub use Rattle.junctions.specs.Cuts.{is_cut, starts_free_ring}
-pub use Rattle.junctions.specs.Kept.{passed, at_junction, at_cut, at_once, junction_at, cut_at, once_at, chosen, kept_of, with_number}
+pub use Rattle.junctions.specs.Kept.{passed, at_junction, at_cut, at_once, junction_at, chosen, kept_of, with_number}
 pub use Rattle.junctions.specs.Reading.{AreNumbers, Represents, AllRepresent, Adds, AreClassified, all_ends, beside, line_ends, line_visits, turns, with_position, with_positions}
 pub use Rattle.junctions.specs.Visits.{Visit, all_visits, ends_open, first_seen, inner_visits, is_end, is_junction, is_position_of, last, positions, visits, distinct, visits_at, visits_from}
 pub use Rattle.junctions.specs.declared.stroke.Stroke.{Stroke}

@@ -57,16 +57,16 @@ pub(crate) fn try_example<P: Program>(
         Runs::EachByteWritten(_) | Runs::EachByteNotTaken(_) => each_byte_written(
             alloc, program, files, example, whole, tally,
         )?,
-        Runs::EachByteRead(_) => each_byte_read(
+        Runs::EachByteRead(_) => each_byte_damaged(
             alloc,
             program,
             files,
             example,
             name,
-            whole.len(),
+            whole.len() + 1,
             tally,
         )?,
-        _ => each_prefix(alloc, program, files, example, name, whole.len(), tally)?,
+        _ => each_byte_damaged(alloc, program, files, example, name, whole.len(), tally)?,
     }
     Ok(None)
 }
@@ -135,43 +135,26 @@ fn once<P: Program>(
     }
 }
 
-/// Runs a command for each proper prefix of a file of so many bytes.
-fn each_prefix<P: Program>(
-    alloc: Global,
-    program: &P,
-    files: &MemoryFiles,
-    example: &Example<'_>,
-    name: &str,
-    len: usize,
-    tally: &mut Tally,
-) -> Result<(), AllocError> {
-    for end in 0..len {
-        let damage = Damage::Cut(name, end);
-        let ran = run(
-            alloc,
-            program,
-            files,
-            example.words,
-            example.devices,
-            damage,
-        )?;
-        judge(alloc, files, example, &ran, tally)?;
+/// What is wrong with a file of an example from this byte on: its reads fail there, or it ends.
+fn damage_at<'a>(example: &Example<'_>, name: &'a str, byte: usize) -> Damage<'a> {
+    match example.runs {
+        Runs::EachByteRead(_) => Damage::Broken(name, byte),
+        _ => Damage::Cut(name, byte),
     }
-    Ok(())
 }
 
-/// Runs a command for each byte of a file of so many bytes, and for its end, at which reads of the file fail.
-fn each_byte_read<P: Program>(
+/// Runs a command for each of so many bytes of a file, from which on the file is damaged.
+fn each_byte_damaged<P: Program>(
     alloc: Global,
     program: &P,
     files: &MemoryFiles,
     example: &Example<'_>,
     name: &str,
-    len: usize,
+    count: usize,
     tally: &mut Tally,
 ) -> Result<(), AllocError> {
-    for end in 0..=len {
-        let damage = Damage::Broken(name, end);
+    for byte in 0..count {
+        let damage = damage_at(example, name, byte);
         let ran = run(
             alloc,
             program,

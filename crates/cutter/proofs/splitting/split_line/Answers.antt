@@ -14,8 +14,8 @@ pub goes_once_through_second-requires : goal.goes_once_through_second-requires
 goes_once_through_second-requires c =
     known_start c.args.vertices.now.points (is_member c.args.vertices.now.cuts) c.args.stroke.now c.start_ring-start.new.stroke c.as_slice-positions.result.now c.start_ring-start.ensures.stroke c.as_slice-positions.ensures c.requires.known
 
-pub returns-then-saturating_sub-eq2-clause-cuts : goal.returns-then-saturating_sub-eq2-clause-cuts
-returns-then-saturating_sub-eq2-clause-cuts c =
+pub returns-then-len-before-eq2-clause-cuts : goal.returns-then-len-before-eq2-clause-cuts
+returns-then-len-before-eq2-clause-cuts c =
     let cut = is_member c.args.vertices.now.cuts in
     let s = c.args.stroke.now in
     let t = c.start_ring-start.new.stroke in
@@ -34,10 +34,10 @@ returns-then-saturating_sub-eq2-clause-cuts c =
           ap (λ v. v.items) w.cuts-is ∙ w.in_ok-add_cuts.ensures ∙ ap (λ l. c.args.cuts.now.items ++ indexes cut 0 l) c.as_slice-positions.ensures
     ]
 
-pub returns-then-saturating_sub-eq2-clause-once : goal.returns-then-saturating_sub-eq2-clause-once
-returns-then-saturating_sub-eq2-clause-once c = λ e.
+pub returns-then-len-before-eq2-clause-once : goal.returns-then-len-before-eq2-clause-once
+returns-then-len-before-eq2-clause-once c = λ e.
     let ns = indexes (is_member c.args.vertices.now.cuts) 0 c.start_ring-start.new.stroke.positions in
-    let added = returns-then-saturating_sub-eq2-clause-cuts c in (
-      omega (arith, c.if-saturating_sub-eq2.true, c.saturating_sub.ensures, c.len.ensures, c.len-before.ensures, ap length added, length-append c.args.cuts.now.items ns),
+    let added = returns-then-len-before-eq2-clause-cuts c in (
+      omega (arith, c.if-len-before-eq2.true, c.len.ensures, c.len-before.ensures, ap length added, length-append c.args.cuts.now.items ns),
       subst (GoesOnceThroughSecond c.args.vertices.now.once) c.as_slice-positions.ensures (c.goes_once_through_second.ensures e),
     )

@@ -193,8 +193,7 @@ impl<'a> FeatureParts<'a> {
     {
         match start.keeping {
             Keeping::Whole(lasting) => {
-                let (properties, rest) =
-                    whole_properties_at(alloc, depth_left, bytes, lasting)?;
+                let (properties, rest) = whole_properties_at(alloc, depth_left, bytes, lasting)?;
                 self.properties.see(properties);
                 Ok(rest)
             }

@@ -318,7 +318,14 @@ pub fn topology_at<'a>(
 ) -> Result<(Parts, &'a [u8]), Stop<TopoFault>>
     ensures { Answers (λ p. record { objects = p.objects; arcs = p.arcs; transform = p.transform }) spec.value_contents (prefix_value depth_left bytes.now) counts.old counts.new result }
 {
-    match kept_topology_at(alloc, depth_left, Keeping::Whole(None), false, bytes, counts) {
+    match kept_topology_at(
+        alloc,
+        depth_left,
+        Keeping::Whole(None),
+        false,
+        bytes,
+        counts,
+    ) {
         Err(stop) => Err(stop),
         Ok((spelled, rest)) => {
             let (parts, texts) = spelled.taken_apart();

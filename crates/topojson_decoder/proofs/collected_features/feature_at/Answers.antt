@@ -1,3 +1,4 @@
+use Rattle.std.proofs.Common.{None}
 use Rattle.std.specs.Option.{option_copied}
 use Rattle.json_cursor.specs.Arrays.{prefix_value}
 use Rattle.topojson_meaning.specs.Features.{feature_element}

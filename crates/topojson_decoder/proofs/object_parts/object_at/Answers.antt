@@ -1,4 +1,4 @@
-use Rattle.std.proofs.Common.{Err, Ok}
+use Rattle.std.proofs.Common.{None, Err, Ok}
 use Rattle.std.specs.Option.{option_copied}
 use Rattle.json_cursor.specs.Arrays.{prefix_value}
 use Rattle.topojson_meaning.specs.Objects.{object}

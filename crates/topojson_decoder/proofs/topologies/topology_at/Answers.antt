@@ -1,3 +1,4 @@
+use Rattle.std.proofs.Common.{None}
 use Rattle.json_cursor.specs.Arrays.{prefix_value}
 use Rattle.topojson_meaning.specs.Topologies.{value_contents}
 use Rattle.topojson_decoder.specs.Kept.{of_contents, parts_contents}

@@ -1,5 +1,5 @@
 -- What is answered of a source that is read to its end.
-use Rattle.std.proofs.Common.{◌≡◌, ◌≢◌, ℕ, List, Result, Ok, Err, refl}
+use Rattle.std.proofs.Common.{◌≢◌, ℕ, List, Result, Ok, Err, refl}
 use Rattle.byte_ends.specs.Ends.{Fed}
 use Rattle.json_reading.specs.Outcome.{SaysUtf8, SpellsNothing}
 use Rattle.json_reading.specs.declared.fault.JsonFault.{JsonFault}

@@ -80,7 +80,7 @@ pub fn to_geo<R: Feed, W: Drain>(
     ensures decided { (bytes : List ℕ) (outcome : Result (List ℕ) Fault) → source.old.left ≡ Some bytes → FileHasOutcome (object_text name.now) bytes outcome
         → FollowsText sink.old sink.new outcome result }
 {
+    let bytes = bytes_of(alloc, source)?;
     // (as in building)
-    let bytes = bytes_of(alloc, source)?.leak();
-    decode(alloc, bytes, name, sink)
+    decode(alloc, bytes.leak(), name, sink)
 }

@@ -19,11 +19,11 @@ returns-in_err-bytes-clause-decided g c bytes outcome left comes =
 -- ---- it is, and what its bytes spell is decoded
 
 pub returns-clause-written : goal.returns-clause-written
-returns-clause-written g c = c.decode-sent.ensures.written c.args.source.now c.bytes_of.new.source (rw c.deref.ensures.value c.in_ok-bytes.ensures)
+returns-clause-written g c = c.decode.ensures.written c.args.source.now c.bytes_of.new.source (rw c.leak.ensures.value c.in_ok-bytes.ensures)
 
 pub returns-clause-refused : goal.returns-clause-refused
-returns-clause-refused g c = c.decode-sent.ensures.refused c.args.source.now c.bytes_of.new.source (rw c.deref.ensures.value c.in_ok-bytes.ensures)
+returns-clause-refused g c = c.decode.ensures.refused c.args.source.now c.bytes_of.new.source (rw c.leak.ensures.value c.in_ok-bytes.ensures)
 
 pub returns-clause-decided : goal.returns-clause-decided
 returns-clause-decided g c bytes outcome left comes =
-    c.decode-sent.ensures.decided c.args.source.now c.bytes_of.new.source (rw c.deref.ensures.value c.in_ok-bytes.ensures) bytes outcome left comes
+    c.decode.ensures.decided c.args.source.now c.bytes_of.new.source (rw c.leak.ensures.value c.in_ok-bytes.ensures) bytes outcome left comes

@@ -86,6 +86,10 @@ quiet_rule = record (new_rule (codes "quiet")) { short = Some letter_q; long = S
 abbrev pub with_common : App → App
 with_common app = with_rule (with_rule (with_rule app output_rule) report_rule) explain_rule
 
+-- a command with the options that say what is reduced: --min-area A, --keep P/Q, --min-ring-area B, --no-crossings and --keep-shapes
+abbrev pub with_reducing : App → App
+with_reducing app = with_rule (with_rule (with_rule (with_rule (with_rule app area_rule) keep_rule) ring_area_rule) no_crossings_rule) keep_shapes_rule
+
 -- one argument NAME=PATH or more
 abbrev pub layers_rule : Rule
 layers_rule = record (new_rule (codes "layers")) {
@@ -97,15 +101,11 @@ layers_rule = record (new_rule (codes "layers")) {
 -- build [--grid N] [--min-area A] [--keep P/Q] [--min-ring-area B] [--no-crossings] [--keep-shapes] [--exact] [-q] NAME=PATH.., with the
 -- common options
 abbrev pub build_app : App
-build_app = with_rule (with_rule
-    (with_common (with_rule (with_rule (with_rule (with_rule (with_rule (with_rule (with_rule (new_app (codes "build")) grid_rule) area_rule) keep_rule) ring_area_rule) no_crossings_rule) keep_shapes_rule) exact_rule))
-    quiet_rule) layers_rule
+build_app = with_rule (with_rule (with_common (with_rule (with_reducing (with_rule (new_app (codes "build")) grid_rule)) exact_rule)) quiet_rule) layers_rule
 
 -- simplify [--min-area A] [--keep P/Q] [--min-ring-area B] [--no-crossings] [--keep-shapes] [-q] FILE, with the common options
 abbrev pub simplify_app : App
-simplify_app = with_rule (with_rule
-    (with_common (with_rule (with_rule (with_rule (with_rule (with_rule (new_app (codes "simplify")) area_rule) keep_rule) ring_area_rule) no_crossings_rule) keep_shapes_rule))
-    quiet_rule) file_rule
+simplify_app = with_rule (with_rule (with_common (with_reducing (new_app (codes "simplify")))) quiet_rule) file_rule
 
 -- geo --object NAME FILE, with the common options
 abbrev pub geo_app : App

@@ -3,7 +3,7 @@ ghost use Rattle.std.specs.Prelude.{IfOk};
 ghost use Rattle.command_words.specs.CommandLine.{IsApp, IsRule, crossings_rule, file_rule, geo_app, keep_rule, object_rule, simplify_app, stat_app};
 
 use crate::commands::{Help, command};
-use crate::usage::{area, keep_shapes, no_crossings, quiet, ring_area, with_common};
+use crate::usage::{quiet, with_common, with_reducing};
 use clap::{Arg, ArgAction, Command};
 use std::alloc::{AllocError, Global};
 
@@ -112,12 +112,7 @@ fn file<'a>(alloc: Global) -> Arg<'a>
 pub(crate) fn simplify<'a>(alloc: Global, keep: Arg<'a>) -> Result<Command<'a>, AllocError>
     ensures { IsRule keep.entry keep_rule → IfOk result (λ c. IsApp c simplify_app) }
 {
-    let command = command(alloc, SIMPLIFY, SIMPLIFY_HELP)
-        .arg(area(alloc))?
-        .arg(keep)?
-        .arg(ring_area(alloc))?
-        .arg(no_crossings(alloc))?
-        .arg(keep_shapes(alloc))?;
+    let command = with_reducing(alloc, command(alloc, SIMPLIFY, SIMPLIFY_HELP), keep)?;
     with_common(alloc, command)?
         .arg(quiet(alloc))?
         .arg(file(alloc))

@@ -1,7 +1,7 @@
 // The words that the program takes, and its help.
 ghost use Rattle.std.specs.Prelude.{◌≡◌, IfOk, pos};
 ghost use Rattle.clap.specs.declared.builder.value_parser.ValueParser.TheVariants.{Signed};
-ghost use Rattle.clap.specs.Simple.{App};
+ghost use Rattle.clap.specs.Simple.{App, with_subcommand};
 ghost use Rattle.command_words.specs.CommandLine as spec;
 ghost use Rattle.command_words.specs.CommandLine.{IsApp, IsRule, area_rule, bare_app, build_app, exact_rule, grid_rule};
 ghost use Rattle.command_words.specs.CommandLine.{explain_rule, keep_rule, keep_shapes_rule, layers_rule, no_crossings_rule, output_rule, program_app, quiet_rule, report_rule, ring_area_rule};
@@ -215,6 +215,22 @@ fn bare<'a>(alloc: Global) -> Result<Command<'a>, AllocError>
         .bin_name("mapchain")
 }
 
+/// A command with this one below it, if there is memory for that.
+fn with_command<'a>(
+    command: Command<'a>,
+    below: Result<Command<'a>, AllocError>,
+) -> Result<Command<'a>, AllocError>
+    ensures { (app sub : App) → IsApp command.entry app → IfOk below.entry (λ c. IsApp c sub) → IfOk result (λ c. IsApp c (with_subcommand app sub.top)) }
+{
+    match below {
+        Ok(below) => command.subcommand(below),
+        Err(fault) => {
+            drop(command);
+            Err(fault)
+        }
+    }
+}
+
 /// The command line of the program, with these options of `build` and of `simplify` that keep a share.
 fn program_with<'a>(
     alloc: Global,
@@ -223,11 +239,10 @@ fn program_with<'a>(
 ) -> Result<Command<'a>, AllocError>
     ensures { IsRule build_keep.entry keep_rule → IsRule simplify_keep.entry keep_rule → IfOk result (λ c. IsApp c program_app) }
 {
-    bare(alloc)?
-        .subcommand(build(alloc, build_keep)?)?
-        .subcommand(simplify(alloc, simplify_keep)?)?
-        .subcommand(geo(alloc)?)?
-        .subcommand(stat(alloc)?)
+    let program = with_command(bare(alloc)?, build(alloc, build_keep))?;
+    let program = with_command(program, simplify(alloc, simplify_keep))?;
+    let program = with_command(program, geo(alloc))?;
+    with_command(program, stat(alloc))
 }
 
 /// The command line of the program. It takes a share beside an area, which `build_request` and `simplify_request` refuse.
@@ -264,7 +279,7 @@ fn grid<'a>(alloc: Global) -> Arg<'a>
 }
 
 /// The option that removes points from lines. It takes any text: which areas there are isn't judged here.
-pub(crate) fn area<'a>(alloc: Global) -> Arg<'a>
+fn area<'a>(alloc: Global) -> Arg<'a>
     ensures { IsRule result area_rule }
 {
     Arg::new(alloc, AREA)
@@ -286,7 +301,7 @@ fn keep<'a>(alloc: Global) -> Arg<'a>
 }
 
 /// The option that leaves out small rings. It takes any text, as that of the area does.
-pub(crate) fn ring_area<'a>(alloc: Global) -> Arg<'a>
+fn ring_area<'a>(alloc: Global) -> Arg<'a>
     ensures { IsRule result ring_area_rule }
 {
     Arg::new(alloc, RING_AREA)
@@ -297,7 +312,7 @@ pub(crate) fn ring_area<'a>(alloc: Global) -> Arg<'a>
 }
 
 /// The option that keeps lines from crossing.
-pub(crate) fn no_crossings<'a>(alloc: Global) -> Arg<'a>
+fn no_crossings<'a>(alloc: Global) -> Arg<'a>
     ensures { IsRule result no_crossings_rule }
 {
     Arg::new(alloc, NO_CROSSINGS)
@@ -308,7 +323,7 @@ pub(crate) fn no_crossings<'a>(alloc: Global) -> Arg<'a>
 }
 
 /// The option that keeps shapes.
-pub(crate) fn keep_shapes<'a>(alloc: Global) -> Arg<'a>
+fn keep_shapes<'a>(alloc: Global) -> Arg<'a>
     ensures { IsRule result keep_shapes_rule }
 {
     Arg::new(alloc, KEEP_SHAPES)
@@ -365,6 +380,22 @@ pub(crate) fn with_common<'a>(
         .arg(explain(alloc))
 }
 
+/// A command with the options that say what is reduced, of which this one keeps a share.
+pub(crate) fn with_reducing<'a>(
+    alloc: Global,
+    command: Command<'a>,
+    keep: Arg<'a>,
+) -> Result<Command<'a>, AllocError>
+    ensures { (app : App) → IsApp command.entry app → IsRule keep.entry keep_rule → IfOk result (λ c. IsApp c (spec.with_reducing app)) }
+{
+    command
+        .arg(area(alloc))?
+        .arg(keep)?
+        .arg(ring_area(alloc))?
+        .arg(no_crossings(alloc))?
+        .arg(keep_shapes(alloc))
+}
+
 /// The option of `build` and `simplify` that leaves out the report.
 pub(crate) fn quiet<'a>(alloc: Global) -> Arg<'a>
     ensures { IsRule result quiet_rule }
@@ -404,14 +435,8 @@ fn layers<'a>(alloc: Global) -> Arg<'a>
 fn build<'a>(alloc: Global, keep: Arg<'a>) -> Result<Command<'a>, AllocError>
     ensures { IsRule keep.entry keep_rule → IfOk result (λ c. IsApp c build_app) }
 {
-    let command = command(alloc, BUILD, BUILD_HELP)
-        .arg(grid(alloc))?
-        .arg(area(alloc))?
-        .arg(keep)?
-        .arg(ring_area(alloc))?
-        .arg(no_crossings(alloc))?
-        .arg(keep_shapes(alloc))?
-        .arg(exact(alloc))?;
+    let command = command(alloc, BUILD, BUILD_HELP).arg(grid(alloc))?;
+    let command = with_reducing(alloc, command, keep)?.arg(exact(alloc))?;
     with_common(alloc, command)?
         .arg(quiet(alloc))?
         .arg(layers(alloc))

@@ -1,6 +1,6 @@
 -- A ring that is turned to another start has the same passages.
-use Rattle.cutter.proofs.Names.{drop-append-le, drop_all, drop_at, length-append, length-reverse, length-take-le, reverse-append, reverse-reverse, take_all, take_at, Point, turned}
-use Rattle.std.proofs.Common.{◌≡◌, ◌≢◌, ℕ, zero, suc, ◌+◌, ◌-◌, ◌≤◌, List, [], ◌∷◌, ◌++◌, take, drop, length, reverse, append_assoc, append-nil, ap, ap₂, sym, ◌∙◌, subst, arith}
+use Rattle.cutter.proofs.Names.{drop-append-le, Point, turned}
+use Rattle.std.proofs.Common.{◌≡◌, ◌≢◌, ℕ, zero, suc, ◌+◌, ◌-◌, ◌≤◌, List, [], ◌∷◌, ◌++◌, take, drop, length, append_assoc, append-nil, ap, sym, ◌∙◌, subst, arith}
 
 module _ (Via : Point → Point → Point → Type 0) where
   -- a walk on from p to q: each two in a row differ, and each three in a row are a passage
@@ -58,16 +58,3 @@ module _ (Via : Point → Point → Point → Type 0) where
       ∙ ap (λ zs. zs ++ (b ∷ take j ws)) (drop-append-le (suc j) xs (a ∷ []) l)
       ∙ append_assoc (drop (suc j) xs) (a ∷ []) (b ∷ take j ws) in
       subst (λ zs. Good zs) (sym shape) (good_on (drop (suc j) xs) a b (take j ws) back all_but_last)
-
--- where the first k positions of a list are reversed, then the n others, and then all of them, the first k stand after the others
-pub moved_to_end : (k n : ℕ) (ps front back : List Point) → k ≤ length ps → n ≡ length (front ++ drop k ps) - k → front ≡ reverse (take k ps) → back ≡ reverse (take n (drop k (front ++ drop k ps))) →
-    reverse (take k (front ++ drop k ps) ++ (back ++ drop n (drop k (front ++ drop k ps)))) ≡ drop k ps ++ take k ps
-moved_to_end k n ps front back h m ef eb =
-    let rest : List Point = drop k ps in
-    let len : length front ≡ k = ap length ef ∙ length-reverse (take k ps) ∙ length-take-le k ps h in
-    let long : length rest ≤ n = omega (arith, m, len, length-append front rest) in
-    let left : drop k (front ++ rest) ≡ rest = drop_at front rest k len in
-    let none : drop n (drop k (front ++ rest)) ≡ [] = ap (drop n) left ∙ drop_all n rest long in
-    ap reverse (ap₂ (λ a b. a ++ (back ++ b)) (take_at front rest k len) none ∙ ap (λ l. front ++ l) (append-nil back))
-    ∙ reverse-append front back
-    ∙ ap₂ (λ a b. a ++ b) (ap reverse (eb ∙ ap (λ l. reverse (take n l)) left ∙ ap reverse (take_all n rest long)) ∙ reverse-reverse rest) (ap reverse ef ∙ reverse-reverse (take k ps))

@@ -88,9 +88,6 @@ alone_stale links e n d h k = on (contains_cases e [] d h)
 pub none_in : (d : Entry) → Contains [] d → ⊥
 none_in d h = absurd (omega (arith, h.1))
 
-pub nothing_left : (ps : List Point) (links : List Link) (old mid new : List Entry) → LeavesCurrent ps links old None mid → mid ≡ [] → new ≡ [] → LeavesCurrent ps links old None new
-nothing_left ps links old mid new h e f = subst (λ l. LeavesCurrent ps links old None l) (e ∙ sym f) h
-
 pub pushed : (t : ℕ) (ps : List Point) (links : List Link) (old new : List Entry) (v : ℕ) (e : Entry) →
     IsPermutation (e ∷ old) new → IsUnder t ps links v e → Pushed t ps links old new v
 pushed t ps links old new v e perm u = record {

@@ -9,7 +9,7 @@ use Rattle.effective_area.specs.Vertices.{origin}
 use Rattle.effective_area.specs.declared.links.Link.{Link}
 use Rattle.effective_area.specs.declared.entry.Entry.{Entry}
 use Rattle.effective_area.specs.Chains.{Chain, last_of}
-use Rattle.effective_area.specs.Links.{IsFirst, IsLinked, first_link, after_in, before_in, area_in, entry_at, entry_in, SetsAfter, SetsArea, SetsBefore, Unlinks, CachesArea, AreCached, cached}
+use Rattle.effective_area.specs.Links.{IsFirst, IsLinked, first_link, after_in, before_in, area_in, entry_at, entry_in, SetsAfter, SetsArea, SetsBefore, Unlinks, CachesArea, cached}
 use Rattle.effective_area.proofs.ChainLaws.{same_or_not}
 
 -- a field that a write leaves
@@ -70,27 +70,11 @@ notes ps old new i n p q s e = grind (arith, same_entry)
 pub notes_end : (ps : List Point) (links : List Link) (i : ℕ) → (0 < i → i + 1 < length links → ⊥) → CachesArea ps links links i
 notes_end ps links i h = record { same = refl; here = λ p q. absurd (h p q); ends = λ _. refl; others = λ _ _. refl; befores = λ _. refl; afters = λ _. refl }
 
--- an area between neighbours that are the next ones
-pub notes_first : (ps : List Point) (old new : List Link) (i n : ℕ) → IsFirst old (length ps) → 0 < i → i + 1 < length ps → SetsArea old new i n → n ≡ (entry_at ps (i - 1) i (i + 1)).area → CachesArea ps old new i
-notes_first ps old new i n f p q s e =
-    let b : before_in old i ≡ i - 1 = omega (arith, f.befores i (omega arith)) in
-    let a : after_in old i ≡ i + 1 = f.afters i (omega arith) in
-    notes ps old new i n p (omega (arith, f.size)) s (e ∙ sym (ap (λ x. (entry_at ps x i (after_in old i)).area) b ∙ ap (λ x. (entry_at ps (i - 1) i x).area) a))
-
 -- the areas up to i are cached
 pub record CachedTo (ps : List Point) (old new : List Link) (i : ℕ) : Type 0 where
   pub first : IsFirst new (length ps)
   pub done : (v : ℕ) → 0 < v → v < i → area_in new v ≡ (entry_in ps new v).area
   pub rest : (v : ℕ) → (v ≡ 0) ⊎ (i ≤ v) → area_in new v ≡ area_in old v
-
-pub cached_start : (ps : List Point) (links : List Link) → IsFirst links (length ps) → CachedTo ps links links 1
-cached_start ps links f = record { first = f; done = λ v p q. absurd (omega (arith, p, q)); rest = λ _ _. refl }
-
-pub cached_more : (ps : List Point) (old mid new : List Link) (i : ℕ) → 0 < i → i + 1 < length ps → CachedTo ps old mid i → CachesArea ps mid new i → CachedTo ps old new (i + 1)
-cached_more ps old mid new i p q h n = grind (arith, same_or_not, same_entry)
-
-pub cached_all : (ps : List Point) (old new : List Link) (i t : ℕ) → CachedTo ps old new i → i ≡ length ps - 1 → 2 ≤ length ps → ((v : ℕ) → v < length ps → area_in old v ≡ t) → AreCached t ps new
-cached_all ps old new i t h e two f = grind arith
 
 at_each : (g : Link → ℕ) (k : ℕ → ℕ) (xs : List Link) (i : ℕ) (x : Link) → length xs ≡ i → (v : ℕ) → v < i + 1 → g x ≡ k i → ((w : ℕ) → w < i → g (get_or xs w first_link) ≡ k w) → g (get_or (xs ++ (x ∷ [])) v first_link) ≡ k v
 at_each g k xs i x z v h here old = on (same_or_not v i)

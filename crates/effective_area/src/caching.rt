@@ -12,6 +12,7 @@ use geometry::Position;
 use owned_values::Memory;
 
 /// The corner at an index, with the cached area.
+#[tactic(auto, using(crate::proofs::LinkLaws::cached_at))]
 pub fn cached(arc: &[Position], links: &[Link], index: u32) -> Candidate
     requires arc { index < length arc.now }
     requires links { index < length links.now }
@@ -51,6 +52,7 @@ pub fn goes_after(arc: &[Position], links: &[Link], t: u128, index: u32, other: 
 }
 
 /// Twice the area of the corner at an index between these neighbours.
+#[tactic(auto, using(crate::proofs::LinkLaws::area_is))]
 fn area_between(
     steps: &mut Steps,
     arc: &[Position],
@@ -70,6 +72,7 @@ fn area_between(
 }
 
 /// Notes the area at an index with its present neighbours, if it is between the ends.
+#[tactic(auto, using(crate::proofs::LinkLaws::notes, crate::proofs::LinkLaws::notes_end))]
 pub fn note_area(links: &mut [Link], steps: &mut Steps, arc: &[Position], index: u32)
     requires size { length links.old ≡ length arc.now }
     requires within { index < length links.old }

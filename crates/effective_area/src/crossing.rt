@@ -16,6 +16,7 @@ fn difference(a: i64, b: i64) -> i64
 }
 
 /// A product of differences.
+#[tactic(auto, using(crate::proofs::Products::product_fits, crate::proofs::Products::product_bound))]
 fn product(a: i64, b: i64) -> i128
     requires a { unsigned_abs a ≤ 2 * position_limit }
     requires b { unsigned_abs b ≤ 2 * position_limit }
@@ -27,6 +28,7 @@ fn product(a: i64, b: i64) -> i128
 
 /// The cross product of the ways from the first position to the others, in square units: over zero where they turn left. At the limit of
 /// positions it is a difference of two products of 3.6 * 10^35, so it fits 128 bits.
+#[tactic(auto, using(crate::proofs::Products::apart_fits, geometry::proofs::RingAreas::read_both, geometry::proofs::RingAreas::both, geometry::proofs::RingAreas::through))]
 pub fn cross(a: Position, b: Position, c: Position) -> i128
     ensures value { result ≡ spec.cross a b c }
     ensures bound { unsigned_abs result < area_limit }

@@ -32,6 +32,7 @@ const KEPT_ROOM: usize = 1024;
 const MOST_RESCANNED: usize = 7;
 
 /// Fills the list with the corners of a whole line that are due.
+#[tactic(auto, using(crate::proofs::Counts::by_then, crate::proofs::Counts::by_more, crate::proofs::Turns::first_ready, crate::proofs::Turns::more_corners))]
 fn first_entries(
     entries: &mut Vec<Entry>,
     steps: &mut Steps,
@@ -103,6 +104,7 @@ fn eliminate(
 }
 
 /// The indexes that stay, over links from each index to the next.
+#[tactic(auto, using(crate::proofs::Queues::queue_total, crate::proofs::Turns::same_present, crate::proofs::Turns::ok_also))]
 fn kept_by(
     alloc: Global,
     sorted: &mut Vec<Entry>,
@@ -224,6 +226,7 @@ impl HeapLinks {
 impl Reducer for HeapLinks {
     ghost calls = { λ r. r.calls };
 
+    #[tactic(auto, using(crate::proofs::Counts::by_most, crate::proofs::Counts::few_areas, crate::proofs::Turns::all_at_zero))]
     fn kept(&mut self, alloc: Global, arc: &[Position], t: u128) -> Result<Vec<usize>, Memory>
         requires { 2 ≤ length arc.now }
         ensures kept { IfOk result (λ kept. kept.items ≡ reduce t arc.now) }

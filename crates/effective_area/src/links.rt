@@ -71,6 +71,7 @@ pub fn set_area(links: &mut [Link], at: usize, area: u128)
 }
 
 /// Links the two neighbours of an index to each other.
+#[tactic(auto, using(crate::proofs::LinkLaws::unlinks))]
 pub fn unlink(links: &mut [Link], before: u32, index: u32, after: u32)
     requires before { before < index }
     requires index { index < after }
@@ -84,6 +85,7 @@ pub fn unlink(links: &mut [Link], before: u32, index: u32, after: u32)
 }
 
 /// Fills the list with links from each index to the next, and one area for all.
+#[tactic(auto, using(crate::proofs::LinkLaws::first_more, crate::proofs::LinkLaws::areas_more))]
 pub fn first_links(links: &mut Vec<Link>, n: usize, area: u128) -> Result<(), Memory>
     ensures first { OnOk result (IsFirst links.new.items n) }
     ensures areas { OnOk result ((v : ℕ) → v < n → area_in links.new.items v ≡ area) }
@@ -104,6 +106,7 @@ pub fn first_links(links: &mut Vec<Link>, n: usize, area: u128) -> Result<(), Me
 }
 
 /// The indexes that are present, in a list that has room for so many at first.
+#[tactic(auto, using(crate::proofs::LinkLaws::walk_below, crate::proofs::LinkLaws::walk_end, crate::proofs::LinkLaws::walk_more, crate::proofs::LinkLaws::walk_start))]
 pub fn present(alloc: Global, links: &[Link], room: usize) -> Result<Vec<usize>, Memory>
     requires { (vs : List ℕ) × IsLinked links.now vs }
     ensures { IfOk result (λ kept. (vs : List ℕ) × IsLinked links.now vs × (kept.items ≡ 0 ∷ vs)) }

@@ -50,6 +50,7 @@ fn pop_first(sorted: &mut Vec<Entry>, heap: &mut Vec<Entry>, arc: &[Position]) -
 
 /// Drops the last entry of those that are sorted, if it is stale. It is the next one, mostly: to look at its link so early has the link
 /// fetched from memory while another corner is removed.
+#[tactic(auto, using(crate::proofs::HeapLaws::alone_stale, crate::proofs::HeapLaws::none_in))]
 fn drop_stale(sorted: &mut Vec<Entry>, links: &[Link])
     ensures dropped { DropsStale links.now sorted.old.items sorted.new.items }
     ensures fewer { vec_len sorted.new ≤ vec_len sorted.old }
@@ -109,6 +110,7 @@ fn neighbour_goes_before(
 
 /// The entry of an index, if it is between the ends and its corner is due: it is under the threshold, and those of its neighbours
 /// don't go before it. Of the corner at `later` that is known.
+#[tactic(auto, using(crate::proofs::LinkLaws::entry_cached))]
 fn queued_entry(arc: &[Position], links: &[Link], t: u128, index: u32, later: u32) -> Option<Entry>
     requires size { length links.now ≡ length arc.now }
     requires ready { IsReady arc.now links.now index }
@@ -195,6 +197,7 @@ fn are_over(links: &[Link], t: u128, index: u32, other: u32) -> bool
 }
 
 /// Pushes the one of two neighbours that goes first, if it is due. The outer one is left out if its entry was queued before.
+#[tactic(auto, using(crate::proofs::HeapLaws::inner_pushed, crate::proofs::HeapLaws::none_due, crate::proofs::HeapLaws::outer_pushed))]
 pub fn push_first(
     heap: &mut Vec<Entry>,
     steps: &mut Steps,

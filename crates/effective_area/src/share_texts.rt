@@ -20,6 +20,7 @@ pub struct Share {
 }
 
 /// The number that these decimal digits write, if it is within the limit of shares. None for a text that isn't digits alone, too.
+#[tactic(auto, using(crate::proofs::ShareNumbers::read, crate::proofs::ShareNumbers::over, crate::proofs::ShareNumbers::over_by))]
 fn number(digits: &str) -> Option<u64>
     ensures value { IfSome result (λ n. number_of digits.now ≡ Some n) }
     ensures limited { IfSome result (λ n. n ≤ share_limit) }

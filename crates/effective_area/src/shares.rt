@@ -100,6 +100,7 @@ fn rising_threshold(weights: &[u128], p: u64, q: u64) -> u128
 /// Of zero and the weights of the positions between the ends of lines the greatest one, as a threshold in square units, at which
 /// at least p / q of these positions stay. It is given the weights of each line. More of them may stay, since those of equal weight
 /// stay together. It reckons in whole numbers, and takes time n log n. The only error is want of memory.
+#[tactic(auto, using(crate::proofs::ShareLaws::share_moved))]
 pub fn share_threshold(alloc: Global, arcs: &[Vec<Weight>], p: u64, q: u64) -> Result<u128, Memory>
     requires positive { 0 < q }
     requires part { p ≤ q }
@@ -133,6 +134,7 @@ fn count_staying(weights: &[Weight], threshold: u128) -> usize
 /// The rising indexes of the positions of a line that stay at a threshold in square units: those of the ends, and of the
 /// positions whose weight isn't under it. Given the weights of a line, they are those that a reducer keeps of it. The only error
 /// is want of memory.
+#[tactic(auto, using(crate::proofs::Gathered::indexes_kept_more, crate::proofs::Gathered::indexes_kept_all, crate::proofs::KeptWeights::kept_at_is_reduced))]
 pub fn kept_by_weights(
     alloc: Global,
     weights: &[Weight],

@@ -21,6 +21,7 @@ pub fn threshold(area: &NumText) -> Option<u128>
 }
 
 /// The threshold of the area with this text. None for a text that isn't a number too.
+#[tactic(auto, using(crate::proofs::ThresholdAreas::no_threshold))]
 pub fn read_threshold(alloc: Global, area: &str) -> Result<Option<u128>, Memory>
     ensures value { IfOk result (λ t. t ≡ threshold_of area.now) }
     ensures within { IfOk result (λ o. IfSome o (λ t. t ≤ threshold_limit)) }

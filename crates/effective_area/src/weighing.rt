@@ -29,6 +29,7 @@ fn is_within(position: Position)
 }
 
 /// The weight of an end for each position of a line.
+#[tactic(auto, using(crate::proofs::Weighed::more_within))]
 fn all_ends(alloc: Global, arc: &[Position]) -> Result<Vec<Weight>, Memory>
     ensures ends { IfOk result (λ all. all.items ≡ replicate (length arc.now) weight.End) }
     ensures within { OnOk result (All IsPosition arc.now) }
@@ -117,6 +118,7 @@ pub fn weights_until(alloc: Global, arc: &[Position], most: usize) -> Result<Vec
 
 /// The weight of each position of a line (Visvalingam and Whyatt 1993), in time n log n: a reducer keeps at a threshold the ends
 /// and the positions whose weight isn't under it. Of fewer than two positions each is an end.
+#[tactic(auto, using(crate::proofs::Stopped::all_reported, crate::proofs::Turns::ok_also))]
 pub fn weights(alloc: Global, arc: &[Position]) -> Result<Vec<Weight>, Memory>
     ensures { IfOk result (λ weights. weights.items ≡ spec.weights_of arc.now) }
 {

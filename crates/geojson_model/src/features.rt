@@ -85,6 +85,7 @@ fn properties_at<'a>(
 }
 
 /// The shape that the value at the front gives as a geometry, or its fault, and what follows it: null gives none.
+#[tactic(auto, using(crate::proofs::FeatureParts::is_drawn))]
 fn drawn_at<'a>(
     alloc: Global,
     depth_left: u32,
@@ -240,6 +241,7 @@ impl FeatureParts {
 
     /// The feature of these members, or the fault of the first that has one, its type before the others.
     #[inline(always)]
+    #[tactic(auto, using(crate::proofs::GeometryParts::judges_same))]
     fn feature(self, start: Start, counts: &mut Counts) -> Result<Feature, GeoFaultKind>
         requires { (depth_left : ℕ) × (ms : Listed) × IsFeatureParts start depth_left ms self }
         ensures { (depth_left : ℕ) (ms : Listed) → IsFeatureParts start depth_left ms self → Judges (feature_element start.exact (Object ms)) start.counts counts.new (spec.stopped result) }

@@ -104,6 +104,7 @@ impl<'a, D: CollectsFeatures> Elements<'a> for FeatureList<D> {
     ghost takes = { numbered };
 
     #[inline(always)]
+    #[tactic(auto, using(crate::proofs::LayerParts::numbered_stops))]
     fn element(
         &mut self,
         alloc: Global,
@@ -139,6 +140,7 @@ pub struct LayerParts<'a, D: CollectsFeatures> {
 }
 
 /// The features of the array at the front, or their first fault, and what follows it.
+#[tactic(auto, using(crate::proofs::LayerParts::is_array_features))]
 fn features_at<'a, D: CollectsFeatures>(
     alloc: Global,
     depth_left: u32,

@@ -122,6 +122,7 @@ impl Element for Rings {
 
 /// The rings of the polygon at the front, the outer one first, if its array isn't empty and its outer ring isn't left out, and what
 /// follows it; or why reading stops.
+#[tactic(auto, using(json_cursor::proofs::ArrayParts::same_answers, crate::proofs::LineParts::polygon_is))]
 pub(crate) fn polygon_at<'a>(
     alloc: Global,
     depth_left: u32,

@@ -22,6 +22,7 @@ use unit_scanning::{Units, long_units_in_place, units_pair_at};
 
 /// The position whose second coordinate and further elements stand after the comma, and what follows its bracket.
 #[inline(always)]
+#[tactic(auto, using(json_cursor::proofs::Lists::no_turn))]
 fn second_at<'a>(
     alloc: Global,
     depth_left: u32,
@@ -58,6 +59,7 @@ fn second_at<'a>(
 /// first element that stands alone is reported as that, whatever it is.
 #[cold]
 #[inline(never)]
+#[tactic(auto, using(json_cursor::proofs::Lists::no_turn))]
 fn any_numbers_at<'a>(
     alloc: Global,
     depth_left: u32,

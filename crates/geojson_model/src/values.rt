@@ -20,6 +20,7 @@ use std::alloc::Global;
 /// wherever they stand: the type, then the features in order, and of each its `id`, its `properties` and its `geometry`. The value is read
 /// through its text, which takes memory for a while: that there is too little is reported too where arrays and objects nest more than
 /// `u32::MAX` deep.
+#[tactic(auto, using(geojson_meaning::proofs::Inputs::layer_inputs, crate::proofs::ValueParts::layer_is))]
 pub fn read_layer(alloc: Global, value: Json, exact: bool) -> Result<(Layer, Counts), GeoFault>
     ensures layer { IfOk result (λ r. spec.layer exact value ≡ Ok (r.0.features, r.1)) }
     ensures inputs { IfOk result (λ r. All IsInput (features_points r.0.features)) }

@@ -1,10 +1,9 @@
 -- The sum over a ring's positions, carried.
-use Rattle.std.proofs.Common.{◌≡◌, ℕ, zero, suc, ◌+◌, ◌*◌, ◌<◌, ◌≤◌, ◌^◌, ℤ, pos, ◌+ℤ◌, ◌-ℤ◌, ◌*ℤ◌, List, [], ◌∷◌, Option, None, Some, drop, length, get_or, FitsSigned, to_z, of_z, refl, ap, ◌∙◌, arith}
+use Rattle.std.proofs.Common.{◌≡◌, ℕ, zero, suc, ◌+◌, ◌*◌, ◌<◌, ◌≤◌, ℤ, pos, ◌+ℤ◌, ◌-ℤ◌, ◌*ℤ◌, List, [], ◌∷◌, Option, None, Some, drop, length, get_or, FitsSigned, to_z, of_z, refl, ap, ◌∙◌, arith}
 use Rattle.std.proofs.lemmas.List.{drop_all}
 use Rattle.std.proofs.lemmas.Int.{ints, to_z-of_z, fits_signed_from_abs}
-use Rattle.std.proofs.lemmas.Bool.{ltb_from_iff, ltb-true, lt-ltb}
-use Rattle.std.specs.Prelude.{unsigned_abs, nat_lt, true}
-use Rattle.geometry.specs.Areas.{turn, shoelace, turn_after, sum_after, most_turned, sum_limit}
+use Rattle.std.specs.Prelude.{unsigned_abs}
+use Rattle.geometry.specs.Areas.{turn, shoelace, turn_after, sum_after, most_turned}
 use Rattle.geometry.specs.Points.{Point}
 use Rattle.owned_values.proofs.Lists.{drop_here}
 use Rattle.geometry.specs.Units.{position_limit, area_limit}
@@ -39,21 +38,9 @@ added rest t h k =
     ap (λ z. to_z w128 (of_z w128 (rest +ℤ z))) (to_z-of_z w128 t (fits_signed_from_abs w128 t (omega (arith, k))))
     ∙ to_z-of_z w128 (rest +ℤ t) (fits_signed_from_abs w128 (rest +ℤ t) (omega (arith, ints, h, k)))
 
--- what the sum is carried by stays within 128 bits
-pub whole_fits : (whole rest : ℤ) → unsigned_abs (sum_of whole rest) ≤ sum_limit → unsigned_abs rest < area_limit → unsigned_abs whole < 2 ^ 126
-whole_fits whole rest b r = omega (arith, ints, b, r)
-
 -- a part is added to the sum
 pub sum_more : (whole rest more kept t : ℤ) → sum_of more kept ≡ sum_of whole (rest +ℤ t) → sum_of more kept ≡ sum_of whole rest +ℤ t
 sum_more whole rest more kept t e = omega (arith, ints, e)
-
-pub bound_more : (s t new : ℤ) → new ≡ s +ℤ t → unsigned_abs t ≤ most_turned → unsigned_abs new ≤ unsigned_abs s + most_turned
-bound_more s t new e h = omega (arith, ints, e, h)
-
--- of sums that have equally many times what they are carried by, the rests decide which is less
-pub rests_decide : (whole rest other other_rest x y : ℕ) → whole ≡ other → whole * area_limit + rest ≡ x → other * area_limit + other_rest ≡ y → nat_lt rest other_rest ≡ nat_lt x y
-rests_decide whole rest other other_rest x y e p q =
-    ltb_from_iff ((λ (h : nat_lt rest other_rest ≡ true). omega (arith, e, p, q, ltb-true rest other_rest h)), (λ (h : x < y). lt-ltb rest other_rest (omega (arith, e, p, q, h))))
 
 -- ---- lists
 

@@ -147,9 +147,6 @@ over_bounds count ps b e = grind (arith, no_bounds, same_bounds, bounds_are)
 pub same_cast : (z : ℤ) → unsigned_abs z ≤ input_limit → to_z w64 (of_z w64 z) ≡ z
 same_cast z h = omega (arith, ints, h)
 
-pub span_cast : (least greatest : ℤ) → IsSpan least greatest → IsSpan (to_z w64 (of_z w64 least)) (to_z w64 (of_z w64 greatest))
-span_cast least greatest s = rw (same_cast least s.low, same_cast greatest s.high) s
-
 pub axis_cast : (count : ℕ) (least greatest : ℤ) (a : Axis) → IsSpan least greatest
     → a ≡ axis_over count (to_z w64 (of_z w64 least)) (to_z w64 (of_z w64 greatest)) → a ≡ axis_over count least greatest
 axis_cast count least greatest a s e = grind (arith, same_cast)

@@ -44,12 +44,6 @@ number_within a x axis on = unfold number in nearest_within (offset a x) a.step 
 pub number_of_offset : (a : Axis) (x : ℤ) (d : ℕ) → d ≡ offset a x → (2 * d + a.step) / (2 * a.step) ≡ number a x
 number_of_offset a x d e = unfold number in ap (λ m. nearest m a.step) e
 
-times_one : (last step : ℕ) → 1 ≤ last → step ≤ last * step
-times_one last step h = let e : 1 * step ≤ last * step = scaled_within 1 last step h in omega (arith, e)
-
-pub step_within : (a : Axis) → IsAxis a → a.step ≤ 2 * input_limit + count_limit
-step_within a axis = let e : a.step ≤ a.last * a.step = times_one a.last a.step axis.some in omega (arith, e, axis.length)
-
 pub offset_within : (a : Axis) (x : ℤ) → IsAxis a → is_on a x ≡ true → offset a x ≤ 2 * input_limit + count_limit
 offset_within a x axis on = let e : offset a x ≤ a.last * a.step = (on_facts a x on).near in omega (arith, e, axis.length)
 

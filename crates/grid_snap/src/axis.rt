@@ -45,6 +45,7 @@ impl Axis {
     }
 
     /// How far a coordinate is from the first one, in units.
+    #[tactic(auto, using(crate::proofs::Settled::offset_within, crate::proofs::Settled::offset_is))]
     fn offset(self, x: i64) -> u64
         requires axis { IsAxis self }
         requires covered { is_on self x ≡ true }

@@ -46,6 +46,7 @@ fn widen(bounds: Option<Bounds>, position: Position) -> Bounds
 }
 
 /// With the positions of a line.
+#[tactic(auto, using(crate::proofs::Widening::starts, crate::proofs::Widening::turns, crate::proofs::Widening::ends, crate::proofs::Widening::singles))]
 pub fn with_positions(bounds: Option<Bounds>, positions: &[Position]) -> Option<Bounds>
     ensures { result ≡ widened_by bounds positions.now }
 {
@@ -57,6 +58,7 @@ pub fn with_positions(bounds: Option<Bounds>, positions: &[Position]) -> Option<
 }
 
 /// With those of lines.
+#[tactic(auto, using(crate::proofs::Widening::starts, crate::proofs::Widening::turns, crate::proofs::Widening::ends, crate::proofs::Widening::lists_of))]
 fn with_lines(bounds: Option<Bounds>, lines: &[Items<Position>]) -> Option<Bounds>
     ensures { result ≡ widened_by bounds (joined lines.now) }
 {
@@ -68,6 +70,7 @@ fn with_lines(bounds: Option<Bounds>, lines: &[Items<Position>]) -> Option<Bound
 }
 
 /// With those of rings.
+#[tactic(auto, using(crate::proofs::Widening::starts, crate::proofs::Widening::turns, crate::proofs::Widening::ends, crate::proofs::Widening::lists_of))]
 fn with_rings(bounds: Option<Bounds>, rings: &[Ring]) -> Option<Bounds>
     ensures { result ≡ widened_by bounds (joined rings.now) }
 {
@@ -79,6 +82,7 @@ fn with_rings(bounds: Option<Bounds>, rings: &[Ring]) -> Option<Bounds>
 }
 
 /// With those of the rings of polygons.
+#[tactic(auto, using(crate::proofs::Widening::starts, crate::proofs::Widening::turns, crate::proofs::Widening::ends, crate::proofs::Widening::nested))]
 fn with_areas(bounds: Option<Bounds>, areas: &[Items<Ring>]) -> Option<Bounds>
     ensures { result ≡ widened_by bounds (joined (joined areas.now)) }
 {
@@ -121,6 +125,7 @@ fn with_option(bounds: Option<Bounds>, shape: Option<&Shape>) -> Option<Bounds>
 }
 
 /// The bounds with the positions of features.
+#[tactic(auto, using(crate::proofs::Widening::starts, crate::proofs::Widening::turns, crate::proofs::Widening::ends))]
 fn with_features(bounds: Option<Bounds>, features: &[Feature]) -> Option<Bounds>
     ensures { result ≡ widened_by bounds (features_points features.now) }
 {
@@ -132,6 +137,7 @@ fn with_features(bounds: Option<Bounds>, features: &[Feature]) -> Option<Bounds>
 }
 
 /// The bounds of layers, if there is a position.
+#[tactic(auto, using(crate::proofs::Widening::starts, crate::proofs::Widening::turns, crate::proofs::Widening::ends))]
 pub(crate) fn bounds_of(layers: &[Layer]) -> Option<Bounds>
     ensures { result ≡ widened_by None (layers_points layers.now) }
 {

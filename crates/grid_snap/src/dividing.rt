@@ -11,6 +11,7 @@ pub(crate) fn inverse(divisor: u64) -> u64
 }
 
 /// How often the divisor of an inverse goes into a number, or one more. Of a multiple of the divisor it is right.
+#[tactic(auto, using(crate::proofs::Inverses::near_of, crate::proofs::Inverses::exact_of))]
 pub(crate) fn near_quotient(n: u64, inverse: u64) -> u64
     ensures near { (divisor : ℕ) → IsInverse divisor inverse → IsNearQuotient n divisor result }
     ensures exact { (divisor k : ℕ) → IsInverse divisor inverse → n ≡ k * divisor → result ≡ k }
@@ -19,6 +20,7 @@ pub(crate) fn near_quotient(n: u64, inverse: u64) -> u64
 }
 
 /// The whole part of a number over a divisor whose inverse is known. Products take less time than a division.
+#[tactic(auto, using(crate::proofs::Inverses::right_if_less))]
 pub(crate) fn quotient(n: u64, divisor: u64, inverse: u64) -> u64
     requires inverse { IsInverse divisor inverse }
     requires few { divisor ≤ 2 ^ 63 }

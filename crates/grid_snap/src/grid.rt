@@ -57,6 +57,7 @@ impl Grid {
 
     /// The grid of so many coordinates in each direction over the positions of all layers, those of Points too: from the least
     /// coordinate to the greatest or farther, in the least step of whole units that serves. `None` where there is no position.
+    #[tactic(auto, using(crate::proofs::Widening::bounds_of_input))]
     pub fn over(layers: &[Layer], count: u32) -> Option<Grid>
         requires some { 2 ≤ count }
         requires few { count ≤ count_limit }
@@ -81,6 +82,7 @@ impl Grid {
     }
 
     /// The position of the nearest coordinates, the higher ones of two.
+    #[tactic(auto, using(crate::proofs::Settled::settled))]
     pub fn snap(&self, position: Position) -> Position
         requires covered { spec.covers self.now position ≡ true }
         ensures snapped { result ≡ snapped self.now position }

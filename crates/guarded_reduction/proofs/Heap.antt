@@ -32,10 +32,6 @@ pushed t s old new v e perm due is below = record {
 
 -- ---- a round begins
 
--- nothing is under zero
-pub none_at_zero : (s : Linked) (w : Waiting) → length w.firsts ≡ length s.positions → NoneNext 0 s w
-none_at_zero s w firsts = record { held = λ v h. let l : (entry_in s v).area < 0 = h.under in absurd (omega (arith, l)); firsts = firsts }
-
 -- what `push` of a `Vec` leaves
 pub put_last : (old new : List (Reverse Entry)) (x : Reverse Entry) → new ≡ old ++ (x ∷ []) → IsPermutation (x ∷ old) new
 put_last old new x is = subst (IsPermutation (x ∷ old)) (sym is) (IsPermutation-sym (old ++ (x ∷ [])) (x ∷ old) (IsPermutation-to_front old x))

@@ -25,9 +25,6 @@ index_over index arcs whole e f = e ∙ ap (λ ps. all_left (joined ps)) f
 
 -- ---- longer lists
 
-pub longer_same : (ys : List ℕ) → IsLonger ys ys
-longer_same ys = record { stays = λ z h. h }
-
 pub longer_chain : (xs ys zs : List ℕ) → IsLonger xs ys → IsLonger ys zs → IsLonger xs zs
 longer_chain xs ys zs f g = record { stays = λ z h. g.stays z (f.stays z h) }
 
@@ -166,15 +163,9 @@ module _ (ps : List Point) (bs : List Bool) (test : Test) (ys : List ℕ) where
   abbrev pub NoneMeetsUntil : ℕ → Type 0
   NoneMeetsUntil k = NoneMeetsOf ps bs test (take k ys)
 
-  pub until_first : NoneMeetsUntil 0
-  until_first = record { fails = λ z i w l. absurd cc }
-
   pub until_more : (k : ℕ) → k < length ys → (get_or ys k 0 < length ps → is_left_at bs (get_or ys k 0) ≡ true → test (get_or ys k 0) (point_at ps (get_or ys k 0)) ≡ false) → NoneMeetsUntil k → NoneMeetsUntil (k + 1)
   until_more k h here none = record { fails = λ z i w l. on z w l (listed_until ys k z h (subst (λ (n : ℕ). is_listed (take n ys) z ≡ true) (add-one k) i)) }
     where
       on : (z : ℕ) → z < length ps → is_left_at bs z ≡ true → (is_listed (take k ys) z ≡ true) ⊎ (get_or ys k 0 ≡ z) → test z (point_at ps z) ≡ false
       on z w l (inl i) = none.fails z i w l
       on z w l (inr e) = subst (λ (y : ℕ). y < length ps → is_left_at bs y ≡ true → test y (point_at ps y) ≡ false) e here w l
-
-  pub until_end : (k : ℕ) → length ys ≤ k → NoneMeetsUntil k → NoneMeetsOf ps bs test ys
-  until_end k h none = subst (λ (l : List ℕ). NoneMeetsOf ps bs test l) (take_all k ys h) none

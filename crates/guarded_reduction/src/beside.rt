@@ -58,10 +58,12 @@ impl Query for Beside<'_> {
             && (in_triangle(c.before, c.at, c.after, at) && !is_excused(self, place, at))
     }
 
+    #[tactic(auto, using(crate::proofs::KeepsClear::reaches_beside))]
     fn reach(&self) -> Extent {
         reach_of(&self.corner)
     }
 
+    #[tactic(auto, using(crate::proofs::KeepsClear::outside_beside))]
     fn may_meet(&self, e: &Extent) -> bool {
         !is_aside(e, self.corner.before, self.corner.at, self.corner.after)
     }
@@ -83,6 +85,7 @@ impl Query for Near<'_> {
         holds(&self.within, at) && !is_marked(self.marks, self.owners, place)
     }
 
+    #[tactic(auto, using(crate::proofs::Near::reaches_near))]
     fn reach(&self) -> Extent {
         self.within
     }

@@ -56,6 +56,7 @@ impl Query for Joined<'_> {
                     || leads(self, after_or(self.links.neighbours, place, self.place))))
     }
 
+    #[tactic(auto, using(crate::proofs::Joining::joined_reach))]
     fn reach(&self) -> Extent {
         around(self.from)
     }
@@ -101,10 +102,12 @@ impl Query for Blocked<'_> {
         is_held_by(&self.corner, place, at) || joins(self, place, at)
     }
 
+    #[tactic(auto, using(crate::proofs::Joining::blocked_reach))]
     fn reach(&self) -> Extent {
         reach_of(&self.corner)
     }
 
+    #[tactic(auto, using(crate::proofs::Joining::blocked_outside, crate::proofs::OtherSide::after_outside, crate::proofs::Queries::outside))]
     fn may_meet(&self, e: &Extent) -> bool {
         !is_point(e, self.corner.after)
             && !is_aside(e, self.corner.before, self.corner.at, self.corner.after)

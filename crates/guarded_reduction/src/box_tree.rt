@@ -25,6 +25,7 @@ pub struct BoxTree {
 }
 
 /// The index of these positions, of which some are left.
+#[tactic(auto, using(crate::proofs::Indexes::leaves_of, crate::proofs::Indexes::made, crate::proofs::Orders::places_below))]
 pub fn tree_of(
     alloc: Global,
     positions: Vec<Position>,
@@ -49,6 +50,7 @@ pub fn tree_of(
 
 impl BoxTree {
     /// Takes the place away.
+    #[tactic(auto, using(crate::proofs::Indexes::fitted_without, crate::proofs::Indexes::leaves_without))]
     pub fn remove(&mut self, place: usize)
         requires index { IsIndex self.old }
         requires within { place < length self.old.positions.items }
@@ -78,6 +80,7 @@ impl BoxTree {
     }
 
     /// A place that is left and meets the test.
+    #[tactic(auto, using(crate::proofs::Searches::none_at_all))]
     pub fn find<Q: Query>(&self, query: &Q) -> Option<usize>
         requires { IsIndex self.now }
         ensures some { IfSome result (λ z. Meets self.now.positions.items self.now.present.items (Q.test query.now) z) }

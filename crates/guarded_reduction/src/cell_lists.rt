@@ -56,6 +56,7 @@ fn cell_number(x: i64, bits: u32) -> u64
 }
 
 /// The same, as cells are numbered: in the order of their coordinates.
+#[tactic(auto, using(crate::proofs::Cells::cell_mono))]
 pub fn cell_along(x: i64, bits: u32) -> u64
     requires { bits < 64 }
     ensures value { result ≡ spec.cell_along bits x }

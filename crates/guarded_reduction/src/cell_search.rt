@@ -48,6 +48,7 @@ fn count_cells(range: &CellRange) -> u64 {
 }
 
 /// A place of a list that is left and meets the test.
+#[tactic(auto, using(crate::proofs::Cells::first_is_on, crate::proofs::Cells::next_is_on, crate::proofs::Cells::walk_begins, crate::proofs::Cells::walk_on))]
 fn find_on_list<Q: Query>(
     cells: &CellLists,
     grid: &Grid,
@@ -74,6 +75,7 @@ fn find_on_list<Q: Query>(
 }
 
 /// A place in the cells of a row, from one column on until before another, that is left and meets the test.
+#[tactic(auto, using(crate::proofs::Cells::row_begins, crate::proofs::Cells::row_on, crate::proofs::Cells::row_until))]
 fn find_in_row<Q: Query>(
     cells: &CellLists,
     grid: &Grid,
@@ -99,6 +101,7 @@ fn find_in_row<Q: Query>(
 }
 
 /// A place that is left and meets the test, where all that meet it lie in this box.
+#[tactic(auto, using(crate::proofs::Cells::all_within, crate::proofs::Cells::rows_begin, crate::proofs::Cells::rows_on))]
 fn find_within<Q: Query>(
     cells: &CellLists,
     grid: &Grid,
@@ -121,6 +124,7 @@ fn find_within<Q: Query>(
 }
 
 /// Lists a place, if it is left and meets the test. The answer is no where the list has no room for it.
+#[tactic(auto, using(crate::proofs::Near::longer_by, crate::proofs::Near::now_listed))]
 fn note<Q: Query>(
     cells: &CellLists,
     place: usize,
@@ -222,6 +226,7 @@ fn note_within<Q: Query>(
 }
 
 /// How many places a list has, or more than so many.
+#[tactic(auto, using(crate::proofs::Cells::first_is_on, crate::proofs::Cells::next_is_on))]
 fn count_on_list(positions: &[Position], grid: &Grid, list: usize, most: usize) -> usize
     requires grid { IsGrid positions.now grid.now }
     requires list { list < length grid.now.firsts.items }

@@ -79,6 +79,7 @@ impl CornerQueue {
     }
 
     /// Puts one more corner among the others.
+    #[tactic(auto, using(crate::proofs::Queues::on_heap))]
     pub fn push(&mut self, corner: Reverse<Entry>) -> Result<(), Memory>
         ensures { OnOk result (IsPermutation (corner ∷ self.old) self.new) }
     {
@@ -87,6 +88,7 @@ impl CornerQueue {
     }
 
     /// Takes out the corner that goes first.
+    #[tactic(auto, using(crate::proofs::Queues::first_of_sorted, crate::proofs::Queues::first_on_heap, crate::proofs::Queues::off_heap, crate::proofs::Queues::off_sorted))]
     pub fn pop(&mut self) -> Option<Reverse<Entry>>
         ensures permutation { IfSome result (λ e. IsPermutation self.old (e ∷ self.new)) }
         ensures first { IfSome result (λ e. IsUpperBound turned_cmp e self.old) }

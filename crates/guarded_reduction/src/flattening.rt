@@ -12,6 +12,7 @@ use std::alloc::Global;
 const MOST_PLACES: usize = 1 << 60;
 
 /// The positions of all arcs.
+#[tactic(auto, using(crate::proofs::Flattened::positions_all, crate::proofs::Flattened::positions_more))]
 pub fn all_positions(alloc: Global, arcs: &[Items<Position>]) -> Result<Vec<Position>, Memory>
     ensures positions { IfOk result (λ all. all.items ≡ joined arcs.now) }
     ensures few { IfOk result (λ all. length all.items < 2 ^ 60) }
@@ -27,6 +28,7 @@ pub fn all_positions(alloc: Global, arcs: &[Items<Position>]) -> Result<Vec<Posi
 }
 
 /// Puts the place before each of an arc's places after the others.
+#[tactic(auto, using(crate::proofs::Flattened::one_more_link, crate::proofs::Flattened::so_many))]
 fn put_befores(befores: &mut Vec<usize>, n: usize) -> Result<(), Memory>
     ensures { OnOk result (befores.new.items ≡ befores.old.items ++ arc_links before_index (length befores.old.items) n) }
 {
@@ -49,6 +51,7 @@ fn put_afters(afters: &mut Vec<usize>, n: usize) -> Result<(), Memory>
 }
 
 /// The place before each place.
+#[tactic(auto, using(crate::proofs::Flattened::all_linked, crate::proofs::Flattened::links_more))]
 pub fn befores_of(alloc: Global, arcs: &[Items<Position>]) -> Result<Vec<usize>, Memory>
     ensures { IfOk result (λ all. all.items ≡ links_of before_index 0 arcs.now) }
 {
@@ -60,6 +63,7 @@ pub fn befores_of(alloc: Global, arcs: &[Items<Position>]) -> Result<Vec<usize>,
 }
 
 /// The place after each place.
+#[tactic(auto, using(crate::proofs::Flattened::all_linked, crate::proofs::Flattened::links_more))]
 pub fn afters_of(alloc: Global, arcs: &[Items<Position>]) -> Result<Vec<usize>, Memory>
     ensures { IfOk result (λ all. all.items ≡ links_of after_index 0 arcs.now) }
 {
@@ -83,6 +87,7 @@ fn other_end(place: usize, i: usize, n: usize) -> Result<usize, Memory>
 }
 
 /// Puts the partner of each of an arc's places after the others.
+#[tactic(auto, using(crate::proofs::Flattened::one_more_link, crate::proofs::Flattened::so_many))]
 fn put_partners(partners: &mut Vec<usize>, n: usize) -> Result<(), Memory>
     ensures { OnOk result (partners.new.items ≡ partners.old.items ++ arc_links partner_index (length partners.old.items) n) }
 {
@@ -95,6 +100,7 @@ fn put_partners(partners: &mut Vec<usize>, n: usize) -> Result<(), Memory>
 }
 
 /// Of each place that is an end of its arc the place of the other end, of each other the place itself.
+#[tactic(auto, using(crate::proofs::Flattened::all_linked, crate::proofs::Flattened::links_more))]
 pub fn partners_of(alloc: Global, arcs: &[Items<Position>]) -> Result<Vec<usize>, Memory>
     ensures { IfOk result (λ all. all.items ≡ links_of partner_index 0 arcs.now) }
 {

@@ -22,6 +22,7 @@ fn turned(corner: &Corner) -> Corner
 }
 
 /// The place blocks the corner, or the one before it does, or the one after it, where it blocks the corner from the other side.
+#[tactic(auto, using(crate::proofs::OtherSide::last_of_three))]
 fn from_other_side(places: &LinkedPlaces, corner: &Corner, holder: usize) -> usize
     requires chained { IsChained places.now }
     requires holder { Meets places.now.positions places.now.left (is_blocked_by places.now.positions places.now.befores places.now.afters (turned_corner corner.now)) holder }
@@ -40,6 +41,7 @@ fn from_other_side(places: &LinkedPlaces, corner: &Corner, holder: usize) -> usi
 
 /// A place that is left and blocks the corner at a place, where crossings are to be avoided. The one that was found last is tried first, since one
 /// place often blocks many corners. A segment between the corner's ends is looked for from the end where fewer places lie.
+#[tactic(auto, using(crate::proofs::OtherSide::none_from_other))]
 pub fn holder_of(places: &LinkedPlaces, place: usize, last: usize) -> Option<usize>
     requires place { place < length places.now.positions }
     requires chained { IsChained places.now }

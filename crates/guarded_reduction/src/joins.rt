@@ -26,6 +26,7 @@ impl Model for Joins {
 
 impl Joins {
     /// So many parts, of which none is joined.
+    #[tactic(auto, using(crate::proofs::JoinedParts::none_joined))]
     pub fn none(alloc: Global, n: usize) -> Result<Joins, Memory>
         ensures { IfOk result (λ j. j.joined ≡ replicate n false) }
     {
@@ -61,6 +62,7 @@ impl Joins {
     }
 
     /// Joins two parts.
+    #[tactic(auto, using(crate::proofs::JoinedParts::first_to_second, crate::proofs::JoinedParts::marked_four, crate::proofs::JoinedParts::second_to_first))]
     pub fn join(&mut self, one: usize, other: usize)
         requires one { one < length self.old.joined }
         requires other { other < length self.old.joined }

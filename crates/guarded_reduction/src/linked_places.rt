@@ -45,6 +45,7 @@ impl Model for LinkedPlaces {
 
 impl LinkedPlaces {
     /// The places of these arcs, which are all left, with an index where crossings are to be avoided.
+    #[tactic(auto, using(crate::proofs::Starts::first_is, crate::proofs::Starts::first_whole, crate::proofs::Starts::links_many))]
     pub fn of(
         alloc: Global,
         arcs: &[Items<Position>],

@@ -79,6 +79,7 @@ pub fn next_corner(
 }
 
 /// The corner that goes next, if there is one. The places of those with which not all rings would stay, stay for good.
+#[tactic(auto, using(crate::proofs::Queued::chained_fixed, crate::proofs::Queued::next_fixed, crate::proofs::Queued::one_fixed))]
 pub fn next_going(
     alloc: Global,
     queue: &mut CornerQueue,

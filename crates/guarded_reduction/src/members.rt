@@ -38,6 +38,7 @@ pub fn put(kept: &mut [Vec<usize>], numbers: &[usize], found: &mut [Vec<usize>])
 }
 
 /// So many empty lists.
+#[tactic(auto, using(crate::proofs::PartMembers::empty_more))]
 pub fn empty_lists(alloc: Global, n: usize) -> Result<Vec<Vec<usize>>, Memory>
     ensures { IfOk result (λ all. map (λ v. v.items) all.items ≡ replicate n []) }
 {
@@ -49,6 +50,7 @@ pub fn empty_lists(alloc: Global, n: usize) -> Result<Vec<Vec<usize>>, Memory>
 }
 
 /// So many parts without arcs.
+#[tactic(auto, using(crate::proofs::PartMembers::empty_more))]
 fn empty_parts(alloc: Global, n: usize) -> Result<Vec<SmallVec<usize, 2>>, Memory>
     ensures { IfOk result (λ all. map (λ v. v.items) all.items ≡ replicate n []) }
 {

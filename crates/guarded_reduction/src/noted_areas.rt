@@ -15,6 +15,7 @@ pub struct Noted {
 }
 
 /// A note for each position of an arc, in place of the notes that were there. The first ones are of no use.
+#[tactic(auto, using(crate::proofs::Noted::first_noted, crate::proofs::Noted::none))]
 pub fn first_notes(notes: &mut Vec<Noted>, arc: &[Position]) -> Result<(), Memory>
     ensures { OnOk result (AreNoted arc.now notes.new.items) }
 {
@@ -41,6 +42,7 @@ fn area_of(arc: &[Position], before: usize, place: usize, after: usize) -> u128
 }
 
 /// Twice the area of the corner at an index between two others, which is noted.
+#[tactic(auto, using(crate::proofs::Noted::noted_more))]
 pub fn noted_area(
     arc: &[Position],
     notes: &mut Vec<Noted>,

@@ -23,6 +23,7 @@ impl Located for Key {
 }
 
 /// The places, each with its position.
+#[tactic(auto, using(crate::proofs::Orders::keys_more))]
 fn keys_of(alloc: Global, positions: &[Position]) -> Result<Vec<Key>, Memory>
     ensures { IfOk result (λ v. map place_of v.items ≡ range_with_len 0 (length positions.now)) }
 {

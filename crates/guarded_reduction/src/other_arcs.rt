@@ -103,6 +103,7 @@ fn look(
 
 impl<'a> OtherArcs<'a> {
     /// All arcs, of which none is marked: there are so many, with so many positions.
+    #[tactic(auto, using(crate::proofs::Near::nothing_near))]
     pub fn of(
         alloc: Global,
         whole: &'a WholeArcs<'a>,
@@ -142,6 +143,7 @@ impl<'a> OtherArcs<'a> {
     }
 
     /// Lists the places of the others in a box, where there are few, which are found by looks at so many cells and places at most.
+    #[tactic(auto, using(crate::proofs::Near::nothing_near))]
     pub fn list_near(&mut self, within: Extent, most: usize)
         ensures { self.new ≡ self.old }
     {

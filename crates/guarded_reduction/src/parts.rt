@@ -77,6 +77,7 @@ fn join_met(joins: &mut Joins, parts: &[usize], part: usize, met: &[usize])
 }
 
 /// Reduces the arcs of a part, if they keep clear of the others.
+#[tactic(auto, using(crate::proofs::PartMembers::many_found))]
 fn reduce_one(
     alloc: Global,
     arcs: &[Items<Position>],
@@ -222,6 +223,7 @@ fn reduce_round(
 /// Of each arc the numbers of the positions that stay, where no corner goes that would make a crossing: the arcs are reduced in parts, first each by
 /// itself, then those that meet each other together, until no part meets another. Nothing where that doesn't succeed: where it takes too long to see
 /// which arcs are met, or too many rounds. It isn't tried where one arc has half of all positions, which would be gone through twice.
+#[tactic(auto, using(crate::proofs::Standing::all_pending, crate::proofs::Standing::same_standing, crate::proofs::Standing::written_back))]
 pub fn reduce_by_parts(
     alloc: Global,
     arcs: &[Items<Position>],

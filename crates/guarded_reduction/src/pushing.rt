@@ -47,6 +47,7 @@ fn push_waiting(
 }
 
 /// The corner goes. Those of its neighbours, and those that waited on it, are looked at again.
+#[tactic(auto, using(crate::proofs::Queued::below_to, crate::proofs::Queued::taken_out_to))]
 pub fn take_out(
     queue: &mut CornerQueue,
     places: &mut LinkedPlaces,

@@ -64,6 +64,7 @@ impl Query for Corner {
         reach_of(self)
     }
 
+    #[tactic(auto, using(crate::proofs::Queries::outside))]
     fn may_meet(&self, e: &Extent) -> bool {
         !is_aside(e, self.before, self.at, self.after)
     }

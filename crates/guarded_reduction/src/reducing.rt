@@ -94,6 +94,7 @@ fn reduced_places<S: Surroundings>(
 }
 
 /// Of n places from a first one on the indexes of those that are left.
+#[tactic(auto, using(crate::proofs::Flattened::kept_more))]
 fn kept_from(
     alloc: Global,
     places: &LinkedPlaces,
@@ -114,6 +115,7 @@ fn kept_from(
 }
 
 /// Of each arc the indexes of the places that are left.
+#[tactic(auto, using(crate::proofs::Flattened::ahead, crate::proofs::Flattened::all_kept_all, crate::proofs::Flattened::all_kept_more))]
 fn all_kept(
     alloc: Global,
     places: &LinkedPlaces,

@@ -10,6 +10,7 @@ use planar_predicates::{Extent, around, empty_extent, joined};
 use std::alloc::Global;
 
 /// The box of a leaf, which holds nothing where its place is gone.
+#[tactic(auto, using(crate::proofs::Trees::leaf_holds))]
 fn leaf_extent(positions: &[Position], present: &[bool], places: &[usize], leaf: usize) -> Extent
     requires leaves { AreLeaves positions.now present.now places.now }
     requires leaf { length positions.now ≤ leaf }
@@ -61,6 +62,7 @@ fn set_extent(extents: &mut [Extent], at: usize, e: Extent)
 }
 
 /// Refits a node: its box becomes that round what is left under its two children. The answer is whether it changed.
+#[tactic(auto, using(crate::proofs::Trees::both_hold))]
 fn refit(
     extents: &mut [Extent],
     positions: &[Position],

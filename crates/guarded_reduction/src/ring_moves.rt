@@ -31,6 +31,7 @@ fn moves_of(positions: &[Position]) -> usize
 }
 
 /// How often each arc moves on.
+#[tactic(auto, using(owned_values::proofs::Lists::mapped_more, owned_values::proofs::Lists::mapped_all))]
 pub fn all_moves(alloc: Global, arcs: &[Items<Position>]) -> Result<Vec<usize>, Memory>
     ensures { IfOk result (λ all. all.items ≡ map moves_in arcs.now) }
 {
@@ -98,6 +99,7 @@ pub fn users_of(alloc: Global, n: usize, rings: &[Items<ArcRef>]) -> Result<Vec<
 }
 
 /// A ring moves on often enough to stay, where its arcs move on so often, and the one of this number as often as is left to it.
+#[tactic(auto, using(crate::proofs::Users::stays_is))]
 fn ring_stays(moves: &[usize], refs: &[ArcRef], number: usize, left: usize) -> bool
     requires number { number < length moves.now }
     requires in_range { AreInRange (length moves.now) refs.now }

@@ -56,6 +56,7 @@ pub fn next_threshold(places: &LinkedPlaces, round: u128, threshold: u128) -> u1
 }
 
 /// Puts the corner at a place after the others, if there is one that is under the second threshold, and not under the first.
+#[tactic(auto, using(crate::proofs::Heap::pushed_from, crate::proofs::Heap::put_last))]
 fn push_from(
     corners: &mut Vec<Reverse<Entry>>,
     places: &LinkedPlaces,
@@ -119,6 +120,7 @@ fn begin_next_round(
 }
 
 /// The corner that goes next, if there is one. Where none is queued any more, the next round begins.
+#[tactic(auto, using(crate::proofs::Queued::chained_fixed, crate::proofs::Queued::fixed_more, crate::proofs::Queued::owners_still))]
 pub fn next_in_rounds(
     alloc: Global,
     queue: &mut CornerQueue,

@@ -37,6 +37,7 @@ pub fn read_extent(extents: &[Extent], at: usize) -> Extent
 }
 
 /// The place is left and meets the test.
+#[tactic(auto, using(crate::proofs::Searches::beyond_reach, crate::proofs::Searches::not_both))]
 pub fn is_met_at<Q: Query>(
     positions: &[Position],
     present: &[bool],
@@ -65,6 +66,7 @@ fn place_at(index: &BoxTree, leaf: usize) -> usize
 }
 
 /// The place of a leaf, where it is left and meets the test.
+#[tactic(auto, using(crate::proofs::Searches::leaf_clear))]
 fn found_at<Q: Query>(index: &BoxTree, leaf: usize, within: &Extent, query: &Q) -> Option<usize>
     requires index { IsIndex index.now }
     requires leaf { length index.now.positions.items ≤ leaf }
@@ -82,6 +84,7 @@ fn found_at<Q: Query>(index: &BoxTree, leaf: usize, within: &Extent, query: &Q) 
 }
 
 /// Something under a node may meet the test, unless the answer is no.
+#[tactic(auto, using(crate::proofs::Searches::outside, crate::proofs::Searches::pruned))]
 fn may_hold<Q: Query>(index: &BoxTree, node: usize, within: &Extent, query: &Q) -> bool
     requires index { IsIndex index.now }
     requires inner { 0 < node }
@@ -140,6 +143,7 @@ fn other_child(node: usize) -> usize
 }
 
 /// A place that is left and meets the test, under the node over one under which there is none.
+#[tactic(auto, using(crate::proofs::Searches::clear_over, crate::proofs::Searches::none_over))]
 fn find_over<Q: Query>(index: &BoxTree, node: usize, within: &Extent, query: &Q) -> Option<usize>
     requires index { IsIndex index.now }
     requires inner { 1 < node }

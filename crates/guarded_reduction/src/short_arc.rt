@@ -116,6 +116,7 @@ fn joins(arc: &[Position], from: usize, to: usize, candidate: &Candidate) -> boo
 }
 
 /// The positions before and after the corner are two, and the segment from the index after the first k of what is left joins them.
+#[tactic(auto, using(crate::proofs::Short::last_open, crate::proofs::Short::one_open, crate::proofs::Short::open_step))]
 fn joins_next(arc: &[Position], left: &[usize], candidate: &Candidate, k: usize) -> bool
     requires inside { All (λ i. i < length arc.now) left.now }
     requires within { k < length left.now }
@@ -132,6 +133,7 @@ fn joins_next(arc: &[Position], left: &[usize], candidate: &Candidate, k: usize)
 
 /// The index after the first k of what is left is in the corner's triangle, round which there is this box, or the segment from it joins the positions
 /// before and after it. Most indexes are outside of the box.
+#[tactic(auto, using(crate::proofs::Near::within_from, crate::proofs::Short::free_outside, crate::proofs::Short::free_step))]
 fn blocks(arc: &[Position], left: &[usize], candidate: &Candidate, reach: &Extent, k: usize) -> bool
     requires inside { All (λ i. i < length arc.now) left.now }
     requires within { k < length left.now }
@@ -149,6 +151,7 @@ fn blocks(arc: &[Position], left: &[usize], candidate: &Candidate, reach: &Exten
 }
 
 /// The corner can go without a crossing.
+#[tactic(auto, using(crate::proofs::Short::free_end))]
 fn is_free(arc: &[Position], left: &[usize], candidate: &Candidate) -> bool
     requires { All (λ i. i < length arc.now) left.now }
     ensures { result ≡ guards.is_free (only_arc arc.now left.now) (corner_of candidate.now) }
@@ -179,6 +182,7 @@ fn goes_sooner(
 }
 
 /// A corner of this area doesn't go before the one that was found, or isn't under the threshold, if the answer is yes.
+#[tactic(auto, using(crate::proofs::Short::over_best))]
 fn is_over(area: u128, threshold: u128, best: &Option<Candidate>) -> bool
     ensures { result ≡ true → (c : Candidate) → c.area ≡ area → (nat_lt c.area threshold && goes_ahead best.now c) ≡ false }
 {
@@ -189,6 +193,7 @@ fn is_over(area: u128, threshold: u128, best: &Option<Candidate>) -> bool
 }
 
 /// The corner at an index of what is left, if it goes before the one that was found.
+#[tactic(auto, using(crate::proofs::Short::over_sooner))]
 fn sooner_at(
     arc: &[Position],
     left: &[usize],
@@ -243,6 +248,7 @@ fn first_candidate(
 }
 
 /// The corner that goes first of what is left without a crossing, if one goes. Mostly it is the first of all.
+#[tactic(auto, using(crate::proofs::Short::first_free, crate::proofs::Short::none_free))]
 fn next_candidate(
     arc: &[Position],
     left: &[usize],

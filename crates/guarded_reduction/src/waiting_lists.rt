@@ -43,6 +43,7 @@ impl WaitingLists {
     }
 
     /// A corner waits on a place.
+    #[tactic(auto, using(crate::proofs::Waits::added_falls, crate::proofs::Waits::added_keeps, crate::proofs::Waits::added_waits, crate::proofs::Waits::waiting_of))]
     pub fn add(&mut self, holder: usize, corner: usize) -> Result<(), Memory>
         requires { holder < length self.old.firsts }
         ensures kept { OnOk result (KeepsWaits self.old self.new) }
@@ -64,6 +65,7 @@ impl WaitingLists {
     }
 
     /// The wait of a number.
+    #[tactic(auto, using(crate::proofs::Waits::wait_is))]
     pub fn wait(&self, number: usize) -> Wait
         requires some { 0 < number }
         requires within { number ≤ length self.now.waits }

@@ -122,6 +122,7 @@ fn put_levels(
 }
 
 /// The levels of the places between the ends of arcs.
+#[tactic(auto, using(crate::proofs::Flattened::ahead, crate::proofs::Weighed::levels_all, crate::proofs::Weighed::levels_more))]
 fn all_levels(
     alloc: Global,
     places: &LinkedPlaces,
@@ -146,6 +147,7 @@ fn all_levels(
 /// The weights of the positions between the ends of arcs, in order, where corners go as in `reduce_guarded`: twice the greatest area of the corners
 /// that go without a threshold, up to and including its own; none where it never goes. At a threshold those stay that have none, or one that
 /// isn't under it.
+#[tactic(auto, using(crate::proofs::Weighed::weights_are))]
 pub fn weights_guarded(
     alloc: Global,
     arcs: &[Items<Position>],

@@ -70,6 +70,7 @@ impl<'a> WholeArcs<'a> {
     }
 
     /// The corner beside the arcs that aren't marked.
+    #[tactic(auto, using(crate::proofs::KeepsClear::same_test))]
     fn beside<'b>(&'b self, inside: &'b [bool], corner: &Corner) -> Beside<'b>
         ensures { is_beside result.marks.now result.owners.now result.partners.now result.positions.now result.corner ≡ is_beside inside.now (moves.owners_of 0 self.now) (links_of partner_index 0 self.now) (joined self.now) corner.now }
     {
@@ -84,6 +85,7 @@ impl<'a> WholeArcs<'a> {
 
     /// Lists the places in a box of the arcs that aren't marked, if the answer is yes. It is no where the list has no room for them, or more than so many
     /// cells or places are to be gone through to find them.
+    #[tactic(auto, using(crate::proofs::Near::near_listed))]
     pub fn list_near(
         &self,
         inside: &[bool],

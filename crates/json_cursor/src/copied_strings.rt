@@ -56,6 +56,7 @@ fn copy_escaped<'a>(alloc: Global, inside: &'a [u8], text: &mut Vec<u8>) -> Resu
 }
 
 /// Copies a string after its first quotation mark: at once, where no escape is in it.
+#[tactic(auto, using(crate::proofs::Openings::first_byte, crate::proofs::Quoted::characters_copied))]
 fn copy_characters<'a>(
     alloc: Global,
     inside: &'a [u8],

@@ -20,6 +20,7 @@ pub(crate) fn broken(left: &[u8]) -> Fault
 }
 
 /// Copies the word at the front, and gives what follows it.
+#[tactic(auto, using(json_reading::proofs::Words::after_word_takes))]
 fn copy_word<'a>(word: &[u8], bytes: &'a [u8], text: &mut Vec<u8>) -> Result<&'a [u8], Fault>
     ensures { MatchResult result (λ rest. (bytes.now ≡ word.now ++ rest.now) × (text.new.items ≡ text.old.items ++ word.now)) (λ fault. Fails fault (reading.after_word word.now bytes.now)) }
 {
@@ -31,6 +32,7 @@ fn copy_word<'a>(word: &[u8], bytes: &'a [u8], text: &mut Vec<u8>) -> Result<&'a
 }
 
 /// Copies the number at the front by its own text, and gives what follows it.
+#[tactic(auto, using(json_reading::proofs::NumbersRead::shorter, crate::proofs::Copied::number_copied, crate::proofs::Failed::number_fails))]
 fn copy_number<'a>(bytes: &'a [u8], text: &mut Vec<u8>) -> Result<&'a [u8], Fault>
     ensures { CopiesOr reading.number_at (λ t. t) bytes.now text.old.items text.new.items result }
 {

@@ -27,6 +27,7 @@ pub(crate) fn first_at(bytes: &[u8]) -> Option<(u8, &[u8])>
 
 /// The mark after white space, and what follows it. A comma with no white space before it is looked for first.
 #[inline(always)]
+#[tactic(auto, using(crate::proofs::Lists::comma_first, crate::proofs::Lists::nothing_after, crate::proofs::Lists::other_after, crate::proofs::Openings::first_byte))]
 pub fn mark_at(bytes: &[u8]) -> (Mark, &[u8])
     ensures { Marks bytes.now result.0 result.1.now }
 {

@@ -45,6 +45,7 @@ impl<'a> Name<'a> {
 
 /// The name after its first quotation mark, and what follows its last one.
 #[inline(always)]
+#[tactic(auto, using(json_reading::proofs::PlainStrings::plain_string))]
 fn text_at<'a>(alloc: Global, inside: &'a [u8]) -> Result<(Name<'a>, &'a [u8]), Fault>
     ensures { Gives (λ x. (name_of x.0, x.1.now)) result (reading.string_at is_utf8 inside.now) }
 {
@@ -58,6 +59,7 @@ fn text_at<'a>(alloc: Global, inside: &'a [u8]) -> Result<(Name<'a>, &'a [u8]), 
 }
 
 /// The string at the front, and what follows it; none of a value that is no string, of which nothing is read.
+#[tactic(auto, using(crate::proofs::Openings::is_no_text, crate::proofs::Openings::is_text, crate::proofs::Openings::no_text))]
 pub fn string_at<'a>(alloc: Global, bytes: &'a [u8]) -> Result<Option<(Name<'a>, &'a [u8])>, Fault>
     ensures { ReadsString bytes.now result }
 {
@@ -99,6 +101,7 @@ fn quoted_at<'a>(word: &str, inside: &'a [u8]) -> Option<&'a [u8]>
 
 /// This word as the string at the front, and what follows it, if it stands there as it is.
 #[inline(always)]
+#[tactic(auto, using(crate::proofs::Openings::is_text))]
 pub fn word_at<'a>(word: &'static str, bytes: &'a [u8]) -> Option<(Name<'a>, &'a [u8])>
     requires { simple word.now ≡ true }
     ensures string { IfSome result (λ x. ReadsString bytes.now (Ok (Some x))) }

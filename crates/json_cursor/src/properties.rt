@@ -97,6 +97,7 @@ fn copied_at<'a>(
 
 /// The object at the front as properties with their text, and what follows it: at once where it stands as it is written, and else part by
 /// part.
+#[tactic(auto, using(crate::proofs::CopiedTexts::is_object, crate::proofs::CopiedTexts::text_of_object))]
 fn text_at<'a>(
     alloc: Global,
     depth_left: u32,

@@ -11,6 +11,7 @@ use json_reading::{after_number, after_word, next, plain_at, skip};
 
 /// What follows the word, where it stands at the front.
 #[inline(always)]
+#[tactic(auto, using(json_reading::proofs::Words::after_word_takes))]
 fn rest_after_word<'a>(word: &[u8], bytes: &'a [u8]) -> Option<&'a [u8]>
     ensures { IfSome result (λ rest. bytes.now ≡ word.now ++ rest.now) }
 {

@@ -32,6 +32,7 @@ pub fn expected(byte: u8, bytes: &[u8]) -> Result<&[u8], Fault>
 }
 
 /// What follows the word, of which each byte has to be there.
+#[tactic(auto, using(crate::proofs::CheckedWords::fails, crate::proofs::CheckedWords::goes_on, crate::proofs::CheckedWords::ends))]
 pub fn expected_word<'a>(word: &[u8], bytes: &'a [u8]) -> Result<&'a [u8], Fault>
     ensures { Gives (λ x. x.now) result (spec.after_word word.now bytes.now) }
 {

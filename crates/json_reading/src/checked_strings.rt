@@ -38,6 +38,7 @@ fn simple_lanes(lanes: u8x16) -> usize
 
 /// The bytes without some such characters at the front.
 #[inline(always)]
+#[tactic(auto, using(crate::proofs::PlainStrings::few, crate::proofs::PlainStrings::prefix_passed))]
 fn after_simple(bytes: &[u8]) -> &[u8]
     ensures { PassesSimple bytes.now result.now }
 {
@@ -50,6 +51,7 @@ fn after_simple(bytes: &[u8]) -> &[u8]
 }
 
 /// The front of a string up to its quotation mark, and what follows that, where only such characters stand before it.
+#[tactic(auto, using(json_value::proofs::PlainLanes::split, crate::proofs::PlainStrings::one_passed, crate::proofs::PlainStrings::shorter, crate::proofs::PlainStrings::string_ends))]
 pub fn plain_at(inside: &[u8]) -> Option<(&[u8], &[u8])>
     ensures { IfSome result (λ x. EndsPlain inside.now x.0.now x.1.now) }
 {

@@ -38,6 +38,7 @@ fn text_at(alloc: Global, deepest: u32, bytes: &[u8]) -> Result<(), Fault>
 
 /// Checks that the bytes spell a value (RFC 8259), in which arrays and objects nest no deeper than `deepest`, without making it. One byte
 /// order mark before it is skipped. It stops where `parse` stops, for the same reason.
+#[tactic(auto, using(crate::proofs::TextsRead::text_takes, crate::proofs::TextsFound::not_read))]
 pub fn check(alloc: Global, bytes: &[u8], deepest: u32) -> Result<(), JsonFault>
     requires { deepest ≤ 255 }
     // Where nothing is wrong, the bytes spell a value.

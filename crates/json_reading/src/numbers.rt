@@ -39,6 +39,7 @@ fn after_minus(bytes: &[u8]) -> &[u8]
     }
 }
 
+#[tactic(auto, using(crate::proofs::Steps::none_fails, crate::proofs::NumbersRead::whole_none, crate::proofs::NumbersRead::whole_by_zero, crate::proofs::NumbersRead::whole_by_digits))]
 fn after_whole(bytes: &[u8]) -> Result<&[u8], Fault>
     ensures { Gives (λ x. x.now) result (spec.after_whole bytes.now) }
 {
@@ -93,7 +94,7 @@ pub fn after_number(bytes: &[u8]) -> Result<&[u8], Fault>
 }
 
 /// The number at the front, by its text, and what follows it.
-#[tactic(auto, unfolding(json_value::specs::Reading::number_at))]
+#[tactic(auto, using(crate::proofs::NumbersRead::shorter, crate::proofs::NumbersRead::prefix_number), unfolding(json_value::specs::Reading::number_at))]
 pub fn number_at<'a>(alloc: Global, bytes: &'a [u8]) -> Result<(NumText, &'a [u8]), Fault>
     ensures { Gives (λ x. (x.0, x.1.now)) result (spec.number_at bytes.now) }
 {

@@ -46,6 +46,7 @@ fn text_at(alloc: Global, deepest: u32, bytes: &[u8]) -> Result<Json, Fault>
 
 /// The value that the bytes spell (RFC 8259), in which arrays and objects nest no deeper than `deepest`. One byte order
 /// mark before it is skipped.
+#[tactic(auto, using(json_value::proofs::SpelledTexts::reads_well_formed, crate::proofs::TextsRead::text_takes, crate::proofs::TextsFound::is_read, crate::proofs::TextsFound::not_read))]
 pub fn parse(alloc: Global, bytes: &[u8], deepest: u32) -> Result<Json, JsonFault>
     requires { deepest ≤ 255 }
     // What is read is spelled so.

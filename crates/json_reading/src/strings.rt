@@ -167,6 +167,7 @@ fn escape_at(bytes: &[u8]) -> Result<(char, &[u8]), Fault>
 }
 
 /// The bytes at the front that stand for themselves, and what follows them.
+#[tactic(auto, using(crate::proofs::StringsRead::plain_back, crate::proofs::StringsRead::plain_front))]
 pub fn plain_run(bytes: &[u8]) -> (&[u8], &[u8])
     ensures prefix { result.0.now ≡ spec.plain_prefix bytes.now }
     ensures rest { result.1.now ≡ spec.after_plain bytes.now }

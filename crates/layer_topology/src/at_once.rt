@@ -64,6 +64,7 @@ fn share_of_weights(alloc: Global, weights: &[Option<u128>], p: u64, q: u64) -> 
 
 /// Of each arc the numbers of the positions that stay where all are reduced at once and p of q of those between the ends stay, and the threshold that
 /// was chosen for it. Their corners go once, without a threshold: the weights say what stays at any.
+#[tactic(auto, using(crate::proofs::Indexes::indexes_by_weight))]
 fn kept_by_share(
     alloc: Global,
     arcs: &[Items<Position>],

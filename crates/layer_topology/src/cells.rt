@@ -14,6 +14,7 @@ use topo_model::Keeps;
 use topojson_types::{ArcRef, Cell};
 
 /// The cell that stands for a position of a topology without a transform. One that the grid doesn't cover stays.
+#[tactic(auto, using(crate::proofs::Covered::if_no_position, crate::proofs::Covered::as_passed))]
 fn cell_if_covered(grid: &Grid, position: Cell) -> Cell
     ensures { result ≡ cell_if_covered grid.now position }
 {
@@ -29,6 +30,7 @@ fn cell_if_covered(grid: &Grid, position: Cell) -> Cell
 }
 
 /// The cell that stands for a position on the grid.
+#[tactic(auto, using(crate::proofs::Covered::as_passed, crate::proofs::Covered::is_position, crate::proofs::Covered::passed_is))]
 fn cell_on(grid: &Grid, position: Cell) -> Cell
     requires { IsOn (Some grid.now) position }
     ensures { result ≡ cell grid.now position }
@@ -39,6 +41,7 @@ fn cell_on(grid: &Grid, position: Cell) -> Cell
 }
 
 /// Each position replaced, all of which are on the grid.
+#[tactic(auto, using(geometry::proofs::Moved::starts, geometry::proofs::Moved::turns, geometry::proofs::Moved::ends, crate::proofs::Covered::still_here))]
 fn cells_on(grid: &Grid, cells: &mut [Cell])
     requires { AllByRecursion (IsOn (Some grid.now)) cells.old }
     ensures { cells.new ≡ map (cell grid.now) cells.old }

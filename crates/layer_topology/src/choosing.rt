@@ -36,6 +36,7 @@ pub fn reduced_line<Q: Reducer>(
 }
 
 /// Of each arc the positions that stay at a threshold. An arc is freed before the next one is reduced.
+#[tactic(auto, using(effective_area::proofs::CallLists::one_called, topo_model::proofs::Retained::retained_more))]
 fn reduced_arcs<Q: Reducer>(
     alloc: Global,
     reducer: &mut Q,
@@ -68,6 +69,7 @@ fn count_positions(arcs: &[Items<Position>]) -> Result<usize, Memory>
 }
 
 /// For each arc the weights of its positions, up to a level once so many of them are removed.
+#[tactic(auto, using(crate::proofs::Chosen::capped_with))]
 fn weighed_arcs(
     alloc: Global,
     arcs: &[Items<Position>],
@@ -96,6 +98,7 @@ fn arc_by_weights(
 }
 
 /// Of each arc the positions that stay at a threshold by its own weights. An arc is freed before the next one is taken.
+#[tactic(auto, using(topo_model::proofs::Retained::picks_first, topo_model::proofs::Retained::picks_none, topo_model::proofs::Retained::picks_more))]
 fn arcs_by_weights(
     alloc: Global,
     arcs: Vec<Items<Position>>,

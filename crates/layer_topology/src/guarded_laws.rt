@@ -37,6 +37,7 @@ pub fn simplified_under_law()
 
 /// Of arcs that are reduced at once at least the share stays that is asked for, whatever holds corners: of the positions between the ends, before
 /// any line is dropped.
+#[tactic(auto, using(crate::proofs::AtOnceRows::share_stays_at_once, crate::proofs::AtOnceRows::share_stays_under))]
 pub fn share_stays_at_once()
     ensures at_once { ShareStaysAtOnce }
     ensures under { ShareStaysUnder }
@@ -46,6 +47,7 @@ pub fn share_stays_at_once()
 
 /// What is written of layers under the guards that are asked for is valid, has the layers' names and the same identifiers and properties as
 /// without one, is what is left of the topology that is written at zero, and crosses no more than that where no crossing may be made.
+#[tactic(auto, using(crate::proofs::Guarded::written_under_law))]
 pub fn written_under_law()
     ensures { WrittenUnderLaw }
 {
@@ -55,6 +57,7 @@ pub fn written_under_law()
 }
 
 /// What is written of layers at a threshold and a limit of zero is the same whatever guards are asked for.
+#[tactic(auto, using(crate::proofs::AtZero::guarded_at_zero))]
 pub fn guarded_at_zero()
     ensures { GuardedAtZero }
 {
@@ -64,6 +67,7 @@ pub fn guarded_at_zero()
 }
 
 /// What is written of layers is what is made of the snapped layers, put on the grid, whatever guards are asked for.
+#[tactic(auto, using(crate::proofs::Guarded::written_is_made))]
 pub fn written_is_made()
     ensures { WrittenIsMade }
 {

@@ -55,6 +55,7 @@ pub(crate) fn whole_arcs(
 
 /// Of each arc the positions that stay where those that are used are reduced at once at a level, no crossing may be made, where that is asked for,
 /// and these rings of them have to stay; and the threshold, where it was chosen. The others stay whole, hold nothing, and count for no share.
+#[tactic(auto, using(crate::proofs::GuardedArcs::guarded_are, crate::proofs::GuardedArcs::marked_are))]
 pub(crate) fn guarded_arcs(
     alloc: Global,
     arcs: Vec<Items<Position>>,

@@ -21,6 +21,7 @@ pub fn written_laws()
 }
 
 /// What is written of layers at a threshold and a limit of zero and then reduced by both is what is written of them by both.
+#[tactic(auto, using(crate::proofs::Laid::simplifies))]
 pub fn simplifies_to_written()
     ensures { SimplifiesToWritten }
 {

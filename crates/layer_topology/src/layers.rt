@@ -10,6 +10,7 @@ use grid_snap::{Bounds, Grid, layers_are_covered};
 use json_value::OwnText;
 
 /// The least and the greatest coordinates of all layers, if there is a position.
+#[tactic(auto, using(grid_snap::proofs::Widening::starts, grid_snap::proofs::Widening::turns, grid_snap::proofs::Widening::ends))]
 fn bounds_of(layers: &[(OwnText, ExtractedLayer)]) -> Option<Bounds>
     ensures { result ≡ widened_by None (named_points layers.now) }
 {
@@ -21,6 +22,7 @@ fn bounds_of(layers: &[(OwnText, ExtractedLayer)]) -> Option<Bounds>
 }
 
 /// The grid of so many coordinates in each direction over all layers, if there is a position.
+#[tactic(auto, using(grid_snap::proofs::Widening::bounds_of_input))]
 fn grid_of(layers: &[(OwnText, ExtractedLayer)], count: u32) -> Option<Grid>
     requires some { 2 ≤ count }
     requires few { count ≤ count_limit }

@@ -72,6 +72,7 @@ fn cut_lines(alloc: Global, seed: u64, lines: Lines) -> Result<Pieces, Memory>
 }
 
 /// The arcs that the lines and rings of layers share, and for each of these whether it has too few positions.
+#[tactic(auto, using(build_meaning::proofs::Linework::linework_lines))]
 fn shared_arcs(alloc: Global, seed: u64, outlines: Outlines) -> Result<(Table, Vec<bool>), Memory>
     requires { AllByRecursion IsRingIfClosed outlines }
     ensures table { IfOk result (λ r. (ls : Named) → outlines ≡ named_lines_and_rings ls
@@ -87,6 +88,7 @@ fn shared_arcs(alloc: Global, seed: u64, outlines: Outlines) -> Result<(Table, V
 
 /// The draft of named layers, and the arcs that their lines and rings share. No position of the layers is copied before they are cut, and when
 /// they are none is held but those of the arcs.
+#[tactic(auto, using(build_meaning::proofs::Linework::named_rings, topo_model::proofs::Assembled::draft_of, crate::proofs::Made::table_arcs))]
 fn draft_and_arcs(
     alloc: Global,
     seed: u64,
@@ -113,6 +115,7 @@ fn draft_and_arcs(
 
 /// The topology that is built of named layers, each arc reduced once, without rings under the limit, the lines and rings that are
 /// dropped, in reading order, how many positions were removed from the arcs that stay, and the threshold, where it was chosen.
+#[tactic(auto, using(crate::proofs::Made::left_at_level))]
 fn reduced_topology<Q: Reducer>(
     alloc: Global,
     reducer: &mut Q,

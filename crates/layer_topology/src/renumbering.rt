@@ -12,6 +12,7 @@ use std::alloc::Global;
 use topo_model::{ArcRef, renumber_all, renumbering};
 
 /// Replaces the arc indexes of rings by the new ones.
+#[tactic(auto, using(geometry::proofs::Moved::starts, geometry::proofs::Moved::turns, geometry::proofs::Moved::ends, geometry::proofs::Moved::refilled))]
 fn renumber_rings(rings: &mut [Items<ArcRef>], new_indexes: &[ArcRef])
     ensures { rings.new ≡ map (map (renumbered_by new_indexes.now)) rings.old }
 {
@@ -21,6 +22,7 @@ fn renumber_rings(rings: &mut [Items<ArcRef>], new_indexes: &[ArcRef])
 }
 
 /// The rings by the numbers that their arcs have where only the arcs with a set flag are left.
+#[tactic(auto, using(geometry::proofs::Moved::refilled, crate::proofs::DraftRings::rings_renumbered))]
 pub(crate) fn renumbered_rings(
     alloc: Global,
     used: &[bool],

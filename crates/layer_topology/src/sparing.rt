@@ -67,6 +67,7 @@ fn rings_of_draft(
 /// Of each arc of layers the positions that stay where those that the draft of the layers uses are reduced at once at a level, its protected rings
 /// stay, and no crossing may be made, if that is asked for, and the others stay whole; for each feature the way to its protected ring, if it has
 /// one; and the threshold, where it was chosen.
+#[tactic(auto, using(crate::proofs::GuardedArcs::chosen_of_layers, crate::proofs::GuardedArcs::left_of_layers, crate::proofs::GuardedArcs::marked_of_layers))]
 fn left_with_shapes(
     alloc: Global,
     objects: &[(OwnText, TopoObject)],

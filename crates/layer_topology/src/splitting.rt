@@ -13,6 +13,7 @@ use std::vec::IntoIter;
 use topo_model::Cell;
 
 /// The arcs whose flag is set, and those whose flag isn't, each in order. They are moved.
+#[tactic(auto, using(crate::proofs::Split::splits_first, crate::proofs::Split::splits_none, crate::proofs::Split::splits_marked, crate::proofs::Split::splits_other))]
 pub(crate) fn split_arcs(
     alloc: Global,
     arcs: Vec<Items<Position>>,
@@ -39,6 +40,7 @@ pub(crate) fn split_arcs(
 }
 
 /// The next arc: of those that are marked where the flag is set, and otherwise of the others.
+#[tactic(auto, using(crate::proofs::Split::next_marked, crate::proofs::Split::next_other))]
 fn next_arc(
     flag: bool,
     marked: &mut IntoIter<Items<Cell>, Global>,
@@ -50,6 +52,7 @@ fn next_arc(
 }
 
 /// The arcs that were split by these flags into those that are marked and the others, in their order. They are moved.
+#[tactic(auto, using(crate::proofs::Split::joins_first, crate::proofs::Split::joins_more, crate::proofs::Split::joins_all))]
 pub(crate) fn joined_arcs(
     alloc: Global,
     flags: &[bool],

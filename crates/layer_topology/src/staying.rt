@@ -48,6 +48,7 @@ fn kept_of_arc(
 }
 
 /// Of each arc the numbers of the positions that stay at a threshold, by the weights of the positions between the ends of all arcs, in order.
+#[tactic(auto, using(crate::proofs::KeptNext::kept_all, crate::proofs::KeptNext::kept_next))]
 pub(crate) fn kept_by_weights(
     alloc: Global,
     arcs: &[Items<Position>],

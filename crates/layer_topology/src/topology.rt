@@ -14,6 +14,7 @@ use topo_model::prune_objects;
 use topojson_types::{Topology, Transform};
 
 /// The topology with the cells of its positions in their place, and with the grid's transform.
+#[tactic(auto, using(geometry::proofs::Moved::refilled, crate::proofs::Agreeing::finished, crate::proofs::Agreeing::named_placed))]
 fn with_cells(
     alloc: Global,
     topology: Topology,

@@ -45,6 +45,7 @@ fn building_laws()
 }
 
 /// Builds the topology of named layers, whose names are taken, and writes it.
+#[tactic(auto, using(crate::proofs::SoundLayers::level_of, crate::proofs::SoundLayers::limit_of))]
 fn build_layers<Q: Reducer, R: Feed, W: Drain, K: Watch>(
     alloc: Global,
     reducer: &mut Q,
@@ -132,6 +133,7 @@ pub fn build<Q: Reducer, R: Feed, W: Drain>(
 }
 
 /// The same, and a `Watch` looks on: `build` by another name, with the same contract.
+#[tactic(auto, using(crate::proofs::Built::early_names))]
 pub fn build_watched<Q: Reducer, R: Feed, W: Drain, K: Watch>(
     alloc: Global,
     reducer: &mut Q,

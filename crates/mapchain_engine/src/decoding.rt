@@ -66,6 +66,7 @@ fn decode<W: Drain>(
 /// object a Feature; each line and ring is its arcs, forwards or reversed, put together. On each fault but `Write` the sink is as
 /// it was. On `Write` it took a prefix of the text, of the length that is reported. At `Ok` the sink is flushed. The memory of the
 /// topology and of its text, from which lines and properties are copied, is left to the end of the process.
+#[tactic(auto, using(crate::proofs::FilesDecided::found_fails, crate::proofs::ObjectsFound::fails, crate::proofs::ObjectsFound::fails_decoding))]
 pub fn to_geo<R: Feed, W: Drain>(
     alloc: Global,
     source: &mut Source<R>,

@@ -16,6 +16,7 @@ use topojson_meaning::TopoFault;
 use topojson_types::Topology;
 
 /// Why bytes spell no topology.
+#[tactic(auto, using(crate::proofs::FilesRead::no_text))]
 fn fault_of(refusal: Refusal) -> FileFault
     ensures { (bytes : List ℕ) → TextAnswers bytes (Err refusal) → IsNoTopology bytes result }
 {
@@ -51,7 +52,7 @@ fn topology_of(alloc: Global, bytes: &[u8]) -> Result<(Topology, Counts), FileFa
 pub(crate) fn spelled_of(
     alloc: Global,
     bytes: &'static [u8],
-) -> Result<(SpelledTopology<'static>, Counts), FileFault>
+) -> Result<(SpelledTopology, Counts), FileFault>
     ensures { IsSpelledOf bytes.now result }
 {
     match read_spelled_text(alloc, bytes) {
@@ -105,6 +106,7 @@ pub(crate) fn bytes_of<R: Feed>(alloc: Global, source: &mut Source<R>) -> Result
 }
 
 /// Reads a source to its end, and gives the topology that its bytes spell, with what was counted in reading it. A `Watch` looks on.
+#[tactic(auto, using(crate::proofs::FilesRead::topology_read))]
 pub(crate) fn read_watched<R: Feed, K: Watch>(
     alloc: Global,
     source: &mut Source<R>,
@@ -119,6 +121,7 @@ pub(crate) fn read_watched<R: Feed, K: Watch>(
 }
 
 /// Reads a source to its end, and gives what is kept of the topology that its bytes spell. A `Watch` looks on.
+#[tactic(auto, using(crate::proofs::FilesRead::kept_read))]
 pub(crate) fn read_kept<R: Feed, K: Watch>(
     alloc: Global,
     keeping: Keeping,

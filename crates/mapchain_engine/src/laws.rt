@@ -43,6 +43,7 @@ pub fn built_text_is_never_refused()
 
 /// At a threshold and a ring limit of zero what is expected of each line of the layers is the line, with equal neighbours as one
 /// position and a ring from its start; only what has too few positions is dropped.
+#[tactic(auto, using(crate::proofs::BuiltAgain::taken))]
 pub fn built_at_zero_loses_nothing()
     ensures { LosesNothing }
 {

@@ -31,6 +31,7 @@ use topo_model::{position_counts, reassemble, retained_arc};
 use topojson_types::{Cell, Topology, Transform, positions};
 
 /// The positions of an arc without a transform, which are its cells. The arc is freed.
+#[tactic(auto, using(topo_model::proofs::Picks::places_are))]
 fn own_positions(alloc: Global, arc: Items<Cell>) -> Result<Items<Position>, Memory>
     requires { IsArc None arc }
     ensures { IfOk result (λ line. line ≡ arc) }
@@ -39,6 +40,7 @@ fn own_positions(alloc: Global, arc: Items<Cell>) -> Result<Items<Position>, Mem
 }
 
 /// The cells of an arc that stay where the positions that they stand for are reduced. Where none goes it is this arc.
+#[tactic(auto, using(topo_model::proofs::Picks::places_are))]
 fn reduced_cells<Q: Reducer>(
     alloc: Global,
     reducer: &mut Q,
@@ -80,6 +82,7 @@ fn reduced_arc<Q: Reducer>(
 }
 
 /// Of each arc the cells that stay. No arc is held while the next one is reduced.
+#[tactic(auto, using(effective_area::proofs::CallLists::one_called, topo_model::proofs::Retained::retained_more))]
 fn reduced_arcs<Q: Reducer>(
     alloc: Global,
     reducer: &mut Q,
@@ -120,6 +123,7 @@ fn counted_and_reduced<Q: Reducer>(
 
 /// What is left of a topology where each arc is reduced once at a threshold and rings under a limit are left out, the lines and rings
 /// that are dropped, and how many positions are removed from the arcs that stay.
+#[tactic(auto, using(topo_model::proofs::Result::parts_are))]
 fn reduced_topology<Q: Reducer>(
     alloc: Global,
     reducer: &mut Q,

@@ -27,6 +27,7 @@ use topojson_types::Topology;
 /// The objects are in the topology's order. A file with more than `MAX_INPUT` bytes, one that is no JSON text (RFC 8259) nested at
 /// most `TOPOLOGY_DEPTH` deep, and one that is no topology are refused, with the first fault. One byte order mark before the text
 /// is skipped. What was read of the topology is left in memory to the end of the process.
+#[tactic(auto, using(crate::proofs::FilesDecided::summary_decides, crate::proofs::FilesDecided::summary_fails))]
 pub fn stat<R: Feed>(alloc: Global, source: &mut Source<R>) -> Result<Summary, FileFault>
     // The bytes spell a topology, and the summary is that topology's.
     ensures reported { IfOk result (λ summary. IsSummarised source.old source.new summary) }
@@ -44,6 +45,7 @@ pub fn stat<R: Feed>(alloc: Global, source: &mut Source<R>) -> Result<Summary, F
 }
 
 /// Puts these numbers of features in the place of those that were counted of objects. There may be fewer.
+#[tactic(auto, using(crate::proofs::Counted::all_put, crate::proofs::Counted::put_next, crate::proofs::Counted::put_one))]
 fn put_features(objects: &mut [(OwnText, u64)], features: &[u64])
     ensures { objects.new ≡ numbered features.now objects.old }
 {
@@ -99,6 +101,7 @@ fn show<K: Watch>(alloc: Global, parts: Parts, watch: &mut K)
 }
 
 /// The same as `stat`, of a topology that is read with the geometries of its features, which a `Watch` looks at.
+#[tactic(auto, using(crate::proofs::FilesDecided::summary_decides, crate::proofs::FilesDecided::summary_fails))]
 fn stat_shapes<R: Feed, K: Watch>(
     alloc: Global,
     source: &mut Source<R>,

@@ -1,6 +1,6 @@
 -- How a text falls into lines.
 use Rattle.std.proofs.Common.{◌≡◌, ◌≢◌, ℕ, suc, ◌+◌, ◌<◌, List, [], ◌∷◌, ◌++◌, length, get_or, refl, arith, ap, ◌∙◌, Option, Some, None, MatchOption, Bor, Bool, true, false, ◌==◌, drop, map, append_assoc, length-append}
-use Rattle.std.proofs.lemmas.Bool.{eqb-true, ne_eqb, true≢false}
+use Rattle.std.proofs.lemmas.Bool.{ne_eqb, true≢false}
 use Rattle.std.proofs.lemmas.List.{append-nil}
 use Rattle.std.specs.Prelude.{codes}
 use Rattle.json_writer.proofs.Lists.{list_left}
@@ -34,21 +34,10 @@ kept : (text : List ℕ) → ((rest : List ℕ) → text ≢ 32 ∷ rest) → te
 kept [] free = refl
 kept (b ∷ text) free = rw (ne_eqb b 32 (λ e. free text (ap (λ z. z ∷ text) e))) refl
 
--- what `strip_prefix` gives at a blank
-pub blank-gone : (text : List ℕ) (r : Option (Bor (List ℕ))) (rest : Bor (List ℕ)) → r ≡ Some rest
-    → MatchOption r (FindsCharPrefix 32 text None) (λ x. (n : ℕ) × FindsCharPrefix 32 text (Some n) × (x.now ≡ drop n text) × (length x.now + n ≡ length text))
-    → rest.now ≡ without_blank text
-blank-gone text r rest is cases = rw (strip_prefix_char 32 text (Some rest) (rw is at cases) (omega arith)) refl
-
 pub blank-kept : (text : List ℕ) (r : Option (Bor (List ℕ))) → r ≡ None
     → MatchOption r (FindsCharPrefix 32 text None) (λ x. (n : ℕ) × FindsCharPrefix 32 text (Some n) × (x.now ≡ drop n text) × (length x.now + n ≡ length text))
     → text ≡ without_blank text
 blank-kept text r is cases = kept text (strip_prefix_char 32 text None (rw is at cases) (omega arith))
-
--- what is written of the text after the last line feed
-pub rest-none : (is_first : Bool) (text : List ℕ) → (length text == 0) ≡ true → with_commas is_first (map line_text (one_line text)) ≡ []
-rest-none is_first [] e = refl
-rest-none is_first (b ∷ text) e = absurd (omega (arith, eqb-true _ _ e))
 
 pub rest-some : (is_first : Bool) (text : List ℕ) → (length text == 0) ≡ false
     → with_commas is_first (map line_text (one_line text)) ≡ comma_unless is_first ++ line_text text

@@ -102,6 +102,7 @@ pub fn block_of_both(block: &Block, more: &Block) -> Block
 }
 
 /// A box lies strictly on one side of the segment's line, if the answer is yes.
+#[tactic(auto, using(guarded_meaning::proofs::Pasch::swapped))]
 pub fn is_off(e: &Extent, line: &Line) -> bool
     ensures { result ≡ true → IsOff e.now (as_segment line.now) }
 {

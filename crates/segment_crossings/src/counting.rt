@@ -50,6 +50,7 @@ pub fn count_from(
 }
 
 /// So many, and as many as segments from this rank on, before another, meet a segment badly; or the limit.
+#[tactic(auto, using(crate::proofs::Counts::one, crate::proofs::Lines::later_fewer, crate::proofs::Lines::one_ahead))]
 fn count_before(lines: &[Line], line: &Line, rank: usize, end: usize, sofar: u64, limit: u64) -> u64
     requires rank { rank ≤ end }
     requires end { end ≤ length lines.now }
@@ -68,6 +69,7 @@ fn count_before(lines: &[Line], line: &Line, rank: usize, end: usize, sofar: u64
 }
 
 /// So many, and the pairs of two segments of a run that meet badly, each pair by itself; or the limit.
+#[tactic(auto, using(crate::proofs::Across::inside_ahead, crate::proofs::Across::inside_none))]
 fn count_few(lines: &[Line], run: Run, sofar: u64, limit: u64) -> u64
     requires run { run.end ≤ length lines.now }
     requires sofar { sofar ≤ limit }
@@ -122,6 +124,7 @@ fn count_in_box(
 }
 
 /// So many, and the pairs of a segment of a run and one of another run that meet badly; or the limit.
+#[tactic(auto, using(crate::proofs::Lines::later_fewer, crate::proofs::Across::across_ahead, crate::proofs::Across::across_fewer, crate::proofs::Across::across_none))]
 fn count_between(lines: &[Line], run: Run, other: Run, sofar: u64, limit: u64) -> u64
     requires run { run.end ≤ length lines.now }
     requires order { other.first ≤ other.end }
@@ -139,6 +142,7 @@ fn count_between(lines: &[Line], run: Run, other: Run, sofar: u64, limit: u64) -
 }
 
 /// So many, and the pairs of two segments of a run that meet badly; or the limit. Of many that don't go on one way each half may.
+#[tactic(auto, using(crate::proofs::Across::across_fewer, crate::proofs::Across::inside_cut))]
 pub fn count_inside(lines: &[Line], run: Run, sofar: u64, limit: u64) -> u64
     requires some { run.first < run.end }
     requires run { run.end ≤ length lines.now }
@@ -190,6 +194,7 @@ fn count_near(
 }
 
 /// So many, and the pairs of a segment of a run and one of a unit that meet badly; or the limit.
+#[tactic(auto, using(crate::proofs::Lines::later_fewer, crate::proofs::Across::across_ahead, crate::proofs::Across::across_fewer, crate::proofs::Across::across_none))]
 pub fn count_across(
     lines: &[Line],
     starts: &[usize],
@@ -222,6 +227,7 @@ pub fn count_across(
 }
 
 /// So many, and the pairs of a segment of a run and one of this unit or a later one that meet badly, each segment of the run by itself; or the limit.
+#[tactic(auto, using(crate::proofs::Across::across_ahead, crate::proofs::Across::across_none, crate::proofs::Across::across_past))]
 pub fn count_each(
     lines: &[Line],
     starts: &[usize],

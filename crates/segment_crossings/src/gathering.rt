@@ -54,6 +54,7 @@ fn put_lines(lines: &mut Vec<Line>, arc: &[Position]) -> Result<(), Memory>
 }
 
 /// The segments of arcs.
+#[tactic(auto, using(crate::proofs::Gathered::all_put))]
 pub fn lines_of(alloc: Global, arcs: &[Items<Position>]) -> Result<Vec<Line>, Memory>
     ensures { IfOk result (λ lines. map as_segment lines.items ≡ segments arcs.now) }
 {
@@ -178,6 +179,7 @@ fn stretch_of(positions: &[Position], are_crowded: bool) -> Stretch<'_>
 }
 
 /// Puts the stretches of an arc after the others.
+#[tactic(auto, using(crate::proofs::Gathered::arc_put, crate::proofs::Stretches::stretch_cut))]
 fn put_stretches<'a>(
     stretches: &mut Vec<Stretch<'a>>,
     arc: &'a [Position],
@@ -196,6 +198,7 @@ fn put_stretches<'a>(
 }
 
 /// All segments of arcs, in stretches.
+#[tactic(auto, using(crate::proofs::Gathered::all_put))]
 fn stretches_of(
     alloc: Global,
     arcs: &[Items<Position>],
@@ -231,6 +234,7 @@ fn lines_along(alloc: Global, stretches: &[Stretch<'_>], room: usize) -> Result<
 }
 
 /// The segments of arcs, in stretches of which near ones are close together. Where segments are crowded, near ones of about the same length are.
+#[tactic(auto, using(planar_predicates::proofs::Arranged::permuted, crate::proofs::Stretches::stretches_permuted))]
 pub fn lines_in_order(
     alloc: Global,
     arcs: &[Items<Position>],

@@ -130,6 +130,7 @@ fn count_beside(
 }
 
 /// So many, and the pairs of two segments of several units that meet badly; or the limit.
+#[tactic(auto, using(crate::proofs::Across::across_fewer, crate::proofs::Across::inside_cut, crate::proofs::Across::inside_none, crate::proofs::Units::not_before))]
 fn count_within(
     lines: &[Line],
     starts: &[usize],
@@ -234,6 +235,7 @@ pub fn are_crowded(lines: &[Line], starts: &[usize], levels: &[Level]) -> bool
 }
 
 /// How many pairs of segments meet badly, or the limit, if they are more. Where segments are crowded, each goes on by itself.
+#[tactic(auto, using(crate::proofs::Across::pairs_split, crate::proofs::Lines::no_pairs_ahead, crate::proofs::Units::all_within, crate::proofs::Units::not_before))]
 pub fn count_pairs(
     lines: &[Line],
     starts: &[usize],

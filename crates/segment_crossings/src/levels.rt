@@ -80,6 +80,7 @@ fn strips_over(
 }
 
 /// A block of each unit.
+#[tactic(auto, using(crate::proofs::Units::covered_more, crate::proofs::Units::first_over, crate::proofs::Units::none_covered))]
 fn first_level(
     alloc: Global,
     lines: &[Line],
@@ -104,6 +105,7 @@ fn first_level(
 }
 
 /// Blocks of four blocks.
+#[tactic(auto, using(crate::proofs::Covering::gathered_all, crate::proofs::Covering::gathered_more, crate::proofs::Covering::over_next))]
 fn next_level(
     alloc: Global,
     lines: &[Line],

@@ -35,6 +35,7 @@ pub fn ends_are_positions(line: &Line)
 }
 
 /// The box round a segment.
+#[tactic(auto, using(planar_predicates::proofs::Boxes::holds_in))]
 pub fn extent_of(line: &Line) -> Extent
     ensures from { HoldsPoint result line.now.from }
     ensures to { HoldsPoint result line.now.to }

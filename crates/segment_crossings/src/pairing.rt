@@ -40,6 +40,7 @@ fn is_alone(near: &[Line], starts: &[usize], levels: &[Level], line: &Line) -> b
 }
 
 /// Puts the pairs of the segment of this rank and later ones after the others, up to so many in all.
+#[tactic(auto, using(crate::proofs::Crossings::no_pair, crate::proofs::Crossings::one_pair, crate::proofs::Crossings::one_put))]
 fn put_pairs(
     lines: &[Line],
     rank: usize,
@@ -148,6 +149,7 @@ fn units_in_order(alloc: Global, arcs: &[Items<Position>]) -> Result<Units, Memo
 
 /// How many pairs of segments of arcs meet badly, each pair of places once, or the limit, if they are more; and so many of the pairs, or all, where
 /// they are fewer: the first by the arc and the place of the first segment, and then by those of the second. Equal neighbours make no segment.
+#[tactic(auto, using(crate::proofs::Counts::pairs_same, crate::proofs::Crossings::enough_pairs))]
 pub fn crossings_with(
     alloc: Global,
     arcs: &[Items<Position>],

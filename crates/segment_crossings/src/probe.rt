@@ -28,6 +28,7 @@ pub trait Probe {
 impl Probe for Extent {
     ghost among = { EndsIn };
 
+    #[tactic(auto, using(crate::proofs::Blocks::extents_apart))]
     fn is_clear_of(&self, block: &Block) -> bool {
         !meets(block.extent, *self)
     }
@@ -58,6 +59,7 @@ pub fn with_box(line: &Line) -> Boxed
 impl Probe for Boxed {
     ghost among = { IsBoxed };
 
+    #[tactic(auto, using(crate::proofs::Blocks::off_never, crate::proofs::Blocks::off_at_never))]
     fn is_clear_of(&self, block: &Block) -> bool {
         self.extent.is_clear_of(block)
             || (is_off(&block.extent, &self.line)

@@ -40,6 +40,7 @@ fn go_on(lines: &[Line], run: Run, is_across: bool, is_back: bool) -> bool
 }
 
 /// No two segments of a run meet badly, since all go on one way, if the answer is yes.
+#[tactic(auto, using(crate::proofs::Ways::straight))]
 pub fn is_straight(lines: &[Line], run: Run) -> bool
     requires some { run.first < run.end }
     requires within { run.end ≤ length lines.now }

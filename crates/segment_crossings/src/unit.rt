@@ -29,6 +29,7 @@ fn end_of_unit(lines: &[Line], first: usize) -> usize
 }
 
 /// The ranks that units begin with, and the rank after the last one.
+#[tactic(auto, using(crate::proofs::Units::first_start, crate::proofs::Units::one_more_start))]
 pub fn starts_of(alloc: Global, lines: &[Line]) -> Result<Vec<usize>, Memory>
     ensures { IfOk result (λ starts. AreStarts (length lines.now) starts.items) }
 {

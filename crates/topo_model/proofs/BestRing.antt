@@ -1,5 +1,5 @@
 -- Outer rings that are met one after the other: the best of all of them is the protected ring.
-use Rattle.std.proofs.Common.{arith, ◌≡◌, ℕ, suc, ◌+◌, ◌<◌, ◌≤◌, ℤ, nat_lt, Bool, true, false, cond, ◌&&◌, List, [], ◌∷◌, ◌++◌, map, drop, length, get_or, slice_get, append_assoc, append-nil, Option, None, Some, add-one, refl, sym, ap, ◌∙◌}
+use Rattle.std.proofs.Common.{arith, ◌≡◌, ℕ, suc, ◌+◌, ◌<◌, ◌≤◌, ℤ, nat_lt, Bool, true, false, cond, ◌&&◌, List, [], ◌∷◌, ◌++◌, map, drop, length, get_or, append_assoc, Option, None, Some, add-one, refl, sym, ap, ◌∙◌}
 use Rattle.std.specs.List.{filter}
 use Rattle.std.proofs.lemmas.Bool.{ltb-true, ltb-false}
 use Rattle.std.proofs.lemmas.List.{drop_all, map-append}
@@ -10,10 +10,9 @@ use Rattle.geometry.specs.Points.{Point}
 use Rattle.guarded_meaning.specs.Guards.{is_long}
 use Rattle.owned_values.proofs.Lists.{drop_here}
 use Rattle.geometry.proofs.ByKind.{AtKinds}
-use Rattle.build_meaning.specs.OuterRings.{outer_ring, outer_rings, outer_rings_step}
+use Rattle.build_meaning.specs.OuterRings.{outer_rings, outer_rings_step}
 use Rattle.build_meaning.specs.Protected.{Protection, greater, greatest, enclosed, greatest_ring, protected_of, protected_rings}
 use Rattle.build_meaning.proofs.Marks.{outer_rings_at}
-use Rattle.topojson_types.specs.declared.feature.TopoFeature.{TopoFeature}
 use Rattle.topojson_types.specs.declared.object.TopoObject.{TopoObject}
 use Rattle.topojson_types.specs.Topologies.{TopoShape, object_features}
 use Rattle.topo_model.specs.Searching.{Found, summed, met, all_met, at_way}
@@ -56,17 +55,6 @@ module _ (arcs : List (List Point)) where
 
   pub parts_met : {X : Type 0} (f : X → List (Placed (List ℤ))) (way : List ℕ) (k i : ℕ) (now whole : Option Found) (xs : List X) → length xs ≤ i → all_met arcs now (at_way way (of_parts k (map f (drop i xs)))) ≡ whole → now ≡ whole
   parts_met f way k i now whole xs le so_far = ap (λ zs. all_met arcs now (at_way way (of_parts k (map f zs)))) (sym (drop_all i xs le)) ∙ so_far
-
-  -- that of a polygon
-  pub outer_met : (way : List ℕ) (best : Option Found) (rings : List (List ℤ)) (outer : List ℤ) → Some outer ≡ slice_get rings 0 → met arcs best (put way outer) ≡ all_met arcs best (at_way way (outer_ring rings))
-  outer_met way best [] outer e = absurd cc
-  outer_met way best (first ∷ holes) outer e =
-      let same : outer ≡ first = cc in
-      ap (λ r. met arcs best (put way r)) same ∙ ap (λ w. met arcs best (put w first)) (sym (append-nil way))
-
-  pub no_outer_met : (way : List ℕ) (best : Option Found) (rings : List (List ℤ)) → slice_get rings 0 ≡ None → best ≡ all_met arcs best (at_way way (outer_ring rings))
-  no_outer_met way best [] e = refl
-  no_outer_met way best (first ∷ holes) e = absurd cc
 
 -- ---- outer rings by kind
 
@@ -136,15 +124,6 @@ ways_append protects o os = map-append (way_of protects) (object_features o.1) (
 
 rings_append : (protects : Protection) (o : List ℕ × TopoObject) (os : List (List ℕ × TopoObject)) → protected_rings protects (o ∷ os) ≡ some_of (protected_of protects) (object_features o.1) ++ protected_rings protects os
 rings_append protects o os = some_append (protected_of protects) (object_features o.1) (joined (map (λ o. object_features o.1) os))
-
--- one feature more
-pub ways_more : (protects : Protection) (i : ℕ) (now new whole : List (Option (List ℕ))) (fs : List TopoFeature) (f : TopoFeature) → i < length fs → f ≡ get_or fs i f →
-    now ++ map (way_of protects) (drop i fs) ≡ whole → new ≡ now ++ map (way_of protects) (f ∷ []) → new ++ map (way_of protects) (drop (i + 1) fs) ≡ whole
-ways_more protects i = reported_more (λ (k : ℕ) (f : TopoFeature). map (way_of protects) (f ∷ [])) (λ (k : ℕ) (fs : List TopoFeature). map (way_of protects) fs) (λ k f fs. refl) i i
-
-pub rings_more : (protects : Protection) (i : ℕ) (now new whole : List (List ℤ)) (fs : List TopoFeature) (f : TopoFeature) → i < length fs → f ≡ get_or fs i f →
-    now ++ some_of (protected_of protects) (drop i fs) ≡ whole → new ≡ now ++ some_of (protected_of protects) (f ∷ []) → new ++ some_of (protected_of protects) (drop (i + 1) fs) ≡ whole
-rings_more protects i = reported_more (λ (k : ℕ) (f : TopoFeature). some_of (protected_of protects) (f ∷ [])) (λ (k : ℕ) (fs : List TopoFeature). some_of (protected_of protects) fs) (λ k f fs. some_append (protected_of protects) (f ∷ []) fs) i i
 
 -- one object more
 pub object_ways_more : (protects : Protection) (i : ℕ) (now new whole : List (Option (List ℕ))) (os : List (List ℕ × TopoObject)) (o : List ℕ × TopoObject) → i < length os → o ≡ get_or os i o →

@@ -89,6 +89,3 @@ counts_taken used flags rest flag counts i total new d lt split t n low so = rec
   total_is = n ∙ ap (λ m. m + get_or counts i d) so.total_is ∙ sym (sum_by_push (λ n. n) so.kept (get_or counts i d));
   small = let s = so.small in omega (arith, s, n, low);
 }
-
-pub counted_all : (used flags : List Bool) (counts : List ℕ) (i total : ℕ) → take i counts ≡ counts → Counts used counts i flags total → total ≡ sum (chosen used counts)
-counted_all used flags counts i total all so = so.total_is ∙ ap sum so.chooses.1 ∙ ap (λ xs. sum (chosen used xs)) all

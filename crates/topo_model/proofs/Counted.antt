@@ -1,5 +1,5 @@
 -- How many positions arcs have.
-use Rattle.std.proofs.Common.{◌≡◌, ℕ, ◌+◌, ◌*◌, ◌^◌, ◌<◌, ◌≤◌, List, [], ◌∷◌, take, length, map, sum, get_or, refl, sym, ap, ◌∙◌, arith}
+use Rattle.std.proofs.Common.{◌≡◌, ℕ, ◌+◌, ◌*◌, ◌^◌, ◌<◌, ◌≤◌, List, [], ◌∷◌, take, length, map, sum, get_or, sym, ap, ◌∙◌, arith}
 use Rattle.std.proofs.lemmas.List.{map-append}
 use Rattle.std.proofs.lemmas.List.Sums.{sum_by_push}
 use Rattle.owned_values.proofs.Lists.{take_here}
@@ -8,9 +8,6 @@ use Rattle.owned_values.proofs.Lists.{take_here}
 pub record CountedTo {X : Type 0} (arcs : List (List X)) (i total : ℕ) : Type 0 where
   pub total_is : total ≡ sum (map length (take i arcs))
   pub small : total ≤ i * 2 ^ 64
-
-pub counted_none : {X : Type 0} (arcs : List (List X)) → CountedTo arcs 0 0
-counted_none arcs = record { total_is = refl; small = omega arith }
 
 pub counted_more : {X : Type 0} (arcs : List (List X)) (i total new : ℕ) (x : List X) → i < length arcs → x ≡ get_or arcs i x → new ≡ total + length x → length x < 2 ^ 64 → CountedTo arcs i total
     → CountedTo arcs (i + 1) new

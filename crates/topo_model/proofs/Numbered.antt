@@ -1,13 +1,8 @@
 -- Arcs of which the positions stay whose numbers are given for all arcs at once.
-use Rattle.std.proofs.Common.{arith, ◌≡◌, ℕ, ◌+◌, ◌<◌, ◌≤◌, List, [], ◌∷◌, ◌++◌, map, drop, length, get_or, append_assoc, append-nil, refl, sym, ap, ◌∙◌}
+use Rattle.std.proofs.Common.{arith, ◌≡◌, ℕ, ◌+◌, ◌≤◌, List, [], ◌∷◌, ◌++◌, map, drop, length, append-nil, refl, sym, ap, ◌∙◌}
 use Rattle.std.proofs.lemmas.List.{drop_all}
 use Rattle.geometry.specs.Points.{Point}
-use Rattle.owned_values.proofs.Lists.{drop_here}
-use Rattle.build_meaning.specs.Simplified.{retained, retained_arcs, EachFromFirstToLast}
-
-pub arcs_more : {K : Type 0} (numbers : K → List ℕ) (ks : List K) (arcs made new whole : List (List Point)) (i : ℕ) (k : K) (a p : List Point) → i < length ks → length ks ≡ length arcs → k ≡ get_or ks i k → a ≡ get_or arcs i a
-    → made ++ retained_arcs (map numbers (drop i ks)) (drop i arcs) ≡ whole → p ≡ retained (numbers k) a → new ≡ made ++ p ∷ [] → new ++ retained_arcs (map numbers (drop (i + 1) ks)) (drop (i + 1) arcs) ≡ whole
-arcs_more numbers ks arcs made new whole i k a p lt many is of so e pushed = grind (arith, append_assoc, drop_here)
+use Rattle.build_meaning.specs.Simplified.{retained_arcs, EachFromFirstToLast}
 
 pub arcs_all : {K : Type 0} (numbers : K → List ℕ) (ks : List K) (arcs made whole : List (List Point)) (i : ℕ) → length ks ≤ i → made ++ retained_arcs (map numbers (drop i ks)) (drop i arcs) ≡ whole → made ≡ whole
 arcs_all numbers ks arcs made whole i le so = sym (append-nil made) ∙ ap (λ l. made ++ retained_arcs (map numbers l) (drop i arcs)) (sym (drop_all i ks le)) ∙ so

@@ -1,10 +1,10 @@
 -- Ranks of arcs, and indexes by these.
 use Rattle.std.proofs.Common.{◌≡◌, ℕ, zero, suc, ◌+◌, ◌<◌, ◌≤◌, ℤ, pos, negsuc, ◌-ℤ◌, Bool, true, false, List, [], ◌∷◌, ◌++◌, map, length, get_or, if◌then◌else◌, refl, sym, ap, ◌∙◌, arith}
-use Rattle.std.specs.Prelude.{slice_get, None, Some}
+use Rattle.std.specs.Prelude.{slice_get, Some}
 use Rattle.std.proofs.lemmas.Option.{slice_get-get_or}
 use Rattle.build_meaning.specs.Trimming.{new_index_from, renumbered}
 use Rattle.geometry.specs.Joins.{AreInRange, number_of, is_reversed}
-use Rattle.topo_model.specs.Renumbering.{directed_as, by_new_index, renumbered_by}
+use Rattle.topo_model.specs.Renumbering.{directed_as, renumbered_by}
 use Rattle.topo_model.specs.Uses.{answers}
 
 -- ---- answers
@@ -70,9 +70,6 @@ complement : (r : ℕ) → negsuc 0 -ℤ pos r ≡ negsuc r
 complement r = grind arith
 
 -- ---- by the list of new indexes
-
-pub by_no_new_index : (renumbering : List ℤ) (index : ℤ) → slice_get renumbering (number_of index) ≡ None → index ≡ renumbered_by renumbering index
-by_no_new_index renumbering index e = sym (ap (by_new_index index) e)
 
 pub by_new_index_forwards : (renumbering : List ℤ) (index new_index : ℤ) → slice_get renumbering (number_of index) ≡ Some new_index → is_reversed index ≡ false → new_index ≡ renumbered_by renumbering index
 unfolding is_reversed

@@ -1,6 +1,6 @@
 -- What is dropped, listed part by part.
-use Rattle.std.proofs.Common.{◌≡◌, ℕ, suc, ◌+◌, ◌<◌, ◌≤◌, List, [], ◌∷◌, ◌++◌, drop, length, get_or, append_assoc, append-nil, refl, ap, sym, ◌∙◌, arith}
-use Rattle.std.proofs.lemmas.List.{at_drop_all, at_drop_more, map-append}
+use Rattle.std.proofs.Common.{◌≡◌, ℕ, suc, ◌+◌, ◌<◌, List, [], ◌∷◌, ◌++◌, drop, length, get_or, append_assoc, refl, ap, ◌∙◌, arith}
+use Rattle.std.proofs.lemmas.List.{at_drop_more, map-append}
 use Rattle.geometry.specs.declared.address.Address.{Address}
 use Rattle.geometry.specs.declared.address.Cause.{Cause}
 use Rattle.geometry.specs.Paths.{Placed, inside_part, of_parts}
@@ -14,10 +14,6 @@ pub reported_more : {X Y : Type 0} (of : ℕ → X → List Y) (all : ℕ → Li
     (k i : ℕ) (now new whole : List Y) (xs : List X) (x : X) → i < length xs → x ≡ get_or xs i x →
     now ++ all k (drop i xs) ≡ whole → new ≡ now ++ of k x → new ++ all (k + 1) (drop (i + 1) xs) ≡ whole
 reported_more of all some k i now new whole xs x l g h e = grind (arith, append_assoc now (of k x) (all (suc k) (drop (i + 1) xs)), at_drop_more (all k) xs i x l)
-
--- the end of such a list
-pub reported_all : {X Y : Type 0} (all : List X → List Y) (i : ℕ) (now whole : List Y) (xs : List X) → all [] ≡ [] → length xs ≤ i → now ++ all (drop i xs) ≡ whole → now ≡ whole
-reported_all all i now whole xs n l h = sym (append-nil now) ∙ ap (λ ds. now ++ ds) (sym (at_drop_all all xs i l ∙ n)) ∙ h
 
 inside_at : (a : Address) (i : ℕ) (os : List (Placed Cause)) → dropped_at a (inside_part i os) ≡ dropped_at (part_address a i) os
 inside_at a i [] = refl

@@ -155,12 +155,6 @@ module _ (ms : Members) (c : Counts) where
   unfolding transform_if
   no_transform h = rw h refl
 
-  pub two_transforms : (v w : Json) (more : List Json) → named (codes "transform") ms ≡ v ∷ w ∷ more → transform_in ms c ≡ Err topo.Duplicate
-  two_transforms v w more h = rw h refl
-
-  pub one_transform : (v : Json) → named (codes "transform") ms ≡ v ∷ [] → transform_in ms c ≡ transform_if (Some v) c
-  one_transform v h = rw h refl
-
 -- ---- all parts
 
 module _ (ms : Members) (old : Counts) where

@@ -327,6 +327,7 @@ fn spelled_arcs_at<'a>(
 }
 
 /// What is kept of the arcs of the array at the front, and what follows it; or why reading stops.
+#[tactic(auto, using(json_cursor::proofs::Steps::then_stops, crate::proofs::KeptParts::all_held, crate::proofs::KeptParts::made))]
 pub(crate) fn kept_arcs_at<'a>(
     alloc: Global,
     depth_left: u32,

@@ -14,6 +14,7 @@ use topojson_types::{ArcRef, Cell};
 
 /// The rings of the polygon at the front, the outer one first, if its array isn't empty and its outer ring isn't left out, and what follows
 /// it; or why reading stops.
+#[tactic(auto, using(crate::proofs::Then::same_answers, crate::proofs::ShapeParts::polygon_is))]
 pub fn polygon_at<'a>(
     alloc: Global,
     depth_left: u32,

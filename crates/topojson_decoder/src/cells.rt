@@ -170,6 +170,7 @@ fn grid_place_at<'a>(
 
 /// The place at the front, of a Point or in a MultiPoint, and what follows it. With a transform it is a cell that is no difference.
 #[inline(always)]
+#[tactic(auto, using(crate::proofs::Then::same_answers, crate::proofs::CellParts::place_is_cell, crate::proofs::CellParts::place_is_position))]
 pub fn place_at<'a>(
     alloc: Global,
     depth_left: u32,

@@ -29,6 +29,7 @@ pub struct KeptFeatures {
 
 /// The feature whose members were seen so. What was kept of them is moved out of there.
 #[inline(always)]
+#[tactic(auto, using(crate::proofs::KeptParts::made_alike, crate::proofs::KeptParts::made_fault, crate::proofs::MemberOccurrences::judges_same))]
 fn typed_feature_of(
     alloc: Global,
     depth_left: u32,

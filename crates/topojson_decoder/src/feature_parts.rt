@@ -207,6 +207,7 @@ impl<'a> FeatureParts<'a> {
 
     /// Goes on with the value at the front of a member of this name, and gives what follows it.
     #[inline(always)]
+    #[tactic(auto, using(crate::proofs::FeatureParts::part_goes_on, crate::proofs::MemberOccurrences::by_word))]
     pub(crate) fn value(
         &mut self,
         alloc: Global,
@@ -228,6 +229,7 @@ impl<'a> FeatureParts<'a> {
 
     /// Goes on with the value at the front of this member, and gives what follows it.
     #[inline(always)]
+    #[tactic(auto, using(crate::proofs::FeatureParts::part_goes_on))]
     fn member_value(
         &mut self,
         alloc: Global,
@@ -312,6 +314,7 @@ impl<'a> Members<'a> for FeatureParts<'a> {
 
     ghost holds = { IsFeature };
 
+    #[tactic(auto, using(crate::proofs::FeatureParts::member_at_goes_on))]
     fn member(
         &mut self,
         alloc: Global,

@@ -321,6 +321,7 @@ fn geometries_at<'a>(
 
 /// The geometry at the front, which is none where nothing is left of it, and what follows it; or why reading stops. Its members may stand
 /// in any order.
+#[tactic(auto, using(json_cursor::proofs::Steps::found_stops))]
 pub fn geometry_at<'a>(
     alloc: Global,
     depth_left: u32,

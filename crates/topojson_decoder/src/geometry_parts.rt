@@ -218,6 +218,7 @@ impl Read {
 
     /// Goes on with the value at the front, which is read by this type, if it is known, and gives what follows it.
     #[inline(always)]
+    #[tactic(auto, using(crate::proofs::GeometryParts::passed_over))]
     fn part_at<'a>(
         &mut self,
         alloc: Global,
@@ -377,6 +378,7 @@ pub(crate) fn kind_of(
 
 /// What the value at the front is by this type, which is read where its member came before its type.
 #[inline(always)]
+#[tactic(auto, using(crate::proofs::MemberOccurrences::judged))]
 fn shape_by(
     alloc: Global,
     depth_left: u32,

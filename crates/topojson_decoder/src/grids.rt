@@ -39,6 +39,7 @@ impl<'t> Grid<'t> {
 
     /// The cell that lies so far from another, if it is one of the grid and each of these is known to lie at a position.
     #[inline(always)]
+    #[tactic(auto, using(crate::proofs::CellParts::known_by))]
     pub(crate) fn known_cell(self, before: Cell, difference: Cell) -> Option<Cell>
         ensures { IfSome result (λ c. spec.grid_cell self.entry.transform.now (moved before difference) ≡ Ok c) }
     {

@@ -41,6 +41,7 @@ pub struct NamedObjects {
 }
 
 /// None yet.
+#[tactic(auto, using(crate::proofs::KeptParts::none_counted, crate::proofs::NamedSeen::nothing))]
 fn none(alloc: Global, counts: Counts) -> NamedObjects
     ensures { (start : Begun) (depth_left : ℕ) → counts ≡ start.counts → AreObjects start depth_left [] result }
 {

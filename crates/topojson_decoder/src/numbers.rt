@@ -27,6 +27,7 @@ const TEXTLESS_LIMIT: u64 = 1_000_000_000_000_000_000;
 /// The number at the front by the value that stands there, for what isn't written as most numbers are.
 #[cold]
 #[inline(never)]
+#[tactic(auto, using(json_cursor::proofs::Steps::found_stops, crate::proofs::NumberParts::no_number, crate::proofs::NumberParts::is_number, crate::proofs::NumberParts::other_kind))]
 fn value_number_at<'a>(
     alloc: Global,
     depth_left: u32,
@@ -74,6 +75,7 @@ pub(crate) fn textless_bound(bound: u64) -> u64
 
 /// The number at the front at this scale, if it is within the limit, and what follows it.
 #[inline(always)]
+#[tactic(auto, using(crate::proofs::NumberParts::number_reads))]
 pub(crate) fn number_at<'a>(
     alloc: Global,
     depth_left: u32,

@@ -179,6 +179,7 @@ impl<'a> Members<'a> for ObjectParts<'a> {
 }
 
 /// The features that the value of `geometries` is, which are read where the member came before the type.
+#[tactic(auto, using(crate::proofs::MemberOccurrences::judged))]
 fn features_by(
     alloc: Global,
     depth_left: u32,
@@ -325,6 +326,7 @@ pub(crate) fn kept_object_at<'a>(
 }
 
 /// The object of a topology at the front, and what follows it; or why reading stops. Its members may stand in any order.
+#[tactic(auto, using(crate::proofs::KeptParts::answers_back, crate::proofs::KeptParts::whole_object))]
 pub fn object_at<'a>(
     alloc: Global,
     depth_left: u32,

@@ -23,6 +23,7 @@ pub(crate) struct Pair {
 }
 
 /// The pair whose second number and further elements stand after the comma, and what follows its bracket.
+#[tactic(auto, using(json_cursor::proofs::Lists::no_turn))]
 fn second_at<'a>(
     alloc: Global,
     depth_left: u32,
@@ -56,6 +57,7 @@ fn second_at<'a>(
 }
 
 /// The pair whose elements stand after the bracket, and what follows it.
+#[tactic(auto, using(json_cursor::proofs::Lists::no_turn))]
 fn both_at<'a>(
     alloc: Global,
     depth_left: u32,

@@ -17,6 +17,7 @@ use topojson_types::Topology;
 /// its `type`, `transform`, `arcs` and `objects`. Identifiers and properties stay unchanged. An empty array in place of a line,
 /// a ring, a polygon or coordinates is left out and counted; a geometry of which nothing is left is null. The value is read through
 /// its text, which takes memory for a while: that there is too little is reported too where arrays and objects nest more than `u32::MAX` deep.
+#[tactic(auto, using(crate::proofs::ReadingParts::topology_read, crate::proofs::ReadingParts::topology_fails))]
 pub fn read_topology(alloc: Global, value: Json) -> Result<(Topology, Counts), TopoFault>
     ensures topology { IfOk result (λ r. spec.topology value ≡ Ok (r.0, r.1)) }
     ensures fault { IfErr result (λ e. e ≢ Memory → spec.topology value ≡ Err e) }

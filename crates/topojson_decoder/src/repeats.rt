@@ -35,6 +35,7 @@ fn few_before_repeat<V>(members: &[(OwnText, V)]) -> usize
 }
 
 /// The same as `members_before_repeat`, by the names in their order: the least number of one that comes after an equal one.
+#[tactic(auto, using(crate::proofs::Repeating::least_found, crate::proofs::Repeating::numbered_more))]
 fn many_before_repeat<V>(alloc: Global, members: &[(OwnText, V)]) -> Result<usize, Memory>
     ensures { IfOk result (λ n. n ≡ names_before_repeat [] (map (λ m. m.0) members.now)) }
 {

@@ -35,6 +35,7 @@ impl<'t> Element for Places<'t> {
     ghost reads = { λ s. one (spec.place (option_copied s.transform)) };
 
     #[inline(always)]
+    #[tactic(auto, using(crate::proofs::Then::one_stops))]
     fn read<'a>(
         self,
         alloc: Global,

@@ -52,6 +52,7 @@ impl<'a> SpelledArcs<'a> {
     }
 
     /// Goes on with one more, and with the text in which it stands.
+    #[tactic(auto, using(crate::proofs::ArcTextParts::no_more, crate::proofs::ArcTextParts::one_more))]
     pub fn push(&mut self, arc: Items<Cell>, text: Option<&'a [u8]>) -> Result<(), AllocError>
         requires { IsArcText None arc text }
         ensures { IfOk result (λ _. self.new ≡ self.old ++ arc ∷ []) }

@@ -122,17 +122,18 @@ pub fn read_parts(alloc: Global, keeping: Keeping, bytes: &[u8]) -> Result<(Part
 
 /// A topology, and the texts in which its arcs stand, as far as these are known and are what is written of the arcs.
 #[derive(Drop)]
-pub struct SpelledTopology<'a> {
+pub struct SpelledTopology {
     pub topology: Topology,
-    pub texts: Vec<Option<&'a [u8]>>,
+    pub texts: Vec<Option<&'static [u8]>>,
 }
 
 /// The same as `read_text`, beside the texts of arcs, of bytes that stay to the end of the process: properties are left in them where they stand as
 /// they are written.
+#[tactic(auto, using(crate::proofs::KeptParts::whole_contents, crate::proofs::TextParts::parts_stand))]
 pub fn read_spelled_text(
     alloc: Global,
     bytes: &'static [u8],
-) -> Result<(SpelledTopology<'static>, Counts), Refusal>
+) -> Result<(SpelledTopology, Counts), Refusal>
     ensures { SpelledAnswers bytes.now result }
 {
     match read_spelled_parts(alloc, Keeping::Whole(Some(bytes)), true, bytes) {
@@ -147,6 +148,7 @@ pub fn read_spelled_text(
 
 /// The topology that a whole text spells (TopoJSON 1.0, section 2.1), with what was counted in reading it. Of a text that spells no value
 /// it is said why, whatever else is wrong.
+#[tactic(auto, using(crate::proofs::KeptParts::whole_contents, crate::proofs::TextParts::parts_stand))]
 pub fn read_text(alloc: Global, bytes: &[u8]) -> Result<(Topology, Counts), Refusal>
     ensures { TextAnswers bytes.now result }
 {

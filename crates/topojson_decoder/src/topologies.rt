@@ -136,6 +136,7 @@ fn transform_of(
 }
 
 /// The arcs by this transform, as they were read or else from where they stand.
+#[tactic(auto, using(crate::proofs::MemberOccurrences::judged, crate::proofs::MemberOccurrences::judged_read))]
 fn arcs_by<'a>(
     alloc: Global,
     depth_left: u32,
@@ -214,6 +215,7 @@ fn objects_of(
 }
 
 /// What is kept of the parts of the topology whose members stand there, in the order of the definition.
+#[tactic(auto, using(crate::proofs::ByEnds::over_kept, crate::proofs::KeptParts::made, crate::proofs::KeptParts::made_fault))]
 fn parts_of<'a>(
     alloc: Global,
     depth_left: u32,
@@ -310,6 +312,7 @@ pub(crate) fn kept_topology_at<'a>(
 }
 
 /// The topology at the front, and what follows it; or why reading stops.
+#[tactic(auto, using(crate::proofs::KeptParts::answers_back, crate::proofs::KeptParts::whole_contents))]
 pub fn topology_at<'a>(
     alloc: Global,
     depth_left: u32,

@@ -119,6 +119,7 @@ pub struct TransformParts {
 
 impl TransformParts {
     /// Of no members.
+    #[tactic(auto, using(crate::proofs::TransformParts::no_parts))]
     fn none() -> TransformParts
         ensures { IsTransform [] result }
     {

@@ -1,5 +1,5 @@
 -- The objects of a valid topology, and the shapes of their features.
-use Rattle.std.proofs.Common.{◌≡◌, ℕ, ℤ, Bool, true, List, [], ◌∷◌, map, length, Option, None, Some, ap, sym, ◌∙◌, subst, if◌then◌else◌, arith}
+use Rattle.std.proofs.Common.{◌≡◌, ℕ, ℤ, Bool, true, List, [], ◌∷◌, map, length, Option, None, Some, ap, sym, ◌∙◌, if◌then◌else◌, arith}
 use Rattle.std.specs.List.{AllByRecursion}
 use Rattle.std.specs.Str.{bytes_eq}
 use Rattle.geojson_types.specs.declared.layer.FeatureSet.{FeatureSet}
@@ -55,12 +55,6 @@ module _ (t : Contents) (is : IsTopology t) where
 -- the shape of one, and those of many
 abbrev Stand : Contents → TopoObject → Type 0
 Stand t o = AllByRecursion (λ f. IsShapeOption t f.shape) (object_features o)
-
-pub one_stands : (t : Contents) (o : TopoObject) (f : TopoFeature) → Stand t o → o ≡ One f → IsShapeOption t f.shape
-one_stands t o f stand k = (subst (Stand t) k stand).0
-
-pub many_stand : (t : Contents) (o : TopoObject) (fs : List TopoFeature) → Stand t o → o ≡ Many fs → AllByRecursion (λ f. IsShapeOption t f.shape) fs
-many_stand t o fs stand k = subst (Stand t) k stand
 
 -- ---- what an object is decoded to
 

@@ -17,6 +17,7 @@ use json_value::{Items, OwnText};
 pub type Corners = (Cell, Cell);
 
 /// The lesser of both x, and of both y.
+#[tactic(auto, using(crate::proofs::Boxes::min_passed))]
 fn lesser(one: Cell, other: Cell) -> Cell
     ensures { result ≡ record { x = int_min one.x other.x; y = int_min one.y other.y } }
 {
@@ -24,6 +25,7 @@ fn lesser(one: Cell, other: Cell) -> Cell
 }
 
 /// The greater of both x, and of both y.
+#[tactic(auto, using(crate::proofs::Boxes::max_passed))]
 fn greater(one: Cell, other: Cell) -> Cell
     ensures { result ≡ record { x = int_max one.x other.x; y = int_max one.y other.y } }
 {
@@ -63,6 +65,7 @@ fn with_cells(bounds: Option<Corners>, cells: &[Cell]) -> Option<Corners>
 }
 
 /// With the cells of arcs.
+#[tactic(auto, using(crate::proofs::Boxes::turns, crate::proofs::Boxes::ends, crate::proofs::Boxes::lists_of))]
 pub fn with_arcs(bounds: Option<Corners>, arcs: &[Items<Cell>]) -> Option<Corners>
     ensures { result ≡ widened_by bounds (joined arcs.now) }
 {
@@ -105,6 +108,7 @@ fn with_option(bounds: Option<Corners>, shape: Option<&TopoShape>) -> Option<Cor
 }
 
 /// With those of features.
+#[tactic(auto, using(crate::proofs::Boxes::turns))]
 fn with_features(bounds: Option<Corners>, features: &[TopoFeature]) -> Option<Corners>
     ensures { result ≡ widened_by bounds (features_places features.now) }
 {
@@ -133,6 +137,7 @@ fn with_object(bounds: Option<Corners>, object: &TopoObject) -> Option<Corners>
 }
 
 /// With those of objects.
+#[tactic(auto, using(crate::proofs::Boxes::turns))]
 pub fn with_objects(bounds: Option<Corners>, objects: &[(OwnText, TopoObject)]) -> Option<Corners>
     ensures { result ≡ widened_by bounds (objects_places objects.now) }
 {

@@ -21,6 +21,7 @@ pub fn difference(before: Cell, cell: Cell) -> Cell
 }
 
 /// An arc as its first cell and then the difference of each from the one before (TopoJSON 1.0, section 2.1.3). `sums` undoes it.
+#[tactic(auto, using(owned_values::proofs::Elements::all_at, crate::proofs::SumsBack::starts, crate::proofs::SumsBack::turns, crate::proofs::SumsBack::ends))]
 pub fn deltas(alloc: Global, cells: &[Cell]) -> Result<Vec<Cell>, Memory>
     requires { AllByRecursion IsPosition cells.now }
     ensures { IfOk result (λ ds. ds.items ≡ spec.deltas cells.now) }

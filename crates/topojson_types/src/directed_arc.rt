@@ -36,6 +36,7 @@ impl<'a> DirectedArc<'a> {
     }
 
     /// The cells of the arc that an index names.
+    #[tactic(auto, using(crate::proofs::Opening::arc_is))]
     pub fn of_arc(arcs: &'a [Items<Cell>], index: ArcRef) -> DirectedArc<'a>
         requires { number_of index < length arcs.now }
         ensures { result ≡ arc_at arcs.now index }

@@ -59,6 +59,7 @@ impl<'a> Iterator for LineWalk<'a> {
     ghost remaining = { item_count (λ w. w) };
 
     #[inline(always)]
+    #[tactic(auto, using(crate::proofs::Filled::filled_up, crate::proofs::Filled::left))]
     fn next(&mut self) -> Option<Position> {
         if let Some(position) = self.walk.next() {
             self.missing = self.missing.saturating_sub(1);

@@ -19,6 +19,7 @@ use owned_values::Memory;
 use std::alloc::Global;
 
 /// Where cells lie.
+#[tactic(auto, using(owned_values::proofs::Elements::all_at, owned_values::proofs::Lists::mapped_more))]
 pub fn positions(
     alloc: Global,
     transform: Option<&Transform>,
@@ -60,6 +61,7 @@ pub fn line(alloc: Global, topology: &Topology, refs: &[ArcRef]) -> Result<Items
 }
 
 /// The ring of these arcs, filled up to four positions by its first.
+#[tactic(auto, using(crate::proofs::Ends::ring_is))]
 pub fn ring(alloc: Global, topology: &Topology, refs: &[ArcRef]) -> Result<Ring, Memory>
     requires { IsLineOrRing topology.now (true, refs.now) }
     ensures { IfOk result (λ r. r ≡ decoded_line (placed_arcs topology.now.transform topology.now.arcs) true refs.now) }

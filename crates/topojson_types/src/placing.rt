@@ -49,6 +49,7 @@ fn coordinate_of(value: i128) -> Option<i64>
 }
 
 /// The number of the grid times the scale, if it lies in 128 bits. Most scales lie in 64 bits, and such a product needs no test.
+#[tactic(auto, using(geometry::proofs::Products::widened_is, geometry::proofs::Products::product_fits, geometry::proofs::Products::product_is, crate::proofs::FarUnits::large))]
 fn product(number: i64, scale: i128) -> Option<i128>
     ensures some { IfSome result (λ p. p ≡ number *ℤ scale) }
     ensures none { IfNone result (2 ^ 127 ≤ unsigned_abs (number *ℤ scale)) }
@@ -61,7 +62,7 @@ fn product(number: i64, scale: i128) -> Option<i128>
 
 /// The coordinate that a number of the grid stands for, if it is one.
 #[inline(never)]
-#[tactic(auto, unfolding(crate::specs::TransformNumbers::stands_for))]
+#[tactic(auto, using(crate::proofs::FarUnits::product_far, crate::proofs::FarUnits::sum_far), unfolding(crate::specs::TransformNumbers::stands_for))]
 fn fine_coordinate_on(
     scale: &TransformNumber,
     translate: &TransformNumber,

@@ -63,7 +63,7 @@ pub fn cell_after(before: Cell, difference: Cell) -> Option<Cell>
 
 /// The cells of an arc that stands as its first cell and then the difference of each from the one before (TopoJSON 1.0, section
 /// 2.1.3).
-#[tactic(auto, unfolding(crate::specs::Transforms::sums_from))]
+#[tactic(auto, using(crate::proofs::Grids::starts, crate::proofs::Grids::turns, crate::proofs::Grids::breaks, crate::proofs::Grids::ends), unfolding(crate::specs::Transforms::sums_from))]
 pub fn sums(alloc: Global, differences: &[Cell]) -> Result<Vec<Cell>, SumFault>
     ensures sums { IfOk result (λ cs. cs.items ≡ spec.sums differences.now) }
     ensures within { IfOk result (λ cs. list_all (is_within grid_limit) (spec.sums differences.now) ≡ true) }

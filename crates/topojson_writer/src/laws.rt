@@ -14,6 +14,7 @@ ghost use Rattle.topojson_writer.specs.Numbered.{IsNumbered, features_of};
 /// The text that `write_features` writes is read as the value of the features (RFC 8259), at its own depth and at each
 /// greater one, and the numbers of that value are numbers. That its identifiers and properties hold numbers, and that its
 /// coordinates are within their bound, is what the types of a feature's parts see to.
+#[tactic(auto, using(json_value::proofs::Written::text_reads, crate::proofs::Written::features_numbers))]
 pub fn features_text_spells_value()
     ensures numbers { (features : Features) → AllByRecursion IsNumbered (features_of features) → HasNumbers (features_value features) }
     ensures reads { (features : Features) (d : ℕ) → AllByRecursion IsNumbered (features_of features) → depth (features_value features) ≤ d
@@ -22,6 +23,7 @@ pub fn features_text_spells_value()
 
 /// That text is UTF-8 (RFC 8259, section 8.1), if the number texts of the identifiers and properties are numbers, and their texts
 /// UTF-8.
+#[tactic(auto, using(json_value::proofs::WrittenUtf8::parts_written_utf8, crate::proofs::Written::features_utf8))]
 pub fn features_text_is_utf8()
     ensures { (features : Features) → AllByRecursion FeatureHasNumbers (features_of features) → AllByRecursion FeatureHasTexts (features_of features)
         → IsUtf8 (json_text (features_value features)) }

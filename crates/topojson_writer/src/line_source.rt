@@ -29,6 +29,7 @@ fn after_bracket(bytes: &[u8]) -> Option<&[u8]>
 }
 
 /// What an arc of this text adds to that of a line.
+#[tactic(auto, using(crate::proofs::LineTexts::first_added, crate::proofs::LineTexts::later_added))]
 fn added_by(text: &[u8], is_first: bool) -> Option<&[u8]>
     ensures { (arc : List Point) → text.now ≡ json_text (positions_value arc) → IfSome result (λ more. more.now ≡ added is_first arc) }
 {
@@ -104,6 +105,7 @@ impl<'a> LineSource<'a> {
 
     /// Whether texts of arcs are known, and the positions of the line, or of the ring, if it is closed, are those of its arcs: a ring of too few
     /// is filled up.
+    #[tactic(auto, using(topojson_types::proofs::WalkPlaces::long_arcs, crate::proofs::LineTexts::begins, crate::proofs::LineTexts::not_filled))]
     pub fn is_of_arcs(&self, refs: &[ArcRef], is_closed: bool) -> bool
         requires { AreInRange (length self.now.arcs) refs.now }
         ensures whole { result ≡ true → line_in self.now is_closed refs.now ≡ line_in self.now false refs.now }
@@ -116,6 +118,7 @@ impl<'a> LineSource<'a> {
     }
 
     /// What the arc of this only index adds to the text of a line, where it goes forwards and its text is known.
+    #[tactic(auto, using(crate::proofs::SpelledArcs::arc_spelled, crate::proofs::SpelledArcs::spelled))]
     pub fn added_text(&self, arc: &[ArcRef], is_first: bool) -> Option<&[u8]>
         ensures { (r : ℤ) → arc.now ≡ r ∷ [] → IfSome result (λ text. text.now ≡ added is_first (arc_in self.now r)) }
     {

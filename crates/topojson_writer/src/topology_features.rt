@@ -21,6 +21,7 @@ use json_writer::{Buffered, Out, put_comma};
 use topojson_types::{TopoFeature, TopoObject, TopoShape, Topology};
 
 /// Puts a geometry, or null.
+#[tactic(auto, using(json_writer::proofs::Appending::as_part))]
 fn put_geometry<O: Out>(topology: &LineSource<'_>, shape: Option<&TopoShape>, out: &mut O)
     requires { IsShapeOption topology.now (option_copied shape) }
     ensures text { O.text out.new ≡ O.text out.old ++ json_text (geometry_value (then_some (shape_in topology.now) (option_copied shape.entry))) }
@@ -44,6 +45,7 @@ fn put_feature<O: Out>(topology: &LineSource<'_>, feature: &TopoFeature, out: &m
 }
 
 /// Puts the features of the members of a collection.
+#[tactic(auto, using(json_writer::proofs::Appending::begins, json_writer::proofs::Lists::text_by))]
 fn put_members<O: Out>(topology: &LineSource<'_>, members: &[TopoFeature], out: &mut O)
     requires { AllByRecursion (λ f. IsShapeOption topology.now f.shape) members.now }
     ensures text { O.text out.new ≡ O.text out.old ++ json_text (j.Array (map feature_value (map (feature_in topology.now) members.now))) }

@@ -18,6 +18,7 @@ use json_writer::{Out, put_comma};
 use topojson_types::{ArcRef, Cell, LineWalk, Transform, position_at};
 
 /// Puts where cells lie.
+#[tactic(auto, using(json_writer::proofs::Appending::begins, json_writer::proofs::Lists::text_by))]
 pub fn put_cells<O: Out>(transform: Option<&Transform>, cells: &[Cell], out: &mut O)
     requires { AllByRecursion (IsPlace (option_copied transform)) cells.now }
     ensures text { O.text out.new ≡ O.text out.old ++ json_text (positions_value (map (place (option_copied transform.entry)) cells.now)) }
@@ -36,6 +37,7 @@ pub fn put_cells<O: Out>(transform: Option<&Transform>, cells: &[Cell], out: &mu
 
 /// Puts the positions of a walk, each behind a comma, but the first of a line.
 #[inline(always)]
+#[tactic(auto, using(json_writer::proofs::Appending::done, json_writer::proofs::Appending::goes))]
 fn put_walk<O: Out>(walk: LineWalk<'_>, is_first: bool, out: &mut O)
     ensures text { O.text out.new ≡ O.text out.old ++ positions_text is_first walk.entry }
     ensures kept { (start : Start) → O.good out.old start → O.good out.new start }
@@ -105,6 +107,7 @@ pub fn put_line<O: Out>(topology: &LineSource<'_>, refs: &[ArcRef], is_closed: b
 }
 
 /// Puts lines, or the rings of a polygon.
+#[tactic(auto, using(json_writer::proofs::Appending::begins, json_writer::proofs::Lists::text_by))]
 pub fn put_lines<O: Out>(
     topology: &LineSource<'_>,
     lines: &[Items<ArcRef>],

@@ -1,4 +1,4 @@
-use Rattle.std.proofs.Common.{◌<◌, ◌-ℤ◌, ◌*ℤ◌, arith, FitsSigned, of_z, to_z, ap, sym, subst, ◌∙◌, ℕ, rules}
+use Rattle.std.proofs.Common.{◌<◌, ◌-ℤ◌, ◌*ℤ◌, arith, FitsSigned, of_z, to_z, ap, ◌∙◌, rules}
 use Rattle.std.proofs.lemmas.Int.{to_z-of_z, fits_signed_from_abs}
 use Rattle.effective_area.proofs.Products.{apart_fits}
 use Rattle.geometry.proofs.RingAreas.{read_both, both, through}
@@ -37,13 +37,3 @@ returns-clause-value c = unfold cross in
     let p2 = both ◌*ℤ◌ _ _ _ _ _ d3 d4 (read_both w64 ◌*ℤ◌ _ _ _ f3 f4 c.product-right.ensures.value) in
     let t = ap (λ z. to_z w128 (of_z w128 z)) (through _ _ f g) ∙ to_z-of_z w128 _ h in
     both ◌-ℤ◌ _ _ _ _ _ p1 p2 t
-
-pub returns-clause-bound : goal.returns-clause-bound
-returns-clause-bound c =
-    let f : FitsSigned w128 c.product-left.result = search rules in
-    let g : FitsSigned w128 c.product-right.result = search rules in
-    let small : unsigned_abs (c.product-left.result -ℤ c.product-right.result) < area_limit = apart_fits c.product-left.result c.product-right.result c.product-left.ensures.bound c.product-right.ensures.bound in
-    let h : FitsSigned w128 (c.product-left.result -ℤ c.product-right.result) = fits_signed_from_abs w128 _ (omega arith) in
-    let t = ap (λ z. to_z w128 (of_z w128 z)) (through _ _ f g) ∙ to_z-of_z w128 _ h in
-    let P : ℕ → Type 0 = λ n. n < area_limit in
-    subst P (sym (ap unsigned_abs t)) small

@@ -2,7 +2,7 @@ use Rattle.std.proofs.Common.{◌++◌, Some, arith, subst}
 use Rattle.std.specs.List.Sorted.{IsSorted}
 use Rattle.effective_area.specs.Links.{LeavesCurrent, queue_cmp}
 use Rattle.effective_area.proofs.Queues.{prefix_sorted}
-use Rattle.effective_area.proofs.HeapLaws.{drops_stale, ends_dropped, nothing_left, takes_current}
+use Rattle.effective_area.proofs.HeapLaws.{drops_stale, ends_dropped, takes_current}
 use Rattle.effective_area.proofs.queue.pop_current.Goals as goal
 
 pub returns-then-is_current-clause-left : goal.returns-then-is_current-clause-left
@@ -17,6 +17,3 @@ returns-then-is_current-clause-sorted c =
 
 pub loop-entry-preserved : goal.loop-entry-preserved
 loop-entry-preserved c = grind (arith, drops_stale)
-
-pub returns-clause-left : goal.returns-clause-left
-returns-clause-left c = grind (arith, nothing_left)

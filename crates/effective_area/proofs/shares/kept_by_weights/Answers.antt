@@ -14,9 +14,6 @@ weights-preserved c =
       | else-stays w ↦ more (ap (λ v. v.items) w.kept-is ∙ sym (append-nil c.weights.kept.items) ∙ ap (λ b. c.weights.kept.items ++ cond b (c.weights.i ∷ []) []) (sym w.if-stays.false))
     ]
 
-pub returns-clause-kept : goal.returns-clause-kept
-returns-clause-kept c = indexes_kept_all c.args.threshold c.args.weights.now c.weights.i c.weights.kept.items c.weights.auto.i-end c.weights-test.false c.weights.invariant
-
 pub returns-clause-reduced : goal.returns-clause-reduced
 returns-clause-reduced c ps e =
     indexes_kept_all c.args.threshold c.args.weights.now c.weights.i c.weights.kept.items c.weights.auto.i-end c.weights-test.false c.weights.invariant

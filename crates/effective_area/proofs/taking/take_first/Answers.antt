@@ -4,15 +4,6 @@ use Rattle.effective_area.proofs.Queues.{pushed_after}
 use Rattle.effective_area.proofs.Turns.{old_ready, new_ready, renews, unlinks_on, some_left, turn_state, turn_fits, none_under}
 use Rattle.effective_area.proofs.taking.take_first.Goals as goal
 
-pub unlink-requires-clause-before : goal.unlink-requires-clause-before
-unlink-requires-clause-before c = grind arith
-
-pub unlink-requires-clause-index : goal.unlink-requires-clause-index
-unlink-requires-clause-index c = grind arith
-
-pub unlink-requires-clause-after : goal.unlink-requires-clause-after
-unlink-requires-clause-after c = grind arith
-
 pub goes_after-is_first_known-requires-clause-other : goal.goes_after-is_first_known-requires-clause-other
 goes_after-is_first_known-requires-clause-other c =
     let s = c.requires.state in

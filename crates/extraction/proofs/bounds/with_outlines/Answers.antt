@@ -2,12 +2,9 @@ use Rattle.std.proofs.Common.{List, map, ap, ◌∙◌}
 use Rattle.std.proofs.lemmas.List.{length-map}
 use Rattle.geometry.specs.Points.{Point}
 use Rattle.grid_snap.specs.Bounds.{widened_by}
-use Rattle.grid_snap.proofs.Widening.{starts, turns, ends, lists_of}
+use Rattle.grid_snap.proofs.Widening.{turns, ends, lists_of}
 use Rattle.extraction.proofs.Bounded.{got_is}
 use Rattle.extraction.proofs.bounds.with_outlines.Goals as goal
-
-pub lines-init : goal.lines-init
-lines-init c = starts (λ (ps : List Point). ps) (map (λ b. b.1) c.args.outlines.now) c.args.bounds
 
 pub lines-preserved : goal.lines-preserved
 lines-preserved c =

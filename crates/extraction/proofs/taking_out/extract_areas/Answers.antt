@@ -1,11 +1,8 @@
 use Rattle.std.proofs.Common.{true, map, subst, ◌∙◌}
 use Rattle.geometry.specs.Lists.{joined}
 use Rattle.extraction.specs.Extracts.{TakesApart, no_refs}
-use Rattle.extraction.proofs.TakenOut.{begun, joined_more, one_more}
+use Rattle.extraction.proofs.TakenOut.{joined_more, one_more}
 use Rattle.extraction.proofs.taking_out.extract_areas.Goals as goal
-
-pub areas-init : goal.areas-init
-areas-init c = begun c.args.outlines.now c.in_ok-made.made.items c.in_ok-made.ensures.items
 
 pub areas-preserved : goal.areas-preserved
 areas-preserved c =

@@ -2,11 +2,6 @@ use Rattle.std.proofs.Common.{sym, ◌∙◌}
 use Rattle.geojson_model.proofs.FeatureParts.{is_drawn}
 use Rattle.geojson_model.proofs.features.drawn_at.Goals as goal
 
-pub returns-in-Ok : goal.returns-in-Ok
-returns-in-Ok c =
-    let r = c.in-Ok.ensures in
-    (r.value, r.prefix_is, is_drawn c.args.start.exact r.value c.args.start.counts (λ h. c.in_default.not-Null (c.kind_at.ensures c.args.depth_left r.value _ r.prefix_is ∙ sym h)) ∙ r.means)
-
 pub returns-in_ok-rest-in-Err-Fault : goal.returns-in_ok-rest-in-Err-Fault
 returns-in_ok-rest-in-Err-Fault c =
     let found = c.in_ok-rest-in-Err-Fault.ensures in

@@ -2,9 +2,6 @@ use Rattle.std.proofs.Common.{refl}
 use Rattle.geojson_meaning.specs.Members.{named}
 use Rattle.geojson_model.proofs.leading.twice_at.Goals as goal
 
-pub returns-in-Ok-None : goal.returns-in-Ok-None
-returns-in-Ok-None c = rw c.in-Ok-None.field-0-is at c.in-Ok-None.ensures
-
 pub returns-in-Ok-Some : goal.returns-in-Ok-Some
 unfolding named
 returns-in-Ok-Some c =

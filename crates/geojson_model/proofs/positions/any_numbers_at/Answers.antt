@@ -5,12 +5,8 @@ use mir.Syntax.{w64}
 use mir.Val.{to_z, of_z}
 use Rattle.std.specs.Str.{is_utf8}
 use Rattle.json_value.specs.Reading.{value_at}
-use Rattle.json_cursor.proofs.Lists.{no_turn}
 use Rattle.geojson_model.proofs.PositionParts as part
 use Rattle.geojson_model.proofs.positions.any_numbers_at.Goals as goal
-
-pub returns-then-turns-eq0 : goal.returns-then-turns-eq0
-returns-then-turns-eq0 c = no_turn (value_at is_utf8 c.args.depth_left) c.args.turns c.args.inside.now c.if-turns-eq0.true
 
 pub returns-in-Err-NoValue : goal.returns-in-Err-NoValue
 returns-in-Err-NoValue c =

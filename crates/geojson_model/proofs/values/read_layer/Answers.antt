@@ -8,11 +8,6 @@ returns-in-Err-read-clause-fault c = λ n.
     let found = rw (c.none-counts.ensures, c.in-Err-read.is) at c.in-Ok-layer_at.ensures in
     layer_is c.args.exact 4294967295 c.deref.result.now c.args.value (rw c.deref.ensures.value c.in-Ok.ensures) found.0 _ found.1 ∙ found.2
 
-pub returns-clause-layer : goal.returns-clause-layer
-returns-clause-layer c =
-    let found = rw (c.none-counts.ensures, c.in-Ok-read.is) at c.in-Ok-layer_at.ensures in
-    layer_is c.args.exact 4294967295 c.deref.result.now c.args.value (rw c.deref.ensures.value c.in-Ok.ensures) found.0 _ found.1 ∙ found.2 ∙ ap (λ fs. Ok (fs, c.layer_at.new.counts)) (sym (c.of-features.ensures ∙ c.into_made.ensures))
-
 pub returns-clause-inputs : goal.returns-clause-inputs
 returns-clause-inputs c =
     let found = rw (c.none-counts.ensures, c.in-Ok-read.is) at c.in-Ok-layer_at.ensures in

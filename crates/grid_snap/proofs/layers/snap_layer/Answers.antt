@@ -1,12 +1,9 @@
 use Rattle.std.proofs.Common.{map, refl, ap, ◌∙◌}
 use Rattle.geojson_types.specs.Moving.{moved_feature}
-use Rattle.geometry.proofs.Moved.{starts, turns, ends, refilled}
+use Rattle.geometry.proofs.Moved.{turns, ends, refilled}
 use Rattle.grid_snap.specs.Snapping.{snapped_if_covered}
 use Rattle.grid_snap.proofs.Layered.{layer_of, features_snapped}
 use Rattle.grid_snap.proofs.layers.snap_layer.Goals as goal
-
-pub features-init : goal.features-init
-features-init c = starts (moved_feature (snapped_if_covered c.args.grid.now)) c.as_mut_slice-feature-items.result.now
 
 pub features-preserved : goal.features-preserved
 features-preserved c =

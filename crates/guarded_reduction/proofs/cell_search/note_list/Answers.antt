@@ -1,18 +1,9 @@
 use Rattle.std.proofs.Common.{◌≡◌, ◌∙◌, ◌-◌, slice_index, refl, arith}
 use Rattle.std.proofs.lemmas.List.{get_or_default}
 use Rattle.guarded_reduction.specs.Tests.{unlisted}
-use Rattle.guarded_reduction.proofs.Cells.{first_is_on, next_is_on, walk_begins, walk_on}
-use Rattle.guarded_reduction.proofs.Near.{longer_chain, longer_same, on_longer}
+use Rattle.guarded_reduction.proofs.Cells.{next_is_on, walk_on}
+use Rattle.guarded_reduction.proofs.Near.{longer_chain, on_longer}
 use Rattle.guarded_reduction.proofs.cell_search.note_list.Goals as goal
-
-pub places-init : goal.places-init
-places-init g c =
-    let first : c.index-number.result.now ≡ slice_index c.args.grid.now.firsts.items c.args.list = c.index-number.ensures ∙ get_or_default _ c.args.list _ 0 c.requires.list in
-    record {
-      on = first_is_on c.args.cells.now.positions.items c.args.grid.now c.args.list c.index-number.result.now c.requires.grid first;
-      longer = longer_same c.args.places.now.items;
-      none = walk_begins c.args.cells.now.positions.items c.args.cells.now.present.items c.args.grid.now (unlisted (g.Q.Query.test c.args.query.now) c.args.places.now.items) c.args.list c.index-number.result.now c.requires.grid first;
-    }
 
 pub places-preserved : goal.places-preserved
 places-preserved g c =

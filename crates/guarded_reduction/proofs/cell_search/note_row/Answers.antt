@@ -1,14 +1,7 @@
-use Rattle.std.proofs.Common.{arith}
 use Rattle.guarded_reduction.specs.Tests.{unlisted}
-use Rattle.guarded_reduction.proofs.Cells.{row_begins, row_on, row_until}
-use Rattle.guarded_reduction.proofs.Near.{longer_chain, longer_same, row_longer}
+use Rattle.guarded_reduction.proofs.Cells.{row_on}
+use Rattle.guarded_reduction.proofs.Near.{longer_chain, row_longer}
 use Rattle.guarded_reduction.proofs.cell_search.note_row.Goals as goal
-
-pub columns-init : goal.columns-init
-columns-init g c = record {
-  longer = longer_same c.args.places.now.items;
-  none = row_begins c.args.cells.now.positions.items c.args.cells.now.present.items c.args.grid.now (unlisted (g.Q.Query.test c.args.query.now) c.args.places.now.items) c.args.row c.args.low c.args.low (omega arith);
-}
 
 pub columns-preserved : goal.columns-preserved
 columns-preserved g c = record {
@@ -17,6 +10,3 @@ columns-preserved g c = record {
       (c.note_list.ensures.listed c.if-not-note_list.false)
       (row_longer c.args.cells.now.positions.items c.args.cells.now.present.items c.args.grid.now (g.Q.Query.test c.args.query.now) c.columns.places.items c.note_list.new.places.items c.note_list.ensures.longer c.args.row c.args.low c.columns.column c.columns.invariant.none);
 }
-
-pub returns-clause-listed : goal.returns-clause-listed
-returns-clause-listed g c = λ _. row_until c.args.cells.now.positions.items c.args.cells.now.present.items c.args.grid.now (unlisted (g.Q.Query.test c.args.query.now) c.columns.places.items) c.args.row c.args.low c.columns.column c.args.high c.columns-test.false c.columns.invariant.none

@@ -1,13 +1,7 @@
-use Rattle.std.proofs.Common.{arith}
 use Rattle.guarded_reduction.specs.Tests.{unlisted}
-use Rattle.guarded_reduction.proofs.Cells.{all_within, rows_begin, rows_on}
+use Rattle.guarded_reduction.proofs.Cells.{all_within, rows_on}
 use Rattle.guarded_reduction.proofs.Near.{reaches_unlisted, rows_longer}
 use Rattle.guarded_reduction.proofs.cell_search.note_within.Goals as goal
-
-pub rows-init : goal.rows-init
-rows-init g c =
-    let r = c.cells_of-range.result in
-    rows_begin c.args.cells.now.positions.items c.args.cells.now.present.items c.args.grid.now (unlisted (g.Q.Query.test c.args.query.now) c.args.places.now.items) r.low r.high r.low_row r.low_row (omega arith)
 
 pub rows-preserved : goal.rows-preserved
 rows-preserved g c =

@@ -9,8 +9,3 @@ loop-i-preserved c =
     let many = so_many (λ i. length c.args.befores.now.items + before_index c.args.n i) c.args.befores.now.items c.loop-i.befores.items c.loop-i.i c.loop-i.invariant in
     one_more_link (λ i. length c.args.befores.now.items + before_index c.args.n i) c.args.befores.now.items c.loop-i.befores.items c.push.new.self.items c.loop-i.i c.if-i-eq0.push c.loop-i.invariant c.in_ok-push.ensures.items
     (elim c.if-i-eq0.branch [ then-i-eq0 w ↦ omega (arith, many, c.len-place.ensures, w.push-is, w.if-i-eq0.true) | else-i-eq0 w ↦ omega (arith, many, c.len-place.ensures, w.push-is, w.if-i-eq0.false) ])
-
-pub overflow_sub-place : goal.overflow_sub-place
-overflow_sub-place c =
-    let many = so_many (λ i. length c.args.befores.now.items + before_index c.args.n i) c.args.befores.now.items c.loop-i.befores.items c.loop-i.i c.loop-i.invariant in
-    omega (arith, many, c.len-place.ensures)

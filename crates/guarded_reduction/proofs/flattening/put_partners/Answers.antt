@@ -8,8 +8,3 @@ loop-i-preserved c =
     let many = so_many (λ i. length c.args.partners.now.items + partner_index c.args.n i) c.args.partners.now.items c.loop-i.partners.items c.loop-i.i c.loop-i.invariant in
     one_more_link (λ i. length c.args.partners.now.items + partner_index c.args.n i) c.args.partners.now.items c.loop-i.partners.items c.push.new.self.items c.loop-i.i c.in_ok-partner.partner c.loop-i.invariant c.in_ok-push.ensures.items
     (omega (arith, many, c.len-place.ensures, c.in_ok-partner.ensures))
-
-pub other_end-requires-clause-place : goal.other_end-requires-clause-place
-other_end-requires-clause-place c =
-    let many = so_many (λ i. length c.args.partners.now.items + partner_index c.args.n i) c.args.partners.now.items c.loop-i.partners.items c.loop-i.i c.loop-i.invariant in
-    omega (arith, many, c.len-place.ensures)

@@ -2,11 +2,8 @@ use Rattle.std.proofs.Common.{◌≡◌, false, true, ap, subst, sym, ◌∙◌}
 use Rattle.guarded_reduction.specs.Linking.{Linked, is_fixed}
 use Rattle.guarded_reduction.specs.Moves.{keeps_all}
 use Rattle.guarded_reduction.specs.States.{IsFixing, IsNext, IsQueued}
-use Rattle.guarded_reduction.proofs.Queued.{chained_fixed, next_fixed, one_fixed}
+use Rattle.guarded_reduction.proofs.Queued.{next_fixed, one_fixed}
 use Rattle.guarded_reduction.proofs.looking.next_going.Goals as goal
-
-pub next_corner-requires-clause-chained : goal.next_corner-requires-clause-chained
-next_corner-requires-clause-chained c = chained_fixed c.args.places.now c.corners.places c.args.rings.now c.corners.invariant.fixing c.requires.chained
 
 pub corners-preserved : goal.corners-preserved
 corners-preserved c =

@@ -1,12 +1,9 @@
-use Rattle.std.proofs.Common.{◌+◌, ap, cond, sym, ◌∙◌, [], ◌∷◌, ◌++◌, arith}
+use Rattle.std.proofs.Common.{◌+◌, ap, cond, sym, ◌∙◌, [], ◌∷◌, ◌++◌}
 use Rattle.std.proofs.lemmas.List.{append-nil}
 use Rattle.guarded_reduction.specs.Indexes.{is_left_at}
 use Rattle.guarded_reduction.proofs.Flattened.{kept_more}
 use Rattle.guarded_reduction.proofs.reducing.kept_from.Goals as goal
 use Rattle.guarded_reduction.proofs.reducing.kept_from.Goals.{then-is_left+in_ok-push, else-is_left}
-
-pub overflow_add-first : goal.overflow_add-first
-overflow_add-first c = omega (arith, c.law.ensures.few, c.requires, c.loop-i-test.true)
 
 pub loop-i-preserved : goal.loop-i-preserved
 loop-i-preserved c =

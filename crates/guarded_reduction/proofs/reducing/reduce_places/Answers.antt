@@ -5,10 +5,9 @@ use Rattle.guarded_meaning.specs.Parts.{unmarked}
 use Rattle.guarded_reduction.specs.Keeping.{IsKeeping}
 use Rattle.guarded_reduction.specs.Linking.{IsShowing, Linked, unlinked}
 use Rattle.guarded_reduction.specs.Numbers.{left_arcs}
-use Rattle.guarded_reduction.proofs.Heap.{none_at_zero}
 use Rattle.guarded_reduction.proofs.Keeping.{IsGoing, first_keeping, fixed_still, going, owners_at}
-use Rattle.guarded_reduction.proofs.Next.{all_steps, goes_next, no_step, none_next, one_step, showing_next}
-use Rattle.guarded_reduction.proofs.Parting.{GoesOnApart, KeepsClear, all_apart, begins_apart, clear_same, more_apart, none_apart, one_apart, same_guard}
+use Rattle.guarded_reduction.proofs.Next.{goes_next, no_step, none_next, one_step, showing_next}
+use Rattle.guarded_reduction.proofs.Parting.{GoesOnApart, KeepsClear, begins_apart, clear_same, more_apart, none_apart, one_apart, same_guard}
 use Rattle.guarded_reduction.proofs.Showing.{chained}
 use Rattle.guarded_reduction.proofs.Starts.{begins, first_showing}
 use Rattle.guarded_reduction.proofs.reducing.reduce_places.Goals as goal
@@ -25,9 +24,6 @@ corners-init g c = record {
   marks = refl;
   apart = λ clear asked none. begins_apart (unmarked (g.S.Surroundings.marks c.args.beside.now) (g.S.Surroundings.whole c.args.beside.now)) c.args.threshold c.args.places.now.no_crossings c.args.arcs.now c.args.places.now c.len-n.result c.requires.first c.len-n.ensures;
 }
-
-pub begin_round-requires : goal.begin_round-requires
-begin_round-requires g c = none_at_zero c.args.places.now c.in_ok-waiting.waiting (c.in_ok-waiting.ensures ∙ c.len-n.ensures)
 
 pub next_in_rounds-requires-clause-chained : goal.next_in_rounds-requires-clause-chained
 next_in_rounds-requires-clause-chained g c = chained c.args.arcs.now c.corners.places c.corners.invariant.showing
@@ -88,12 +84,6 @@ returns-in_default-clause-left g c =
     (none_next b rings arcs c.args.threshold s f.showing (f.flag ∙ c.corners.invariant.flag) f.keeping.fixed c.next_in_rounds.new.waiting n)
     (ap (λ bs. eliminate_arcs (guarded_by b rings) (c.len-n.result - c.corners._step) c.args.threshold (left_arcs arcs bs)) f.left ∙ c.corners.invariant.rest)
 
-pub returns-clause-left : goal.returns-clause-left
-returns-clause-left g c =
-    let none : c.len-n.result - c.corners._step ≡ 0 = omega (arith, c.corners-test.false) in
-    all_steps (guarded_by c.args.places.now.no_crossings c.args.rings.now) (c.len-n.result - c.corners._step) c.args.threshold (left_arcs c.args.arcs.now c.corners.places.left)
-    (remaining_arcs (guarded_by c.args.places.now.no_crossings c.args.rings.now) c.args.threshold c.args.arcs.now) none c.corners.invariant.rest
-
 pub returns-in_default-clause-apart : goal.returns-in_default-clause-apart
 returns-in_default-clause-apart g c = λ clear asked none.
     let arcs = c.args.arcs.now in
@@ -106,7 +96,3 @@ returns-in_default-clause-apart g c = λ clear asked none.
     subst (λ bs. GoesOnApart others c.args.threshold (c.len-n.result - c.corners._step) arcs (left_arcs arcs bs)) (sym f.left) (c.corners.invariant.apart clear asked none)
     (none_apart others c.args.threshold (c.len-n.result - c.corners._step) (left_arcs arcs s.left)
     (same_guard b rings c.args.threshold (left_arcs arcs s.left) asked none (none_next b rings arcs c.args.threshold s f.showing (f.flag ∙ c.corners.invariant.flag) f.keeping.fixed c.next_in_rounds.new.waiting n)))
-
-pub returns-clause-apart : goal.returns-clause-apart
-returns-clause-apart g c = λ clear asked none.
-    all_apart (unmarked (g.S.Surroundings.marks c.args.beside.now) (g.S.Surroundings.whole c.args.beside.now)) c.args.threshold (c.len-n.result - c.corners._step) c.args.arcs.now (left_arcs c.args.arcs.now c.corners.places.left) (omega (arith, c.corners-test.false)) (c.corners.invariant.apart clear asked none)

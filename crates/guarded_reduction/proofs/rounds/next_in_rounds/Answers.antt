@@ -1,24 +1,8 @@
-use Rattle.std.proofs.Common.{◌≡◌, ◌⊎◌, length, subst, sym, ◌∙◌}
+use Rattle.std.proofs.Common.{subst, ◌∙◌}
 use Rattle.guarded_reduction.specs.Moves.{Counted}
 use Rattle.guarded_reduction.specs.States.{IsFixing}
-use Rattle.guarded_reduction.proofs.Queued.{chained_fixed, fixed_more, owners_still}
+use Rattle.guarded_reduction.proofs.Queued.{fixed_more}
 use Rattle.guarded_reduction.proofs.rounds.next_in_rounds.Goals as goal
-
-pub next_going-requires-clause-chained : goal.next_going-requires-clause-chained
-next_going-requires-clause-chained c = chained_fixed c.args.places.now c.rounds.places c.args.rings.now c.rounds.invariant.fixing c.requires.chained
-
-pub next_going-requires-clause-owners : goal.next_going-requires-clause-owners
-next_going-requires-clause-owners c =
-    subst (λ (g : Counted). (length g.rings ≡ 0) ⊎ (length g.owners ≡ length c.rounds.places.positions)) (sym c.rounds.invariant.rings)
-    (owners_still c.args.places.now c.rounds.places c.args.rings.now c.rounds.invariant.fixing c.requires.owners)
-
-pub next_going-requires-2-clause-chained : goal.next_going-requires-2-clause-chained
-next_going-requires-2-clause-chained c = chained_fixed c.args.places.now c.rounds.places c.args.rings.now c.rounds.invariant.fixing c.requires.chained
-
-pub next_going-requires-2-clause-owners : goal.next_going-requires-2-clause-owners
-next_going-requires-2-clause-owners c =
-    subst (λ (g : Counted). (length g.rings ≡ 0) ⊎ (length g.owners ≡ length c.rounds.places.positions)) (sym c.rounds.invariant.rings)
-    (owners_still c.args.places.now c.rounds.places c.args.rings.now c.rounds.invariant.fixing c.requires.owners)
 
 pub returns-clause-fixing : goal.returns-clause-fixing
 returns-clause-fixing c = fixed_more c.args.places.now c.rounds.places c.next_going-2.new.places c.args.rings.now c.rounds.invariant.fixing

@@ -46,8 +46,3 @@ pub returns-clause-kept : goal.returns-clause-kept
 returns-clause-kept g c =
     let s = g.S.Surroundings in
     (left_all (unmarked (s.marks c.args.beside.now) (s.whole c.args.beside.now)) c.args.threshold c.args.arc.now (s.are_clear c.corners.beside) (length c.args.arc.now - c.corners._step) c.corners.left.items c.corners.invariant.left (omega (arith, c.corners-test.false))).0
-
-pub returns-clause-apart : goal.returns-clause-apart
-returns-clause-apart g c =
-    let s = g.S.Surroundings in
-    (left_all (unmarked (s.marks c.args.beside.now) (s.whole c.args.beside.now)) c.args.threshold c.args.arc.now (s.are_clear c.corners.beside) (length c.args.arc.now - c.corners._step) c.corners.left.items c.corners.invariant.left (omega (arith, c.corners-test.false))).1

@@ -4,12 +4,11 @@ use Rattle.guarded_reduction.specs.Keeping.{IsKeeping}
 use Rattle.guarded_reduction.specs.Linking.{IsShowing, Linked, unlinked}
 use Rattle.guarded_reduction.specs.Numbers.{left_arcs}
 use Rattle.guarded_reduction.specs.Weighing.{IsWeighing}
-use Rattle.guarded_reduction.proofs.Heap.{none_at_zero}
 use Rattle.guarded_reduction.proofs.Keeping.{IsGoing, first_keeping, fixed_still, going, owners_at, still_below}
 use Rattle.guarded_reduction.proofs.Next.{none_at_all, one_gone, showing_next}
 use Rattle.guarded_reduction.proofs.Showing.{chained}
 use Rattle.guarded_reduction.proofs.Starts.{first_showing}
-use Rattle.guarded_reduction.proofs.Weighed.{no_steps, weigh_none, weighing_begins, weighing_ends, weighing_step}
+use Rattle.guarded_reduction.proofs.Weighed.{weigh_none, weighing_begins, weighing_ends, weighing_step}
 use Rattle.guarded_reduction.proofs.weighing.weigh_places.Goals as goal
 
 pub corners-init : goal.corners-init
@@ -23,9 +22,6 @@ corners-init c = record {
   many = c.requires.many;
   weighing = weighing_begins (guarded_by c.args.places.now.no_crossings c.args.rings.now) c.args.arcs.now c.args.places.now.no_crossings c.args.places.now c.len-n.result c.args.levels.now c.requires.first c.len-n.ensures;
 }
-
-pub begin_round-requires : goal.begin_round-requires
-begin_round-requires c = none_at_zero c.args.places.now c.in_ok-waiting.waiting (c.in_ok-waiting.ensures ∙ c.len-n.ensures)
 
 pub next_in_rounds-requires-clause-chained : goal.next_in_rounds-requires-clause-chained
 next_in_rounds-requires-clause-chained c = chained c.args.arcs.now c.corners.places c.corners.invariant.showing
@@ -82,9 +78,3 @@ returns-in_default-clause-weights c =
     (λ x. weigh_none (guarded_by b rings) (c.len-n.result - c.corners._step) c.corners.level (left_arcs arcs s.left) x
     (none_at_all b rings arcs s f.showing (f.flag ∙ c.corners.invariant.flag) f.keeping.fixed below c.next_in_rounds.new.waiting n))
     (subst (λ bs. IsWeighing (guarded_by b rings) arcs (c.len-n.result - c.corners._step) c.corners.level bs c.corners.levels) (sym f.left) c.corners.invariant.weighing)
-
-pub returns-clause-weights : goal.returns-clause-weights
-returns-clause-weights c =
-    let none : c.len-n.result - c.corners._step ≡ 0 = omega (arith, c.corners-test.false) in
-    weighing_ends (guarded_by c.args.places.now.no_crossings c.args.rings.now) c.args.arcs.now (c.len-n.result - c.corners._step) c.corners.level c.corners.places.left c.corners.levels
-    (λ x. no_steps (guarded_by c.args.places.now.no_crossings c.args.rings.now) c.args.arcs.now (c.len-n.result - c.corners._step) c.corners.level c.corners.places.left x none) c.corners.invariant.weighing

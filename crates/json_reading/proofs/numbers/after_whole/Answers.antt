@@ -1,9 +1,5 @@
-use Rattle.json_reading.proofs.Steps.{none_fails}
-use Rattle.json_reading.proofs.NumbersRead.{whole_none, whole_by_zero, whole_by_digits}
+use Rattle.json_reading.proofs.NumbersRead.{whole_by_zero, whole_by_digits}
 use Rattle.json_reading.proofs.numbers.after_whole.Goals as goal
-
-pub returns-in_default : goal.returns-in_default
-returns-in_default c = none_fails _ _ (whole_none c.args.bytes.now c.in_default.ensures)
 
 pub returns-then-first-eq48 : goal.returns-then-first-eq48
 returns-then-first-eq48 c = whole_by_zero _ c.args.bytes.now _ c.in-Some.ensures c.if-first-eq48.true

@@ -4,9 +4,6 @@ use Rattle.json_reading.proofs.TextsRead.{text_takes}
 use Rattle.json_reading.proofs.TextsFound.{is_read, not_read}
 use Rattle.json_reading.proofs.parser.parse.Goals as goal
 
-pub returns-in-Ok-clause-read : goal.returns-in-Ok-clause-read
-returns-in-Ok-clause-read c = text_takes is_utf8 _ _ _ c.in-Ok.ensures
-
 pub returns-in-Ok-clause-formed : goal.returns-in-Ok-clause-formed
 returns-in-Ok-clause-formed c = reads_well_formed _ _ _ c.in_default.ensures.cases.1 (text_takes is_utf8 _ _ _ c.in-Ok.ensures)
 

@@ -1,6 +1,6 @@
 use Rattle.std.specs.Prelude.{codes}
 use Rattle.json_writer.proofs.Lists.{object-text, named_by}
-use Rattle.json_writer.proofs.Appending.{begins, list-goes, list-ends}
+use Rattle.json_writer.proofs.Appending.{begins, list-goes}
 use Rattle.json_writer.proofs.list_writer.put_object.Goals as goal
 
 pub members-init : goal.members-init
@@ -8,6 +8,3 @@ members-init g c = begins _ (object-text g.P.PutValue.value c.args.members.now) 
 
 pub members-preserved : goal.members-preserved
 members-preserved g c = list-goes (named_by g.P.PutValue.value) (codes "}") _ _ _ c.members.invariant _ c.members-test.true c.member-item.is c.put_comma.ensures.text c.put_comma.ensures.kept c.put_named.ensures.text c.put_named.ensures.kept
-
-pub returns-clause-text : goal.returns-clause-text
-returns-clause-text g c = list-ends (named_by g.P.PutValue.value) (codes "}") _ _ _ c.members.invariant c.members-test.false c.put-2.ensures.text

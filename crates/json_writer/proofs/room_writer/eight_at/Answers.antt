@@ -3,11 +3,8 @@ use Rattle.std.specs.Int.{leading_zeros, w64}
 use Rattle.decimal_text.specs.Units.{fixed, trimmed}
 use Rattle.json_writer.proofs.Fixed.{trimmed-front}
 use Rattle.json_writer.proofs.Rooms.{cut_short}
-use Rattle.json_writer.proofs.Words.{bytes_of, ending_zeros, enough}
+use Rattle.json_writer.proofs.Words.{bytes_of, ending_zeros}
 use Rattle.json_writer.proofs.room_writer.eight_at.Goals as goal
-
-pub overflow_sub-left : goal.overflow_sub-left
-overflow_sub-left c = enough c.args.number c.eight_word-word.result c.eight_word-word.ensures
 
 pub returns-clause-written : goal.returns-clause-written
 returns-clause-written c =

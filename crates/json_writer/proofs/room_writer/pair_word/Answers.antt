@@ -6,8 +6,3 @@ pub returns-clause-is : goal.returns-clause-is
 returns-clause-is c =
     let digits = pair_at c.args.pair c.requires in
     rw (digits.0, digits.1) (omega arith)
-
-pub returns-clause-small : goal.returns-clause-small
-returns-clause-small c =
-    let digits = pair_at c.args.pair c.requires in
-    rw (digits.0, digits.1) (omega arith)

@@ -2,11 +2,8 @@ use Rattle.std.proofs.Common.{◌≡◌, [], ◌∷◌, ◌∙◌, ap, rules}
 use Rattle.std.proofs.lemmas.List.{nil_from_length}
 use Rattle.effective_area.specs.Shares.{kept_at}
 use Rattle.build_meaning.specs.Simplified.{retained}
-use Rattle.topo_model.proofs.Retained.{picks_first, picks_none, picks_more}
+use Rattle.topo_model.proofs.Retained.{picks_none, picks_more}
 use Rattle.layer_topology.proofs.choosing.arcs_by_weights.Goals as goal
-
-pub arcs-init : goal.arcs-init
-arcs-init c = picks_first (λ w. kept_at c.args.threshold w.items) c.args.weights.now c.in_ok-left.left.items c.in_ok-left.ensures.items
 
 pub arcs-preserved-in_default : goal.arcs-preserved-in_default
 arcs-preserved-in_default c =

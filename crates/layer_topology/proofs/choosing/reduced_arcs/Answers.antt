@@ -1,4 +1,4 @@
-use Rattle.std.proofs.Common.{◌≤◌, ◌∙◌, ◌++◌, List, [], ◌∷◌, length, ap, subst, sym}
+use Rattle.std.proofs.Common.{◌≤◌, ◌∙◌, ◌++◌, List, [], ◌∷◌, length, ap, subst}
 use Rattle.std.specs.List.{AllByRecursion}
 use Rattle.effective_area.specs.Calls.{call_at}
 use Rattle.effective_area.proofs.CallLists.{one_called}
@@ -7,11 +7,6 @@ use Rattle.geometry.specs.Points.{Point}
 use Rattle.build_meaning.specs.Simplified.{retained}
 use Rattle.topo_model.proofs.Retained.{retained_more}
 use Rattle.layer_topology.proofs.choosing.reduced_arcs.Goals as goal
-
-pub reduced_line-requires : goal.reduced_line-requires
-reduced_line-requires g c =
-    let long = subst (AllByRecursion (λ (arc : List Point). 2 ≤ length arc)) c.in-Some.ensures.steps.0 c.arcs.invariant.long in
-    subst (λ (arc : List Point). 2 ≤ length arc) (sym c.as_slice.ensures) long.0
 
 pub arcs-preserved : goal.arcs-preserved
 arcs-preserved g c =

@@ -4,16 +4,8 @@ use Rattle.geojson_types.specs.declared.layer.Layer.{Layer}
 use Rattle.geojson_types.specs.Places.{features_points}
 use Rattle.geometry.specs.Lists.{joined}
 use Rattle.grid_snap.specs.Bounds.{widened_by}
-use Rattle.grid_snap.proofs.Widening.{starts, turns, ends}
+use Rattle.grid_snap.proofs.Widening.{ends}
 use Rattle.layer_topology.proofs.layers.bounds_of.Goals as goal
-
-pub layers-init : goal.layers-init
-layers-init c = starts (λ (l : List ℕ × Layer). features_points l.1.features) c.args.layers.now None
-
-pub layers-preserved : goal.layers-preserved
-layers-preserved c =
-    turns (λ (l : List ℕ × Layer). features_points l.1.features) c.args.layers.now c.layers.layer-index None c.layers.all _ c.layer-item.result c.layers-test.true c.layer-item.is c.layers.invariant
-    c.widen-all.ensures
 
 pub returns : goal.returns
 returns c =

@@ -1,10 +1,7 @@
 use Rattle.std.proofs.Common.{ap, get_or}
-use Rattle.geometry.proofs.Moved.{starts, turns, ends}
+use Rattle.geometry.proofs.Moved.{turns}
 use Rattle.layer_topology.proofs.Snapping.{named, named_snapped, is_covered}
 use Rattle.layer_topology.proofs.layers.snap_named.Goals as goal
-
-pub layers-init : goal.layers-init
-layers-init c = starts (named_snapped c.args.grid.now) c.args.layers.now
 
 pub snap-requires : goal.snap-requires
 snap-requires c =
@@ -14,6 +11,3 @@ pub layers-preserved : goal.layers-preserved
 layers-preserved c =
     turns (named_snapped c.args.grid.now) c.args.layers.now c.layers.layer-index c.layers.layers c.layer-item.result _ c.layers-test.true c.layers.invariant
     (ap (named (get_or c.layers.layers c.layers.layer-index c.layer-item.result).0) c.snap.ensures)
-
-pub returns : goal.returns
-returns c = ends (named_snapped c.args.grid.now) c.args.layers.now c.layers.layer-index c.layers.layers c.layers-test.false c.layers.invariant

@@ -1,14 +1,9 @@
 use Rattle.std.proofs.Common.{◌≤◌, List, ap, length, subst, sym, ◌∙◌}
 use Rattle.std.specs.List.{AllByRecursion}
-use Rattle.build_meaning.proofs.Linework.{named_rings}
 use Rattle.geometry.specs.Points.{Point}
-use Rattle.linework.specs.Outlines.{IsRingIfClosed}
 use Rattle.topo_model.proofs.Assembled.{draft_of}
 use Rattle.layer_topology.proofs.Made.{table_arcs}
 use Rattle.layer_topology.proofs.making.draft_and_arcs.Goals as goal
-
-pub shared_arcs-requires : goal.shared_arcs-requires
-shared_arcs-requires c = subst (AllByRecursion IsRingIfClosed) (sym c.in_ok-objects.ensures.outlines) (named_rings c.args.layers.items c.requires.sound)
 
 pub returns-in-Ok : goal.returns-in-Ok
 returns-in-Ok c =

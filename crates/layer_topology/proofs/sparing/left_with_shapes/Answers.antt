@@ -4,22 +4,12 @@ use Rattle.build_meaning.specs.Trimming.{is_used}
 use Rattle.layer_topology.specs.GuardedLevels.{guarded_chosen, reduced_by}
 use Rattle.build_meaning.specs.Assembled.{arcs_of_layers}
 use Rattle.build_meaning.specs.Guarded.{arc_positions, spread}
-use Rattle.build_meaning.specs.Protected.{greatest_ring}
 use Rattle.build_meaning.specs.ProtectedRings.{CanStay}
 use Rattle.build_meaning.specs.Simplified.{objects_pruned, retained_arcs}
 use Rattle.topo_model.specs.DraftUses.{with_refs}
 use Rattle.topo_model.specs.Uses.{answers}
-use Rattle.topo_model.specs.Ways.{ways_of}
 use Rattle.layer_topology.proofs.GuardedArcs.{chosen_of_layers, left_of_layers, marked_of_layers}
 use Rattle.layer_topology.proofs.sparing.left_with_shapes.Goals as goal
-
-pub rings_of_draft-requires-clause-draft : goal.rings_of_draft-requires-clause-draft
-rings_of_draft-requires-clause-draft c = let d = c.requires.draft in (d.0, d.1, c.deref.ensures.value ∙ d.2)
-
-pub rings_of_draft-requires-clause-used : goal.rings_of_draft-requires-clause-used
-rings_of_draft-requires-clause-used c =
-    let many : c.len.result ≡ length c.args.arcs.items = search rules in
-    c.deref-2.ensures.value ∙ c.in_ok-used.ensures ∙ ap (answers (is_used (objects_pruned with_refs c.args.objects.now)) 0) (many ∙ sym (ap (λ arcs. length arcs) c.deref.ensures.value))
 
 pub guarded_arcs-requires-clause-rings : goal.guarded_arcs-requires-clause-rings
 guarded_arcs-requires-clause-rings c =
@@ -39,9 +29,6 @@ returns-clause-left c ls draft are =
     left_of_layers ls c.draft_uses_at_zero.ensures c.args.objects.now c.deref-3.result.now c.args.arcs.items draft are flagged c.args.no_crossings c.deref-4.result.now c.args.level c.zero_law.ensures
     c.arcs_rise.ensures c.in_ok-left.left.items c.in_ok-left.ensures.left
     ∙ ap (λ rings. retained_arcs (spread (is_used (untrimmed 0 0 ls).objects) 0 (reduced_by c.args.no_crossings rings c.args.level (arc_positions (built 0 0 ls))) (arcs_of_layers ls)) (arcs_of_layers ls)) found
-
-pub returns-clause-ways : goal.returns-clause-ways
-returns-clause-ways c = c.in_ok-ways.ensures.ways ∙ ap (λ arcs. ways_of (greatest_ring arcs) c.args.objects.now) c.deref.ensures.value
 
 pub returns-clause-chosen : goal.returns-clause-chosen
 returns-clause-chosen c ls draft are =

@@ -3,11 +3,9 @@ use Rattle.std.specs.List.{AllByRecursion}
 use Rattle.build_meaning.specs.Built.{untrimmed}
 use Rattle.build_meaning.specs.Trimming.{is_used}
 use Rattle.geometry.specs.Points.{IsPosition}
-use Rattle.build_meaning.specs.Protected.{greatest_ring}
 use Rattle.build_meaning.specs.Simplified.{objects_pruned}
 use Rattle.topo_model.specs.DraftUses.{with_refs}
 use Rattle.topo_model.specs.Uses.{answers}
-use Rattle.topo_model.specs.Ways.{ways_of}
 use Rattle.layer_topology.proofs.DraftRings.{found_in_range, found_of_built, of_positions}
 use Rattle.layer_topology.proofs.GuardedArcs.{answers_many, flags_are}
 use Rattle.layer_topology.proofs.sparing.rings_of_draft.Goals as goal
@@ -24,9 +22,6 @@ renumbered_rings-requires c =
     found_in_range d.0 c.ends_stay.ensures c.nothing_is_new.ensures c.zero_law.ensures d.1.sound d.1.names c.args.objects.now c.deref.result.now c.in_ok-ways.rings.items d.1.drafted (cells_are ∙ d.2) c.in_ok-ways.ensures.rings
     c.protected_rings_can_stay.ensures c.args.used.now
     (ap length c.requires.used ∙ answers_many (is_used (objects_pruned with_refs c.args.objects.now)) 0 (length c.args.arcs.now) ∙ sym (ap (λ xs. length xs) cells_are))
-
-pub returns-clause-ways : goal.returns-clause-ways
-returns-clause-ways c = c.in_ok-ways.ensures.ways ∙ ap (λ arcs. ways_of (greatest_ring arcs) c.args.objects.now) (c.deref.ensures.value ∙ c.in_ok-whole.ensures)
 
 pub returns-clause-rings : goal.returns-clause-rings
 returns-clause-rings c ls draft are =

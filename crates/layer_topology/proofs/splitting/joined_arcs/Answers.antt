@@ -2,11 +2,8 @@ use Rattle.std.proofs.Common.{rules, ◌≡◌, None, ◌++◌, ◌∙◌, ap, s
 use Rattle.std.specs.Prelude.{option_to_list}
 use Rattle.std.specs.Vec.Iter.{into_iter_items}
 use Rattle.std.proofs.lemmas.List.{append-nil}
-use Rattle.layer_topology.proofs.Split.{joins_first, joins_more, joins_all}
+use Rattle.layer_topology.proofs.Split.{joins_more}
 use Rattle.layer_topology.proofs.splitting.joined_arcs.Goals as goal
-
-pub flags-init : goal.flags-init
-flags-init c = joins_first c.args.flags.now c.args.marked.items c.args.others.items c.in_ok-all.all.items _ _ c.in_ok-all.ensures.items c.into_iter-marked.ensures.rest c.into_iter-others.ensures.rest
 
 pub flags-preserved : goal.flags-preserved
 flags-preserved c =
@@ -20,6 +17,3 @@ flags-preserved-in_default c =
     joins_more c.args.flags.now c.args.marked.items c.args.others.items c.flags.flag-index _ c.flags.all.items (into_iter_items c.flags.marked) (into_iter_items c.flags.others) c.flags.all.items
     (into_iter_items c.next_arc.new.marked) (into_iter_items c.next_arc.new.others) c.next_arc.result c.flags-test.true c.flags.invariant c.next_arc.ensures
     (sym (append-nil c.flags.all.items) ∙ ap (λ n. c.flags.all.items ++ option_to_list n) (sym none))
-
-pub returns : goal.returns
-returns c = joins_all c.args.flags.now c.args.marked.items c.args.others.items c.flags.flag-index c.flags.all.items _ _ c.flags-test.false c.flags.invariant

@@ -1,10 +1,7 @@
 use Rattle.std.proofs.Common.{◌≡◌, [], ◌∷◌, rules}
 use Rattle.std.proofs.lemmas.List.{nil_from_length}
-use Rattle.layer_topology.proofs.Split.{splits_first, splits_none, splits_marked, splits_other}
+use Rattle.layer_topology.proofs.Split.{splits_none, splits_marked, splits_other}
 use Rattle.layer_topology.proofs.splitting.split_arcs.Goals as goal
-
-pub arcs-init : goal.arcs-init
-arcs-init c = splits_first c.args.flags.now c.in_ok-marked.marked.items _ c.in_ok-marked.ensures.items c.new-others.ensures.items
 
 pub arcs-preserved-in_default : goal.arcs-preserved-in_default
 arcs-preserved-in_default c =

@@ -7,7 +7,6 @@ use Rattle.mapchain_engine.specs.Building.{Sends, chosen_for, threshold_for, wri
 use Rattle.layer_topology.specs.GuardedWritten.{lines_dropped_under, positions_removed_under}
 use Rattle.byte_ends.specs.Ends.{saturated}
 use Rattle.mapchain_engine.proofs.Built as built
-use Rattle.mapchain_engine.proofs.SoundLayers.{level_of, limit_of}
 use Rattle.mapchain_engine.proofs.building.build_layers.Goals as goal
 
 pub returns-in_err-layers-clause-refused : goal.returns-in_err-layers-clause-refused
@@ -19,12 +18,6 @@ pub topology_of_layers-requires-clause-taken : goal.topology_of_layers-requires-
 topology_of_layers-requires-clause-taken g c =
     let r = c.in_ok-layers.ensures in
     built.may_be_made c.building_laws.ensures.layers c.args.options.now c.args.sources.now c.read_layers.new.sources c.in_ok-layers.layers.items r.0 r.1 c.requires.names
-
-pub topology_of_layers-requires-clause-level : goal.topology_of_layers-requires-clause-level
-topology_of_layers-requires-clause-level g c = level_of c.args.options.now
-
-pub topology_of_layers-requires-clause-limit : goal.topology_of_layers-requires-clause-limit
-topology_of_layers-requires-clause-limit g c = limit_of c.args.options.now
 
 pub returns-in_err-topology-clause-refused : goal.returns-in_err-topology-clause-refused
 returns-in_err-topology-clause-refused g c =
@@ -64,8 +57,3 @@ returns-in-Ok-clause-built g c =
     (saturated (positions_removed_under o.guards o.grid (threshold_for o ls) o.ring_limit ls)) t) c.in_ok-topology.ensures.chosen
     ∙ ap (λ n. report_with n (lines_dropped_under o.guards o.grid (threshold_for o ls) o.ring_limit ls) (written_for o ls).objects (written_for o ls).arcs
     (saturated (positions_removed_under o.guards o.grid (threshold_for o ls) o.ring_limit ls)) (chosen_for o ls)) r.2)
-
-pub returns-in-Ok-clause-reduced : goal.returns-in-Ok-clause-reduced
-returns-in-Ok-clause-reduced g c =
-    let r = c.in_ok-layers.ensures in
-    record { layers = c.in_ok-layers.layers.items; counts = r.0; read = r.1; called = c.in_ok-topology.ensures.called }

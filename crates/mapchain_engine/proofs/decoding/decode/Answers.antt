@@ -4,16 +4,11 @@ use Rattle.topojson_writer.specs.Decoded.{object_in}
 use Rattle.inputs.specs.declared.file_fault.FileFault.TheVariants.{NoObject}
 use Rattle.mapchain_engine.proofs.FilesDecided.{found_fails, sent_decides}
 use Rattle.mapchain_engine.proofs.FilesRead.{topology_read}
-use Rattle.mapchain_engine.proofs.ObjectsFound.{fails, fails_decoding, gives, lacks}
+use Rattle.mapchain_engine.proofs.ObjectsFound.{fails_decoding, gives, lacks}
 use Rattle.mapchain_engine.proofs.Sent.{prefix, written}
 use Rattle.mapchain_engine.proofs.decoding.decode.Goals as goal
 
 -- ---- no topology is spelled
-
-pub returns-in_err-read-clause-refused : goal.returns-in_err-read-clause-refused
-returns-in_err-read-clause-refused g c old new is =
-    let p = err_from_is_err_and c.from_residual.result c.from_residual.ensures.1 in
-    rw (p.1, p.2) (fails c.args.name.now old new c.args.sink.now _ (topology_read old new c.args.bytes.now is (Err _) c.in_err-read.ensures))
 
 pub returns-in_err-read-clause-decided : goal.returns-in_err-read-clause-decided
 returns-in_err-read-clause-decided g c old new is bytes outcome left comes =
@@ -35,9 +30,6 @@ returns-in_default-clause-decided g c old new is bytes outcome left comes =
     (lacks c.args.name.now old new c.in_ok-read.read.topology c.in_ok-read._counts read c.in_default.ensures.object)
 
 -- ---- the features of the object are sent
-
-pub send-sent-requires-clause-texts : goal.send-sent-requires-clause-texts
-send-sent-requires-clause-texts g c = rw c.deref.ensures.value c.in_ok-read.ensures.1
 
 pub returns-clause-written : goal.returns-clause-written
 returns-clause-written g c old new is =

@@ -1,14 +1,9 @@
 use Rattle.std.proofs.lemmas.Result.{err_from_is_err_and}
 use Rattle.mapchain_engine.proofs.FilesDecided.{found_fails}
-use Rattle.mapchain_engine.proofs.ObjectsFound.{fails, fails_decoding}
+use Rattle.mapchain_engine.proofs.ObjectsFound.{fails_decoding}
 use Rattle.mapchain_engine.proofs.decoding.to_geo.Goals as goal
 
 -- ---- the source isn't read to its end
-
-pub returns-in_err-bytes-clause-refused : goal.returns-in_err-bytes-clause-refused
-returns-in_err-bytes-clause-refused g c =
-    let p = err_from_is_err_and c.from_residual.result c.from_residual.ensures.1 in
-    rw (p.1, p.2) (fails c.args.name.now c.args.source.now c.bytes_of.new.source c.args.sink.now _ c.in_err-bytes.ensures)
 
 pub returns-in_err-bytes-clause-decided : goal.returns-in_err-bytes-clause-decided
 returns-in_err-bytes-clause-decided g c bytes outcome left comes =
@@ -17,12 +12,6 @@ returns-in_err-bytes-clause-decided g c bytes outcome left comes =
     (fails_decoding c.args.name.now c.args.source.now c.bytes_of.new.source _ c.in_err-bytes.ensures))
 
 -- ---- it is, and what its bytes spell is decoded
-
-pub returns-clause-written : goal.returns-clause-written
-returns-clause-written g c = c.decode.ensures.written c.args.source.now c.bytes_of.new.source (rw c.leak.ensures.value c.in_ok-bytes.ensures)
-
-pub returns-clause-refused : goal.returns-clause-refused
-returns-clause-refused g c = c.decode.ensures.refused c.args.source.now c.bytes_of.new.source (rw c.leak.ensures.value c.in_ok-bytes.ensures)
 
 pub returns-clause-decided : goal.returns-clause-decided
 returns-clause-decided g c bytes outcome left comes =

@@ -1,18 +1,10 @@
-use Rattle.std.proofs.Common.{ap, sym, subst, ◌∙◌}
-use Rattle.std.specs.List.{AllByRecursion}
+use Rattle.std.proofs.Common.{ap, ◌∙◌}
 use Rattle.std.specs.Option.{option_copied}
-use Rattle.owned_values.proofs.Elements.{all_at}
 use Rattle.owned_values.proofs.Lists.{mapped_more, mapped_all}
 use Rattle.build_meaning.specs.Thresholds.{placed_cells}
 use Rattle.topo_model.proofs.Picks.{arcs_are}
-use Rattle.topojson_types.specs.Validity.{IsArc, IsPlace}
 use Rattle.topo_model.proofs.Picks.{places_are}
 use Rattle.mapchain_engine.proofs.guarding.arc_positions.Goals as goal
-
-pub positions-requires : goal.positions-requires
-positions-requires c =
-    subst (AllByRecursion (IsPlace (option_copied c.args.transform))) (sym c.as_slice.ensures)
-    (all_at (IsArc (option_copied c.args.transform)) c.args.arcs.now c.arcs.arc-index c.arc-item.result c.arcs-test.true c.arc-item.is c.requires).1
 
 pub arcs-preserved : goal.arcs-preserved
 arcs-preserved c =

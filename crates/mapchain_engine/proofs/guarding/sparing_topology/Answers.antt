@@ -5,12 +5,6 @@ use Rattle.build_meaning.specs.Guarded.{arc_positions}
 use Rattle.build_meaning.specs.Protected.{greatest_ring, protecting_contents, protecting_dropped, protecting_removed_count, spared_by, spared_dropped, spared_removed_count}
 use Rattle.mapchain_engine.proofs.guarding.sparing_topology.Goals as goal
 
-pub reduce_sparing-requires-clause-ways : goal.reduce_sparing-requires-clause-ways
-reduce_sparing-requires-clause-ways c = record {
-  protects = greatest_ring (arc_positions c.args.topology);
-  are = inl (ap (map (map_some (λ v. v.items))) c.deref-in-Ok.ensures.value ∙ c.in-Ok.ensures.ways);
-}
-
 pub returns-in_ok-less-in-Ok-clause-topology : goal.returns-in_ok-less-in-Ok-clause-topology
 unfolding protecting_contents
 returns-in_ok-less-in-Ok-clause-topology c =

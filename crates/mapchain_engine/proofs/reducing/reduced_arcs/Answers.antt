@@ -12,11 +12,6 @@ use Rattle.topojson_types.specs.Validity.{IsArc}
 use Rattle.topo_model.proofs.Retained.{retained_more}
 use Rattle.mapchain_engine.proofs.reducing.reduced_arcs.Goals as goal
 
-pub reduced_arc-requires : goal.reduced_arc-requires
-reduced_arc-requires g c =
-    let valid = subst (AllByRecursion (IsArc (option_copied c.args.transform))) c.in-Some.ensures.steps.0 c.arcs.invariant.valid in
-    valid.0
-
 pub arcs-preserved : goal.arcs-preserved
 arcs-preserved g c =
     let valid = subst (AllByRecursion (IsArc (option_copied c.args.transform))) c.in-Some.ensures.steps.0 c.arcs.invariant.valid in

@@ -1,19 +1,14 @@
-use Rattle.std.proofs.Common.{◌≡◌, ◌++◌, ◌∙◌, List, length, map, ap, ap₂, refl, sym, subst}
-use Rattle.std.specs.List.{AllByRecursion}
+use Rattle.std.proofs.Common.{◌≡◌, ◌∙◌, List, length, map, ap, refl, sym, subst}
 use Rattle.std.specs.Prelude.{ℕ, Option}
 use Rattle.std.proofs.lemmas.Result.{IfOk-weaker}
 use Rattle.byte_ends.specs.Ends.{saturated}
-use Rattle.effective_area.specs.Calls.{Call, calls_for}
 use Rattle.elimination_meaning.specs.Elimination.{reduce}
-use Rattle.layer_topology.specs.Guarded.{no_guards}
-use Rattle.layer_topology.specs.declared.level.Level.TheVariants.{Fixed}
-use Rattle.mapchain_engine.specs.Simplified.{calls_of}
 use Rattle.geometry.specs.Points.{Point}
 use Rattle.build_meaning.specs.Simplified.{dropped_by, removed_count_by, retained_arcs, simplified_by}
 use Rattle.build_meaning.specs.Thresholds.{placed_cells, reduced_indexes, simplified_contents, simplified_dropped, simplified_removed_count}
 use Rattle.topojson_types.specs.declared.transform.Transform.{Transform}
 use Rattle.topojson_types.specs.Topologies.{Contents}
-use Rattle.topojson_types.specs.Validity.{IsArc, IsTopology}
+use Rattle.topojson_types.specs.Validity.{IsTopology}
 use Rattle.topo_model.proofs.Result.{parts_are}
 use Rattle.mapchain_engine.proofs.reducing.reduced_topology.Goals as goal
 
@@ -23,18 +18,6 @@ picked : (t : ℕ) (y : Contents) (arcs left : List (List Point)) (transform : O
 picked t y arcs left transform a tr is =
     is ∙ ap (λ (tr : Option Transform). retained_arcs (map (λ cells. reduce t (placed_cells tr cells)) arcs) arcs) tr
     ∙ ap (λ (arcs : List (List Point)). retained_arcs (map (λ cells. reduce t (placed_cells y.transform cells)) arcs) arcs) a
-
--- what is asked for its arcs is what is asked for the topology
-asked_for : (t : ℕ) (y : Contents) (before : List Call) (arcs : List (List Point)) (transform : Option Transform) → arcs ≡ y.arcs → transform ≡ y.transform
-    → before ++ calls_for t (map (placed_cells transform) arcs) ≡ before ++ calls_of no_guards (Fixed t) y
-asked_for t y before arcs transform a tr = ap₂ (λ (tr : Option Transform) (cs : List (List Point)). before ++ calls_for t (map (placed_cells tr) cs)) tr a
-
-pub counted_and_reduced-requires : goal.counted_and_reduced-requires
-counted_and_reduced-requires g c =
-    let y = c.args.topology in
-    let parts = c.into_parts-objects.ensures in
-    subst (λ (tr : Option Transform). AllByRecursion (IsArc tr) c.into_inner.result.items) (sym (c.as_ref.ensures.value ∙ parts.transform))
-    (subst (AllByRecursion (IsArc y.transform)) (sym (c.into_inner.ensures ∙ parts.arcs)) parts.valid.arcs)
 
 pub reassemble-requires-clause-retained : goal.reassemble-requires-clause-retained
 reassemble-requires-clause-retained g c =
@@ -79,9 +62,3 @@ returns-in-Ok-clause-removed_count g c =
     IfOk-weaker c.reassemble.result _ _
     (λ r h. h (reduced_indexes c.args.t y) y.arcs picks counted
     ∙ ap (λ z. saturated (removed_count_by (reduced_indexes c.args.t y) c.args.ring_limit z)) (parts_are y _ y.arcs _ parts.objects refl parts.transform)) c.reassemble.ensures.removed_count
-
-pub returns-in-Ok-clause-called : goal.returns-in-Ok-clause-called
-returns-in-Ok-clause-called g c =
-    let parts = c.into_parts-objects.ensures in
-    IfOk-weaker c.reassemble.result _ _
-    (λ r _. c.in-Ok.ensures.called ∙ asked_for c.args.t c.args.topology _ _ _ (c.into_inner.ensures ∙ parts.arcs) (c.as_ref.ensures.value ∙ parts.transform)) c.reassemble.ensures.topology

@@ -3,21 +3,12 @@ use Rattle.mapchain_engine.proofs.SimplifyDecided.{fault_follows, simplified_fol
 use Rattle.mapchain_engine.proofs.Whole.{cut_short, not_given, sent_whole}
 use Rattle.mapchain_engine.proofs.simplifying.simplify_watched.Goals as goal
 
-pub returns-in_err-less-clause-refused : goal.returns-in_err-less-clause-refused
-returns-in_err-less-clause-refused g c =
-    let p = err_from_is_err_and c.from_residual.result c.from_residual.ensures.1 in
-    rw (p.1, p.2) (not_given c.args.guards c.args.level c.args.ring_limit c.args.source.now c.read_and_simplify.new.source c.args.sink.now _ c.in_err-less.ensures.refused)
-
 pub returns-in_err-less-clause-decided : goal.returns-in_err-less-clause-decided
 returns-in_err-less-clause-decided g c bytes outcome left comes =
     let p = err_from_is_err_and c.from_residual.result c.from_residual.ensures.1 in
     rw (p.1, p.2)
     (fault_follows c.args.sink.now c.args.sink.now c.args.guards c.args.level c.args.ring_limit c.args.source.now c.read_and_simplify.new.source bytes left outcome comes _
     (not_given c.args.guards c.args.level c.args.ring_limit c.args.source.now c.read_and_simplify.new.source c.args.sink.now _ c.in_err-less.ensures.refused))
-
-pub returns-in-Err-clause-refused : goal.returns-in-Err-clause-refused
-returns-in-Err-clause-refused g c =
-    cut_short c.args.guards c.args.level c.args.ring_limit c.args.source.now c.read_and_simplify.new.source c.args.sink.now c.send-sent.new.sink c.in_ok-less.less c.in_ok-less.report c.in_ok-less.ensures.given _ (rw c.in-Err.is at c.send-sent.ensures)
 
 pub returns-in-Err-clause-decided : goal.returns-in-Err-clause-decided
 returns-in-Err-clause-decided g c bytes outcome left comes =

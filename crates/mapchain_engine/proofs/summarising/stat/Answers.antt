@@ -9,11 +9,6 @@ returns-in_err-parts-clause-decided g c bytes outcome left comes =
     let p = err_from_is_err_and c.from_residual.result c.from_residual.ensures.1 in
     rw (p.1, p.2) (summary_fails summary_of c.args.source.now c.read_kept.new.source bytes left outcome comes _ c.in_err-parts.ensures)
 
-pub returns-clause-reported : goal.returns-clause-reported
-returns-clause-reported g c =
-    let read = c.in_ok-parts.ensures in
-    record { contents = read.contents; counts = read.counts; read = read.read; reported = c.in_ok-summary.ensures Counted read.contents read.kept }
-
 pub returns-clause-decided : goal.returns-clause-decided
 returns-clause-decided g c bytes outcome left comes =
     let read = c.in_ok-parts.ensures in

@@ -2,7 +2,7 @@ use borrow.Author.Rules.{rules}
 use Rattle.json_writer.proofs.Appending.{begins, ends, goes, then}
 use Rattle.json_writer.proofs.Lists.{array-text}
 use Rattle.reports.specs.Lines.{line_value, lines_of}
-use Rattle.reports.proofs.Lines.{next-line, no-further-line, shorter}
+use Rattle.reports.proofs.Lines.{next-line, no-further-line}
 use Rattle.reports.proofs.explanation_writer.put_lines.Goals as goal
 
 pub lines-init : goal.lines-init
@@ -10,9 +10,6 @@ lines-init g c = record {
   left = begins _ (array-text line_value (lines_of c.args.text.now)) c.put.ensures.text c.put.ensures.kept;
   text = search rules;
 }
-
-pub lines-smaller : goal.lines-smaller
-lines-smaller g c = shorter _ _ _ _ c.in-Some.is c.split_once.ensures.cases
 
 pub lines-preserved : goal.lines-preserved
 lines-preserved g c = record {

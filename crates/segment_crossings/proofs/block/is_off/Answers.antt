@@ -1,10 +1,7 @@
-use Rattle.std.proofs.Common.{true, false, arith}
+use Rattle.std.proofs.Common.{true, arith}
 use Rattle.std.proofs.lemmas.Int.{ints}
 use Rattle.guarded_meaning.proofs.Pasch.{swapped}
 use Rattle.segment_crossings.proofs.block.is_off.Goals as goal
-
-pub returns-then-is_beyond : goal.returns-then-is_beyond
-returns-then-is_beyond c = λ e. record { side = false; off = c.is_beyond.ensures.beyond c.if-is_beyond.true }
 
 pub returns-else-is_beyond : goal.returns-else-is_beyond
 returns-else-is_beyond c = λ e. record {

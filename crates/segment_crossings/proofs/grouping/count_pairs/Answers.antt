@@ -1,16 +1,8 @@
-use Rattle.std.proofs.Common.{◌≡◌, ◌-◌, ◌<◌, drop, length, map, ap, arith}
-use Rattle.guarded_meaning.specs.Segments.{bad_pairs}
+use Rattle.std.proofs.Common.{◌-◌, ◌<◌, length, arith}
 use Rattle.segment_crossings.specs.Levels.{start_at}
-use Rattle.segment_crossings.specs.Lines.{as_segment}
 use Rattle.segment_crossings.proofs.Across.{pairs_split}
-use Rattle.segment_crossings.proofs.Lines.{no_pairs_ahead}
 use Rattle.segment_crossings.proofs.Units.{all_within, not_before}
 use Rattle.segment_crossings.proofs.grouping.count_pairs.Goals as goal
-
-pub loop-unit-init : goal.loop-unit-init
-loop-unit-init c =
-    let all : bad_pairs (map as_segment (drop (start_at c.args.starts.now 0) c.args.lines.now)) ≡ bad_pairs (map as_segment c.args.lines.now) = ap (λ r. bad_pairs (map as_segment (drop r c.args.lines.now))) c.requires.starts.first in
-    record { within = c.requires.starts.some; count = omega arith; all = omega (arith, all) }
 
 pub loop-unit-preserved : goal.loop-unit-preserved
 loop-unit-preserved c =
@@ -29,11 +21,3 @@ loop-unit-preserved c =
       count = omega (arith, f);
       all = omega (arith, c.loop-unit.invariant.all, e, f, split);
     }
-
-pub returns : goal.returns
-returns c =
-    let ls = c.args.lines.now in
-    let u = c.loop-unit.unit in
-    let end = c.requires.starts.last u (omega (arith, c.loop-unit.invariant.within, c.loop-unit-test.false)) in
-    let none = no_pairs_ahead ls (start_at c.args.starts.now u) (omega (arith, end)) in
-    omega (arith, c.loop-unit.invariant.all, c.loop-unit.invariant.count, none)

@@ -1,7 +1,7 @@
-use Rattle.std.proofs.Common.{◌≡◌, ◌+◌, ◌-◌, ap, ◌∙◌, arith}
+use Rattle.std.proofs.Common.{◌+◌, ◌-◌, ap, ◌∙◌, arith}
 use Rattle.segment_crossings.specs.Levels.{start_at}
 use Rattle.segment_crossings.specs.Lines.{bad_inside}
-use Rattle.segment_crossings.proofs.Across.{across_fewer, inside_cut, inside_none}
+use Rattle.segment_crossings.proofs.Across.{across_fewer, inside_cut}
 use Rattle.segment_crossings.proofs.Units.{not_before}
 use Rattle.segment_crossings.proofs.grouping.count_within.Goals as goal
 
@@ -26,11 +26,3 @@ loop-unit-preserved c =
       count = omega (arith, f);
       all = omega (arith, c.loop-unit.invariant.all, e, f, same, cut, fewer);
     }
-
-pub returns : goal.returns
-returns c =
-    let ss = c.args.starts.now in
-    let same : c.loop-unit.unit ≡ c.args.units.end = omega (arith, c.loop-unit.invariant.within, c.loop-unit-test.false) in
-    let last = ap (start_at ss) same in
-    let none = inside_none c.args.lines.now (start_at ss c.loop-unit.unit) (start_at ss c.args.units.end) (omega (arith, last)) in
-    omega (arith, c.loop-unit.invariant.all, c.loop-unit.invariant.count, none)

@@ -1,10 +1,7 @@
 use Rattle.std.proofs.Common.{◌+◌, List, refl, sym, subst, arith}
 use Rattle.segment_crossings.specs.declared.block.Block.{Block}
-use Rattle.segment_crossings.proofs.Units.{AreCovered, covered_more, first_over, none_covered}
+use Rattle.segment_crossings.proofs.Units.{AreCovered, covered_more, first_over}
 use Rattle.segment_crossings.proofs.levels.first_level.Goals as goal
-
-pub loop-unit-init : goal.loop-unit-init
-loop-unit-init c = subst (λ (bs : List Block). AreCovered c.args.lines.now c.args.starts.now bs 0) (sym c.in_ok-blocks.ensures.items) (none_covered c.args.lines.now c.args.starts.now)
 
 pub loop-unit-preserved : goal.loop-unit-preserved
 loop-unit-preserved c = subst (λ (bs : List Block). AreCovered c.args.lines.now c.args.starts.now bs (c.loop-unit.unit + 1)) (sym c.in_ok-push.ensures.items)

@@ -5,11 +5,6 @@ use Rattle.segment_crossings.specs.Blocks.{StarCovers}
 use Rattle.segment_crossings.specs.Lines.{as_segment, line_at}
 use Rattle.segment_crossings.proofs.run.star_round.Goals as goal
 
-pub loop-rank-init : goal.loop-rank-init
-loop-rank-init c = λ r a b.
-    let same : c.args.run.first ≡ r = omega (arith, a, b) in
-    subst (λ n. StarCovers c.args.first (as_segment (line_at c.args.lines.now n))) same c.requires.first
-
 pub loop-rank-preserved : goal.loop-rank-preserved
 loop-rank-preserved c = λ r a b. on r a b (cases_lt r c.loop-rank.rank)
   where

@@ -1,4 +1,4 @@
-use Rattle.std.proofs.Common.{ℕ, ◌≡◌, ◌+◌, ◌<◌, ◌≤◌, ◌⊎◌, inl, inr, ap, ◌∙◌, subst, arith}
+use Rattle.std.proofs.Common.{ℕ, ◌≡◌, ◌+◌, ◌<◌, ◌≤◌, ◌⊎◌, inl, inr, ◌∙◌, subst, arith}
 use Rattle.std.proofs.lemmas.Bool.{cases_lt}
 use Rattle.segment_crossings.specs.declared.line.Line.{Line}
 use Rattle.segment_crossings.specs.Lines.{as_segment, line_at}
@@ -14,11 +14,3 @@ loop-rank-preserved c = record { run = c.widened-strip.ensures.run ∙ c.loop-ra
         let same : c.loop-rank.rank ≡ r = omega (arith, b, h) in
         subst (λ n. IsBetween c.widened-strip.result (as_segment (line_at c.args.lines.now n))) same
         (subst (λ (l : Line). IsBetween c.widened-strip.result (as_segment l)) c.read_line.ensures c.widened-strip.ensures.line)
-
-pub returns : goal.returns
-returns c = record {
-  holds = λ r a b.
-      let first = ap (λ k. k.first) c.loop-rank.invariant.run in
-      let end = ap (λ k. k.end) c.loop-rank.invariant.run in
-      c.loop-rank.invariant.holds r (omega (arith, a, first)) (omega (arith, b, end, c.loop-rank-test.false));
-}

@@ -1,10 +1,7 @@
-use Rattle.std.proofs.Common.{ℕ, List, [], ◌∷◌, ◌++◌, ap, sym, subst, ◌∙◌, arith}
+use Rattle.std.proofs.Common.{sym, subst}
 use Rattle.segment_crossings.specs.Levels.{AreStarts}
-use Rattle.segment_crossings.proofs.Units.{first_start, one_more_start}
+use Rattle.segment_crossings.proofs.Units.{one_more_start}
 use Rattle.segment_crossings.proofs.unit.starts_of.Goals as goal
-
-pub loop-first-init : goal.loop-first-init
-loop-first-init c = record { starts = subst (AreStarts 0) (sym (c.in_ok-push.ensures.items ∙ ap (λ (xs : List ℕ). xs ++ 0 ∷ []) c.new-starts.ensures.items)) first_start; within = omega arith }
 
 pub loop-first-preserved : goal.loop-first-preserved
 loop-first-preserved c = record {

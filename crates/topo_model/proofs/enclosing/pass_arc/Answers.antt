@@ -29,6 +29,3 @@ cells-preserved c =
       few = omega (arith, lt);
       bound = omega (arith, c.pass.ensures.bound, c.cells.invariant.bound);
     }
-
-pub returns-clause-bound : goal.returns-clause-bound
-returns-clause-bound c = omega (arith, c.cells.invariant.bound, c.cells.invariant.few)

@@ -1,22 +1,9 @@
-use Rattle.std.proofs.Common.{ap, sym, subst, ◌∙◌}
-use Rattle.std.specs.List.{AllByRecursion}
+use Rattle.std.proofs.Common.{◌∙◌}
 use Rattle.std.specs.Option.{option_copied}
 use Rattle.build_meaning.specs.Thresholds.{placed_cells}
-use Rattle.owned_values.proofs.Elements.{all_at}
-use Rattle.owned_values.proofs.Lists.{mapped_more, mapped_all}
-use Rattle.topojson_types.specs.Validity.{IsPlace}
+use Rattle.owned_values.proofs.Lists.{mapped_all}
 use Rattle.topo_model.proofs.Picks.{arcs_are}
 use Rattle.topo_model.proofs.placing.placed_arcs.Goals as goal
-
-pub placed_cells-requires : goal.placed_cells-requires
-placed_cells-requires c =
-    subst (AllByRecursion (IsPlace (option_copied c.args.transform))) (sym c.as_slice.ensures)
-    (all_at (AllByRecursion (IsPlace (option_copied c.args.transform))) c.args.arcs.now c.arcs.arc-index c.arc-item.result c.arcs-test.true c.arc-item.is c.requires)
-
-pub arcs-preserved : goal.arcs-preserved
-arcs-preserved c =
-    mapped_more (placed_cells (option_copied c.args.transform)) c.args.arcs.now c.arcs.arc-index c.arc-item.result c.arcs.placed.items c.push.new.self.items c.in_ok-placed_cells.field-0 c.arcs-test.true
-    c.arc-item.is c.arcs.invariant (c.in_ok-placed_cells.ensures ∙ ap (placed_cells (option_copied c.args.transform)) c.as_slice.ensures) c.in_ok-push.ensures.items
 
 pub returns : goal.returns
 returns c =

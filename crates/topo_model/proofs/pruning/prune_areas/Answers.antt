@@ -1,4 +1,4 @@
-use Rattle.std.proofs.Common.{◌≡◌, true, ◌++◌, get_or, refl, ap, ◌∙◌}
+use Rattle.std.proofs.Common.{◌≡◌, true, ◌++◌, get_or, ap, ◌∙◌}
 use Rattle.geometry.specs.DropCauses.{area_drop_causes}
 use Rattle.geometry.specs.Lists.{map_some}
 use Rattle.geometry.specs.Pruning.{area_by}
@@ -7,16 +7,9 @@ use Rattle.build_meaning.specs.OuterRings.{rings_marked}
 use Rattle.build_meaning.specs.Protected.{cause_sparing, sparing}
 use Rattle.topo_model.specs.Drops.{unkept_cause}
 use Rattle.topo_model.specs.Places.{dropped_at}
-use Rattle.topo_model.proofs.Prefix.{starts, turns, ends}
+use Rattle.topo_model.proofs.Prefix.{turns}
 use Rattle.topo_model.proofs.pruning.prune_areas.Goals.{then-stays, else-stays}
 use Rattle.topo_model.proofs.pruning.prune_areas.Goals as goal
-
-pub loop-i-init : goal.loop-i-init
-loop-i-init g c = record {
-  here = refl;
-  walked = starts rings_marked (area_by (sparing (g.K.Keeps.keeps c.args.keeps.now) true)) (area_drop_causes (cause_sparing (unkept_cause (g.K.Keeps.keeps c.args.keeps.now)) true)) (map_some (λ w. w.now) c.args.way) c.args.place.now
-      0 c.as_mut_slice-parts.result.now c.args.dropped.now.items;
-}
 
 pub loop-i-preserved : goal.loop-i-preserved
 loop-i-preserved g c =
@@ -32,11 +25,3 @@ loop-i-preserved g c =
       here = c.leave.ensures c.args.place.now c.loop-i.i at;
       walked = elim c.if-stays.branch [ then-stays w ↦ rw (w.parts-is, w.kept-is, w.swap.ensures.after) (turn.0 w.if-stays.true) | else-stays w ↦ rw (w.parts-is, w.kept-is) (turn.1 w.if-stays.false) ];
     }
-
-pub returns : goal.returns
-returns g c =
-    let left = area_by (sparing (g.K.Keeps.keeps c.args.keeps.now) true) in
-    let why = area_drop_causes (cause_sparing (unkept_cause (g.K.Keeps.keeps c.args.keeps.now)) true) in
-    let k = ends rings_marked left why (map_some (λ w. w.now) c.args.way) c.args.place.now 0 c.as_mut_slice-parts.result.now c.args.areas.now c.args.dropped.now.items c.loop-i.i c.loop-i.kept c.loop-i.parts c.loop-i.dropped.items
-    c.as_mut_slice-parts.ensures.value c.loop-i-test.false c.loop-i.invariant.walked in
-    record { place = c.loop-i.invariant.here; left = c.truncate.ensures ∙ k.0; dropped = k.1 }

@@ -6,14 +6,9 @@ use Rattle.geometry.specs.Paths.{Placed, of_parts}
 use Rattle.junctions.specs.Gathering.{part_address}
 use Rattle.topo_model.specs.Drops.{unkept_cause}
 use Rattle.topo_model.specs.Places.{dropped_at}
-use Rattle.topo_model.proofs.Prefix.{along_alone, if_none, starts, turns, ends}
+use Rattle.topo_model.proofs.Prefix.{along_alone, if_none, turns, ends}
 use Rattle.topo_model.proofs.pruning.prune_lines.Goals.{then-is_none, else-is_none}
 use Rattle.topo_model.proofs.pruning.prune_lines.Goals as goal
-
-pub loop-i-init : goal.loop-i-init
-loop-i-init g c =
-    starts (λ (x : List ℤ) (w : Option (List ℕ)). x) (g.K.Keeps.keeps c.args.keeps.now c.args.closed) (λ x. here (inner_cause c.args.outer (unkept_cause (g.K.Keeps.keeps c.args.keeps.now) c.args.closed x))) None c.args.place.now
-    c.args.first c.as_mut_slice-parts.result.now c.args.dropped.now.items
 
 pub loop-i-preserved : goal.loop-i-preserved
 loop-i-preserved g c =

@@ -1,8 +1,5 @@
-use Rattle.std.proofs.Common.{length, refl, ap, ◌∙◌}
-use Rattle.std.proofs.lemmas.List.{take_all}
+use Rattle.std.proofs.Common.{length, refl}
 use Rattle.std.proofs.lemmas.Option.{slice_get_past, slice_get_read}
-use Rattle.geometry.specs.Joins.{at}
-use Rattle.geometry.specs.Lists.{some_of}
 use Rattle.topo_model.proofs.Picks.{retained_none, retained_one}
 use Rattle.topo_model.proofs.retaining.retained_cells.Goals as goal
 
@@ -16,6 +13,3 @@ numbers-preserved c =
     let found = c.in-Some.ensures.lookup in
     retained_one c.args.cells.now c.numbers.stay.items c.push.new.self.items c.args.numbers.now c.numbers.number-index 0 c.in-Some.cell.now c.numbers-test.true
     (slice_get_read c.args.cells.now (length c.args.cells.now) _ c.in-Some.cell.now refl found.3.0 found.1) c.numbers.invariant c.in_ok-push.ensures.items
-
-pub returns : goal.returns
-returns c = c.of.ensures ∙ c.numbers.invariant ∙ ap (some_of (at c.args.cells.now)) (take_all c.numbers.number-index c.args.numbers.now c.numbers-test.false)

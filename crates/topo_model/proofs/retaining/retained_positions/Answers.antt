@@ -1,8 +1,5 @@
 use Rattle.std.proofs.Common.{length, [], ◌∷◌, ◌++◌, refl, ap, ◌∙◌}
-use Rattle.std.proofs.lemmas.List.{take_all}
 use Rattle.std.proofs.lemmas.Option.{slice_get_past, slice_get_read}
-use Rattle.geometry.specs.Joins.{at}
-use Rattle.geometry.specs.Lists.{some_of}
 use Rattle.topo_model.proofs.Picks.{retained_none, retained_one}
 use Rattle.topo_model.proofs.retaining.retained_positions.Goals as goal
 
@@ -17,6 +14,3 @@ numbers-preserved c =
     retained_one c.args.positions.now c.numbers.cells.items c.push.new.self.items c.args.numbers.now c.numbers.number-index 0 c.in-Some.position.now c.numbers-test.true
     (slice_get_read c.args.positions.now (length c.args.positions.now) _ c.in-Some.position.now refl found.3.0 found.1) c.numbers.invariant
     (c.in_ok-push.ensures.items ∙ ap (λ p. c.numbers.cells.items ++ p ∷ []) c.of.ensures)
-
-pub returns : goal.returns
-returns c = c.of-2.ensures ∙ c.numbers.invariant ∙ ap (some_of (at c.args.positions.now)) (take_all c.numbers.number-index c.args.numbers.now c.numbers-test.false)

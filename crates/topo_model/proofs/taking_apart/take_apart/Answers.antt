@@ -8,9 +8,6 @@ use Rattle.topojson_types.specs.declared.object.TopoObject.TheVariants.{Many}
 use Rattle.topo_model.specs.Drafts.{feature_relined, no_refs, objects_relined}
 use Rattle.topo_model.proofs.taking_apart.take_apart.Goals as goal
 
-pub layers-init : goal.layers-init
-layers-init c = (c.in_ok-objects.ensures.items, c.none-outlines.ensures)
-
 pub layers-preserved : goal.layers-preserved
 layers-preserved c =
     let here : List ℕ × Layer = (c.in-Some.name, c.in-Some.layer) in

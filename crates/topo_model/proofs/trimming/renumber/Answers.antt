@@ -1,12 +1,7 @@
 use Rattle.std.proofs.Common.{length, slice_get, refl, sym, ap, ◌∙◌}
-use Rattle.std.proofs.lemmas.Option.{slice_get_past, slice_get_read}
-use Rattle.topo_model.proofs.Renumbered.{by_no_new_index, by_new_index_forwards, by_new_index_backwards}
+use Rattle.std.proofs.lemmas.Option.{slice_get_read}
+use Rattle.topo_model.proofs.Renumbered.{by_new_index_forwards, by_new_index_backwards}
 use Rattle.topo_model.proofs.trimming.renumber.Goals as goal
-
-pub returns-in_default : goal.returns-in_default
-returns-in_default c =
-    by_no_new_index c.args.renumbering.now c.args.index
-    (ap (slice_get c.args.renumbering.now) (sym c.index.ensures) ∙ slice_get_past c.args.renumbering.now c.index.result c.in_default.ensures.lookup.3)
 
 pub returns-then-reversed : goal.returns-then-reversed
 returns-then-reversed c =

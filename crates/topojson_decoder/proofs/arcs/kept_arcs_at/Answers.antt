@@ -1,11 +1,10 @@
-use Rattle.std.proofs.Common.{◌∙◌, Ok, ap, refl}
+use Rattle.std.proofs.Common.{refl}
 use Rattle.std.specs.Option.{option_copied}
 use Rattle.json_cursor.specs.Arrays.{prefix_value}
 use Rattle.json_cursor.proofs.Steps.{then_stops}
 use Rattle.topojson_meaning.specs.Arcs.{arc_list}
 use Rattle.topojson_meaning.specs.Reader.{give}
 use Rattle.topojson_decoder.specs.Kept.{held_arcs, kept_arc_list}
-use Rattle.topojson_decoder.proofs.KeptParts.{all_held, made}
 use Rattle.topojson_decoder.proofs.arcs.kept_arcs_at.Goals as goal
 
 pub returns-in-Counted : goal.returns-in-Counted
@@ -15,9 +14,3 @@ pub returns-in-Err : goal.returns-in-Err
 returns-in-Err c =
     let list = arc_list (option_copied c.args.transform) in
     then_stops list (λ arcs. give (held_arcs c.args.keeping arcs)) (kept_arc_list c.args.keeping (option_copied c.args.transform)) (prefix_value c.args.depth_left c.args.bytes.now) c.args.counts.now (λ v. refl) c.in-Err.stop c.in-Err.ensures
-
-pub returns-in-Ok : goal.returns-in-Ok
-returns-in-Ok c =
-    let r = c.in-Ok.ensures in
-    let read = made (held_arcs c.args.keeping) (arc_list (option_copied c.args.transform) r.value) c.args.counts.now _ _ r.means in
-    record { value = r.value; prefix_is = r.prefix_is; means = read ∙ ap (λ arcs. Ok (arcs, c.spelled_arcs_at.new.counts)) (all_held c.args.keeping c.in-Whole.is c.in-Ok.list) }

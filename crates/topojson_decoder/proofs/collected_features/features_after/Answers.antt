@@ -1,4 +1,4 @@
-use Rattle.std.proofs.Common.{[], ◌∷◌, ◌++◌, length, refl, sym, ◌∙◌, arith}
+use Rattle.std.proofs.Common.{[], ◌∷◌, ◌++◌, length, sym, ◌∙◌, arith}
 use Rattle.std.specs.Option.{option_copied}
 use Rattle.std.specs.Str.{is_utf8}
 use Rattle.std.proofs.lemmas.List.{length-append}
@@ -10,16 +10,8 @@ use Rattle.json_cursor.proofs.FoldedSoFar as so_far
 use Rattle.topojson_meaning.specs.Reader.{each}
 use Rattle.topojson_decoder.specs.Kept.{kept_feature}
 use Rattle.topojson_decoder.proofs.FeatureLists as part
-use Rattle.topojson_decoder.proofs.KeptParts.{listed_more, none_listed}
+use Rattle.topojson_decoder.proofs.KeptParts.{listed_more}
 use Rattle.topojson_decoder.proofs.collected_features.features_after.Goals as goal
-
-pub features-init : goal.features-init
-features-init c = record {
-  each = [];
-  so_far = so_far.starts (with_read (one (kept_feature c.args.keeping (option_copied c.args.transform) c.args.arcs.now))) (value_at is_utf8 c.args.depth_left) (length c.args.inside.now) (prefix_elements c.args.depth_left (length c.args.inside.now) c.args.inside.now) [] c.args.counts.now c.args.inside.now refl;
-  are = c.new-read.ensures.items ∙ sym (none_listed c.args.keeping);
-  counted = refl;
-}
 
 pub returns-in-Err : goal.returns-in-Err
 returns-in-Err c =

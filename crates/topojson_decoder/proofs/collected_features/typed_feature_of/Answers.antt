@@ -1,17 +1,12 @@
-use Rattle.std.proofs.Common.{None, sym}
+use Rattle.std.proofs.Common.{sym}
 use Rattle.std.specs.Option.{option_copied}
 use Rattle.topojson_meaning.specs.Features as features
 use Rattle.topojson_decoder.specs.Features.{feature, kept_typed_feature, typed_feature}
 use Rattle.topojson_decoder.specs.Kept.{of_feature}
 use Rattle.topojson_decoder.proofs.FeatureParts as by
-use Rattle.topojson_decoder.proofs.KeptParts.{made_alike, made_fault}
+use Rattle.topojson_decoder.proofs.KeptParts.{made_alike}
 use Rattle.topojson_decoder.proofs.MemberOccurrences.{judges_same}
 use Rattle.topojson_decoder.proofs.collected_features.typed_feature_of.Goals as goal
-
-pub returns-in-Err : goal.returns-in-Err
-returns-in-Err c = λ ms is.
-    made_fault (of_feature c.args.start.keeping) (typed_feature (option_copied c.args.start.transform) c.args.start.arcs.now ms) c.args.start.counts c.in-Err.fault
-    (by.faulty_type (option_copied c.args.start.transform) c.args.start.arcs.now None ms c.args.start.counts c.in-Err.fault (sym (c.in-Err.ensures ms is.parts.kind)))
 
 pub returns-in-Ok : goal.returns-in-Ok
 returns-in-Ok c = λ ms is.

@@ -4,9 +4,6 @@ use Rattle.topojson_decoder.specs.Geometries.{part}
 use Rattle.topojson_decoder.proofs.MemberOccurrences.{judged}
 use Rattle.topojson_decoder.proofs.geometry_parts.shape_by.Goals as goal
 
-pub returns-in-Ok : goal.returns-in-Ok
-returns-in-Ok c = λ v rest found is. rw (sym c.in-Ok.ensures.value) at (is (c.if-is_by.ensures refl))
-
 pub returns-in-Err : goal.returns-in-Err
 returns-in-Err c = λ v rest found is. rw (sym c.in-Err.ensures.value) at (is (c.if-is_by.ensures refl))
 

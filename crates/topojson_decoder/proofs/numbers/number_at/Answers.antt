@@ -2,12 +2,8 @@ use Rattle.std.proofs.Common.{◌≡◌, arith}
 use Rattle.std.proofs.lemmas.Int.{ints}
 use mir.Syntax.{w64}
 use mir.Val.{to_z, of_z}
-use Rattle.geometry.specs.Units.{unit_places, input_limit, position_limit}
 use Rattle.topojson_decoder.proofs.NumberParts.{number_reads}
 use Rattle.topojson_decoder.proofs.numbers.number_at.Goals as goal
-
-pub returns-in-Some-clause-answers : goal.returns-in-Some-clause-answers
-returns-in-Some-clause-answers c = rw c.in-Units.is (λ counts. number_reads unit_places input_limit position_limit c.args.depth_left c.args.bytes.now _ _ _ counts (omega arith) c.in-Some.ensures.units)
 
 pub returns-in-None-clause-answers : goal.returns-in-None-clause-answers
 returns-in-None-clause-answers c = rw c.in-Units.is c.value_number_at.ensures.answers

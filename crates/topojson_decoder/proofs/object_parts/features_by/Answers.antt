@@ -3,9 +3,6 @@ use Rattle.topojson_decoder.specs.ObjectParts.{features}
 use Rattle.topojson_decoder.proofs.MemberOccurrences.{judged}
 use Rattle.topojson_decoder.proofs.object_parts.features_by.Goals as goal
 
-pub returns-in-Ok : goal.returns-in-Ok
-returns-in-Ok c = λ v is. rw c.in-Ok.is at (rw c.in-Some.is at is.read)
-
 pub returns-in-Err : goal.returns-in-Err
 returns-in-Err c = λ v is. rw c.in-Err.is at (rw c.in-Some.is at is.read)
 

@@ -1,4 +1,4 @@
-use Rattle.std.proofs.Common.{None, Err, Ok}
+use Rattle.std.proofs.Common.{None, Err}
 use Rattle.std.specs.Option.{option_copied}
 use Rattle.json_cursor.specs.Arrays.{prefix_value}
 use Rattle.topojson_meaning.specs.Objects.{object}
@@ -11,8 +11,3 @@ pub returns-in-Err : goal.returns-in-Err
 returns-in-Err c =
     answers_back (held_object (Whole None)) (λ k. k.object) (whole_object None) (object (option_copied c.args.transform) c.args.arcs.now) (prefix_value c.args.depth_left c.args.bytes.now) c.args.counts.now c.kept_object_at.new.counts
     (Err c.in-Err.stop) c.in-Err.ensures
-
-pub returns-in-Ok : goal.returns-in-Ok
-returns-in-Ok c =
-    answers_back (held_object (Whole None)) (λ k. k.object) (whole_object None) (object (option_copied c.args.transform) c.args.arcs.now) (prefix_value c.args.depth_left c.args.bytes.now) c.args.counts.now c.kept_object_at.new.counts
-    (Ok (c.in-Ok.kept, c.in-Ok.rest)) c.in-Ok.ensures

@@ -2,12 +2,8 @@ use Rattle.std.proofs.Common.{◌<◌, arith}
 use Rattle.std.proofs.lemmas.Result.{err_from_is_err_and}
 use Rattle.std.specs.Str.{is_utf8}
 use Rattle.json_value.specs.Reading.{value_at}
-use Rattle.json_cursor.proofs.Lists.{no_turn}
 use Rattle.topojson_decoder.proofs.PairParts as part
 use Rattle.topojson_decoder.proofs.pairs.second_at.Goals as goal
-
-pub returns-then-turns-eq0-clause-answers : goal.returns-then-turns-eq0-clause-answers
-returns-then-turns-eq0-clause-answers c = λ counts. no_turn (value_at is_utf8 c.args.depth_left) c.args.turns c.args.bytes.now c.if-turns-eq0.true
 
 pub returns-in-Err-clause-answers : goal.returns-in-Err-clause-answers
 returns-in-Err-clause-answers c = λ counts.

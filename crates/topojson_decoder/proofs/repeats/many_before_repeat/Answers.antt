@@ -1,12 +1,7 @@
 use Rattle.std.proofs.Common.{◌≡◌, [], rules}
 use Rattle.std.proofs.lemmas.List.{nil_from_length}
-use Rattle.topojson_decoder.proofs.Repeating.{least_found, numbered_more}
+use Rattle.topojson_decoder.proofs.Repeating.{least_found}
 use Rattle.topojson_decoder.proofs.repeats.many_before_repeat.Goals as goal
-
-pub members-preserved : goal.members-preserved
-members-preserved g c =
-    numbered_more c.args.members.now c.members.index c.index-members-index.result c.members-test.true c.index-members-index.is c.members.named.items c.push.new.self.items _ c.members.invariant
-    c.in_ok-push.ensures.items (search rules) (search rules)
 
 pub returns : goal.returns
 returns g c =

@@ -1,4 +1,3 @@
-use Rattle.std.proofs.Common.{sym, ◌∙◌}
 use Rattle.std.specs.Prelude.{codes}
 use Rattle.std.specs.Option.{option_copied}
 use Rattle.json_value.specs.Members.{named}
@@ -23,9 +22,3 @@ pub returns-in-Ok-clause-gives : goal.returns-in-Ok-clause-gives
 returns-in-Ok-clause-gives c = λ ms h.
     let at = part.needed_prefix c.args.depth_left (named (codes "objects") ms) c.in-Once.at (rw c.in-Once.is at h) in
     part.part_reads (codes "objects") (kept_objects c.args.keeping (option_copied c.args.transform) c.args.arcs.now) ms c.args.counts.now _ c.args.depth_left c.in-Once.at _ _ at c.in-Ok.ensures
-
-pub returns-in-Ok-clause-there : goal.returns-in-Ok-clause-there
-returns-in-Ok-clause-there c = λ h.
-    let none = rw c.in-Once.is at h in
-    let wrong = sym none ∙ c.in-Ok.ensures.prefix_is in
-    cc

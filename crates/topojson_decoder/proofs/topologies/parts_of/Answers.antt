@@ -65,6 +65,3 @@ returns-in-Ok-objects_of-clause-gives c = λ texts ms h.
     let reads = part.read_by (codes "objects") _ _ (over_kept c.args.keeping t arcs.whole) ms c.arcs_of.new.counts ∙ read.reads in
     parts_made c.args.keeping ms c.args.counts.now c.objects_of.new.counts (record { objects = read.whole; arcs = arcs.whole; transform = t }) c.in-Ok-objects_of.objects.list c.into_parts-arcs.result.0 c.in-Ok-arcs_of.arcs.positions c.in-Ok-objects_of.objects.features (ap (λ k. k.list) read.is) (c.into_parts-arcs.ensures.arcs ∙ list) (ap (λ k. k.positions) arcs.is) (ap (λ k. k.features) read.is)
     (part.all_read ms c.args.counts.now typed t found arcs.whole c.arcs_of.new.counts arcs.reads read.whole c.objects_of.new.counts reads)
-
-pub invariant_of-result : goal.invariant_of-result
-invariant_of-result c = rw (sym c.as_ref-in-Ok-objects_of.ensures.value, c.into_parts-arcs.ensures.arcs) (c.texts_by-texts.ensures _ c.into_parts-arcs.ensures.texts)

@@ -9,7 +9,3 @@ use Rattle.topojson_decoder.proofs.topologies.topology_at.Goals as goal
 pub returns-in-Err : goal.returns-in-Err
 returns-in-Err c = rw c.in-Err.is at
     (answers_back (of_contents (Whole None)) parts_contents (whole_contents None) value_contents (prefix_value c.args.depth_left c.args.bytes.now) c.args.counts.now c.kept_topology_at.new.counts c.kept_topology_at.result c.kept_topology_at.ensures)
-
-pub returns-in-Ok : goal.returns-in-Ok
-returns-in-Ok c = rw c.taken_apart-parts.ensures.parts (rw c.in-Ok.is at
-    (answers_back (of_contents (Whole None)) parts_contents (whole_contents None) value_contents (prefix_value c.args.depth_left c.args.bytes.now) c.args.counts.now c.kept_topology_at.new.counts c.kept_topology_at.result c.kept_topology_at.ensures))

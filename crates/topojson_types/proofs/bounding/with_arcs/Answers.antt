@@ -1,13 +1,8 @@
 use Rattle.std.proofs.Common.{List, ap, ◌∙◌}
 use Rattle.geometry.specs.Points.{Point}
 use Rattle.topojson_types.specs.Widening.{widened_by}
-use Rattle.topojson_types.proofs.Boxes.{turns, ends, lists_of}
+use Rattle.topojson_types.proofs.Boxes.{ends, lists_of}
 use Rattle.topojson_types.proofs.bounding.with_arcs.Goals as goal
-
-pub arcs-preserved : goal.arcs-preserved
-arcs-preserved c =
-    turns (λ (cs : List Point). cs) c.args.arcs.now c.arcs.arc-index c.args.bounds c.arcs.all _ c.arc-item.result c.arcs-test.true c.arc-item.is c.arcs.invariant
-    (c.with_cells-all.ensures ∙ ap (widened_by c.arcs.all) c.as_slice.ensures)
 
 pub returns : goal.returns
 returns c =

@@ -2,9 +2,6 @@ use Rattle.std.proofs.Common.{◌≡◌, ◌-ℤ◌, arith, to_z, of_z, w64}
 use Rattle.std.proofs.lemmas.Int.{ints}
 use Rattle.topojson_types.proofs.differing.difference.Goals as goal
 
-pub at-requires : goal.at-requires
-at-requires c = (omega (arith, ints, c.requires.before.0, c.requires.cell.0), omega (arith, ints, c.requires.before.1, c.requires.cell.1))
-
 pub returns : goal.returns
 returns c =
     let x : to_z w64 (of_z w64 (to_z w64 (of_z w64 c.x.result) -ℤ to_z w64 (of_z w64 c.x-2.result))) ≡ c.args.cell.x -ℤ c.args.before.x = omega (arith, ints) in

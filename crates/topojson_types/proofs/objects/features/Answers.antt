@@ -1,15 +1,9 @@
 use Rattle.std.proofs.Common.{sym}
-use Rattle.topojson_types.proofs.NamedObjects.{one_stands, many_stand, decoded_one, decoded_many, decoded_none}
+use Rattle.topojson_types.proofs.NamedObjects.{decoded_one, decoded_many, decoded_none}
 use Rattle.topojson_types.proofs.objects.features.Goals as goal
 
 pub returns-in_default-clause-absent : goal.returns-in_default-clause-absent
 returns-in_default-clause-absent c _ = decoded_none c.args.topology.now c.args.name.now (sym c.in_default.ensures.object)
-
-pub feature-requires : goal.feature-requires
-feature-requires c = one_stands c.args.topology.now c.in-Some.object.now c.in-One.one c.in-Some.ensures.stands c.in-One.is
-
-pub members-requires : goal.members-requires
-members-requires c = rw c.as_slice.ensures (many_stand c.args.topology.now c.in-Some.object.now c.in-Many.many c.in-Some.ensures.stands c.in-Many.is)
 
 pub returns-in_ok-feature-in-One-clause-found : goal.returns-in_ok-feature-in-One-clause-found
 returns-in_ok-feature-in-One-clause-found c =

@@ -1,8 +1,5 @@
-use Rattle.topojson_writer.proofs.LineTexts.{first_added, later_added}
+use Rattle.topojson_writer.proofs.LineTexts.{later_added}
 use Rattle.topojson_writer.proofs.line_source.added_by.Goals as goal
-
-pub returns-then-is_first : goal.returns-then-is_first
-returns-then-is_first c = λ arc is. rw c.if-is_first.true (first_added arc c.args.text.now c.in_ok-positions.positions.now c.in_ok-positions.field-0-0.now is (c.in_ok-positions.ensures).cases.0)
 
 pub returns-else-is_first : goal.returns-else-is_first
 returns-else-is_first c = λ arc is.

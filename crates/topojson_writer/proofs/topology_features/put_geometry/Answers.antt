@@ -11,7 +11,3 @@ use Rattle.topojson_writer.proofs.topology_features.put_geometry.Goals as goal
 pub returns-in-None-clause-text : goal.returns-in-None-clause-text
 returns-in-None-clause-text g c =
     as_part _ (ap (λ o. json_text (geometry_value (then_some (shape_in c.args.topology.now) (option_copied o)))) c.in-None.is ∙ text-null) c.put.ensures.text
-
-pub returns-in-Some-clause-text : goal.returns-in-Some-clause-text
-returns-in-Some-clause-text g c =
-    as_part _ (ap (λ o. json_text (geometry_value (then_some (shape_in c.args.topology.now) (option_copied o)))) c.in-Some.is) c.put_shape.ensures.text

@@ -10,9 +10,6 @@ pub returns-in-Some : goal.returns-in-Some
 returns-in-Some c = λ d ms is.
     part.is_element c.args.start.exact ms c.args.start.counts c.args.self.kind is.kind ∙ ap (part.unless c.args.start.exact ms c.args.start.counts) (sym c.type_fault.ensures ∙ c.in-Some.is)
 
-pub feature_of-requires : goal.feature_of-requires
-feature_of-requires c = (c.requires.1, c.requires.2.fields)
-
 pub returns : goal.returns
 returns c = λ d ms is.
     judges_same (feature_element c.args.start.exact (j.Object ms)) (feature c.args.start.exact ms) c.args.start.counts _

@@ -1,19 +1,9 @@
 use Rattle.std.proofs.Common.{Some, sym, ap, ◌∙◌}
-use Rattle.grid_snap.proofs.Least.{none_over, over_bounds, span_cast, axis_cast, both_axes}
+use Rattle.grid_snap.proofs.Least.{none_over, over_bounds, axis_cast, both_axes}
 use Rattle.grid_snap.proofs.grid.Grid.within.Goals as goal
 
 pub returns-in_err-bounds : goal.returns-in_err-bounds
 returns-in_err-bounds c ps e = c.from_residual.ensures ∙ sym (none_over c.args.count ps (e ∙ c.in_err-bounds.was))
-
-pub axis_over-across-requires-clause-span : goal.axis_over-across-requires-clause-span
-axis_over-across-requires-clause-span c =
-    let b = rw c.in_ok-bounds.was at c.requires.bounds in
-    span_cast c.in_ok-bounds.bounds.left c.in_ok-bounds.bounds.right b.x
-
-pub axis_over-up-requires-clause-span : goal.axis_over-up-requires-clause-span
-axis_over-up-requires-clause-span c =
-    let b = rw c.in_ok-bounds.was at c.requires.bounds in
-    span_cast c.in_ok-bounds.bounds.bottom c.in_ok-bounds.bounds.top b.y
 
 pub returns : goal.returns
 returns c ps is =

@@ -1,5 +1,5 @@
 use Rattle.std.specs.BinaryHeap.{heap_items}
-use Rattle.guarded_reduction.proofs.Queues.{first_of_sorted, first_on_heap, off_heap, off_sorted}
+use Rattle.guarded_reduction.proofs.Queues.{first_of_sorted, first_on_heap, off_heap}
 use Rattle.guarded_reduction.proofs.corner_queue.CornerQueue.pop.Goals as goal
 
 pub returns-then-is_on_heap-clause-permutation : goal.returns-then-is_on_heap-clause-permutation
@@ -9,9 +9,6 @@ pub returns-then-is_on_heap-clause-first : goal.returns-then-is_on_heap-clause-f
 returns-then-is_on_heap-clause-first c =
     first_on_heap c.pop.result c.self.inside.sorted.items (heap_items c.self.inside.heap) (heap_items c.pop.new.self) c.args.self.now c.self.view_is c.self.invariant.1
     (rw c.deref.ensures.value at (c.is_on_heap.ensures.on_heap c.if-is_on_heap.true)) c.pop.ensures.heap_order
-
-pub returns-clause-permutation : goal.returns-clause-permutation
-returns-clause-permutation c = off_sorted c.pop-2.result c.self.inside.sorted.items c.pop-2.new.self.items (heap_items c.self.inside.heap) c.args.self.now c.self.view_is c.pop-2.ensures.items
 
 pub returns-clause-first : goal.returns-clause-first
 returns-clause-first c =

@@ -1,10 +1,9 @@
 use Rattle.std.proofs.Common.{arith, ◌≡◌, ◌<◌, ◌^◌, false, List, ap, length, replicate, subst, sym, ◌∙◌}
 use Rattle.geometry.specs.Points.{Point}
 use Rattle.guarded_reduction.specs.PlacedLists.{Placed, all_placed}
-use Rattle.guarded_reduction.specs.First.{after_index, before_index}
 use Rattle.guarded_reduction.specs.Linking.{IsWhole}
 use Rattle.guarded_reduction.specs.SideBySide.{afters_in, befores_in}
-use Rattle.guarded_reduction.proofs.Starts.{first_is, first_whole, links_many}
+use Rattle.guarded_reduction.proofs.Starts.{first_is, first_whole}
 use Rattle.guarded_reduction.proofs.linked_places.LinkedPlaces.of.Goals as goal
 
 pub invariant_of-result : goal.invariant_of-result
@@ -16,7 +15,3 @@ invariant_of-result c =
     (ap (λ (x : Placed). x.left) c.in_ok-places.ensures ∙ ap (λ (x : Placed). x.left) (ap (λ ps. all_placed c.args.no_crossings ps) (sym (ap (λ (x : Placed). x.positions) c.in_ok-places.ensures)))) (c.in_ok-neighbours.ensures.befores ∙ c.deref.ensures.value ∙ c.in_ok-befores.ensures) (c.in_ok-neighbours.ensures.afters ∙ c.deref-2.ensures.value ∙ c.in_ok-afters.ensures)
     (c.in_ok-fixed.ensures.items_if_clones_equal (λ y e. e) ∙ ap (λ n. replicate n false) many)))
     (first_whole c.in_ok-places.places.indexed c.args.arcs.now (subst (λ (ps : List Point). length ps < 2 ^ 60) same c.in_ok-positions.ensures.few))
-
-pub side_by_side-requires : goal.side_by_side-requires
-side_by_side-requires c =
-    ap length (c.deref-2.ensures.value ∙ c.in_ok-afters.ensures) ∙ links_many after_index 0 c.args.arcs.now ∙ sym (links_many before_index 0 c.args.arcs.now) ∙ sym (ap length (c.deref.ensures.value ∙ c.in_ok-befores.ensures))

@@ -2,7 +2,7 @@ use Rattle.std.proofs.Common.{◌∙◌, sym, ap, arith}
 use Rattle.std.specs.Option.{option_copied}
 use Rattle.topo_model.specs.DraftUses.{area_uses}
 use Rattle.topo_model.specs.Marks.{also_set}
-use Rattle.topo_model.proofs.DraftUses.{no_rings, no_outer, with_outer}
+use Rattle.topo_model.proofs.DraftUses.{no_rings, no_outer}
 use Rattle.topo_model.proofs.draft_uses.AreasMarkArcsItemsItemsArcRef.mark.Goals as goal
 
 pub returns-in_default : goal.returns-in_default
@@ -12,9 +12,4 @@ returns-in_default c =
 pub returns-else-count-gt0 : goal.returns-else-count-gt0
 returns-else-count-gt0 c =
     no_outer c.as_slice-rings.result.now c.in-Some.outer.now c.args.used.now c.in-Some.ensures.value (omega (arith, c.len-count.ensures, c.if-count-gt0.false))
-    ∙ ap (λ rs. also_set (area_uses rs) 0 c.args.used.now) c.as_slice-rings.ensures
-
-pub returns-then-count-gt0 : goal.returns-then-count-gt0
-returns-then-count-gt0 c =
-    with_outer c.as_slice-rings.result.now c.in-Some.outer.now c.args.used.now c.mark_all.new.used c.in-Some.ensures.value (omega (arith, c.len-count.ensures, c.if-count-gt0.true)) c.mark_all.ensures
     ∙ ap (λ rs. also_set (area_uses rs) 0 c.args.used.now) c.as_slice-rings.ensures

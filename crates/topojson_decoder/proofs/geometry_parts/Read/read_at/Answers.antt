@@ -3,11 +3,6 @@ use Rattle.std.proofs.lemmas.Result.{err_from_is_err_and}
 use Rattle.topojson_decoder.specs.Geometries.{part}
 use Rattle.topojson_decoder.proofs.geometry_parts.Read.read_at.Goals as goal
 
-pub returns-in-Ok : goal.returns-in-Ok
-returns-in-Ok c =
-    let read = c.in-Ok.ensures in
-    (read.value, read.prefix_is, (refl, read.means))
-
 pub returns-in_ok-shape-in-Err : goal.returns-in_ok-shape-in-Err
 returns-in_ok-shape-in-Err c =
     let found = c.in_ok-shape-in-Err.ensures (part c.args.start c.args.kind) c.args.start.counts c.typed_at.new.counts c.in-Err.ensures in

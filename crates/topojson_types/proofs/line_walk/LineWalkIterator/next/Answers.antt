@@ -16,8 +16,5 @@ steps c =
     subst (λ s. First s w.filler (left c.next.new.self w.filler c.in_ok-self-inside.field-0)) c.self.view_is
     (filled_up w.walk c.next.new.self w.filler w.missing c.in_ok-self-inside.field-0 c.in_default.ensures.steps less)
 
-pub returns-clause-steps : goal.returns-clause-steps
-returns-clause-steps c = steps c
-
 pub returns-clause-goes : goal.returns-clause-goes
 returns-clause-goes c = progress _ (λ s. tt) _ _ _ (steps c)

@@ -1,6 +1,0 @@
-use Rattle.std.proofs.Common.{rules}
-use Rattle.effective_area.proofs.Scan.{indexes_more}
-use Rattle.effective_area.proofs.indexes.all_indexes.Goals as goal
-
-pub loop-i-preserved : goal.loop-i-preserved
-loop-i-preserved c = indexes_more c.loop-i.i c.loop-i.all.items _ c.loop-i.invariant (search rules)

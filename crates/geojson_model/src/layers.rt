@@ -13,11 +13,10 @@ ghost use Rattle.geojson_model.specs.Layers as spec;
 ghost use Rattle.geojson_model.specs.Members.{IsParts, IsOccurrence, Judges};
 ghost use Rattle.geojson_model.specs.declared.geometries.Start.{Start as Begun};
 
-use crate::collecting::CollectsFeatures;
 use crate::features::{Fields, feature_at, feature_of, is_field};
 use crate::geometries::{Parts, Start, member_value, shape_of};
 use geojson_meaning::{GeoFault, GeoFaultKind, GeoJsonType};
-use geojson_types::{Counts, Feature};
+use geojson_types::{CollectsFeatures, Counts, Feature};
 use json_cursor::{Elements, Members, Occurrence, Stop, held_array_at, name_at, object_into};
 use json_reading::{Fault, Why, after_value};
 use std::alloc::{AllocError, Global};

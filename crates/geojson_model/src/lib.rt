@@ -4,7 +4,6 @@
 //! value calls `read_layer`. What layers are made of is passed on.
 #![tactic(auto)]
 
-mod collecting;
 mod coordinate_members;
 mod coordinates;
 mod features;
@@ -18,7 +17,6 @@ mod texts;
 mod type_names;
 mod values;
 
-pub use collecting::CollectsFeatures;
 pub use features::feature_at;
 pub use geojson_meaning::{
     Address, Cause, CoordinatesType, Counts, Dropped, Feature, FeatureSet, GeoFault, GeoFaultKind,

@@ -3,10 +3,9 @@ ghost use Rattle.json_cursor.specs.Texts.{TextAnswers};
 ghost use Rattle.geojson_meaning.specs.Layers.{features};
 ghost use Rattle.json_value.specs.Limits.{layer_depth};
 
-use crate::collecting::CollectsFeatures;
 use crate::layers::layer_at;
 use geojson_meaning::GeoFault;
-use geojson_types::Counts;
+use geojson_types::{CollectsFeatures, Counts};
 use json_cursor::{Refusal, are_utf8, malformed, text_of};
 use json_reading::{Fault, LAYER_DEPTH, skip};
 use std::alloc::Global;

@@ -2,7 +2,7 @@
 ghost use Rattle.std.specs.Prelude.{◌≡◌, ◌++◌, [], ◌∷◌, List, OnOk, length};
 ghost use Rattle.geojson_types.specs.Features.{Featured};
 
-use geojson_types::Feature;
+use crate::feature::Feature;
 use std::alloc::{AllocError, Global};
 
 /// What the features of a layer are put into, one after another, as they are read.

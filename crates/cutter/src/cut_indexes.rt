@@ -34,6 +34,7 @@ impl CutIndexes {
     }
 
     /// The indexes of the line with this number.
+    #[tactic(auto, using(crate::proofs::SharedCuts::has_own, crate::proofs::SharedCuts::own_read))]
     pub fn of_line(&self, i: usize) -> &[usize]
         requires { i < length self.now }
         ensures { slice_get self.now i ≡ Some result.now }

@@ -43,6 +43,7 @@ impl<'a> CutLine<'a> {
     }
 
     /// Its positions, if the line is one piece, and else the line again.
+    #[tactic(auto, using(crate::proofs::SliceLaws::whole_slice, crate::proofs::SliceLaws::other_slices))]
     pub fn into_whole(self) -> Result<Items<Position>, CutLine<'a>>
         ensures whole { IfOk result (λ positions. self.entry ≡ positions ∷ []) }
         ensures again { IfErr result (λ line. line ≡ self.entry) }

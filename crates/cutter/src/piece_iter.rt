@@ -47,6 +47,7 @@ impl<'a> Iterator for PieceIter<'a> {
 
     ghost remaining = { item_count (λ s. s) };
 
+    #[tactic(auto, using(crate::proofs::SliceLaws::two_indexes, crate::proofs::SliceLaws::no_slice))]
     fn next(&mut self) -> Option<&'a [Position]> {
         if self.cuts.len() < 2 {
             return None;

@@ -81,6 +81,7 @@ pub fn cut(alloc: Global, lines: Lines, vertices: &Vertices) -> Result<Pieces, M
 
 impl Pieces {
     /// How many lines and rings there are.
+    #[tactic(auto, using(crate::proofs::SharedCuts::as_many_splits))]
     pub fn len(&self) -> usize
         ensures { result ≡ length self.now }
     {
@@ -88,6 +89,7 @@ impl Pieces {
     }
 
     /// The line with this number, a ring turned to its start.
+    #[tactic(auto, using(crate::proofs::SharedCuts::as_many_splits, crate::proofs::SharedCuts::lines_and_rings_of))]
     pub fn stroke(&self, i: usize) -> &Stroke
         requires { i < length self.now }
         ensures { slice_get (lines_and_rings self.now) i ≡ Some result.now }
@@ -121,6 +123,7 @@ impl Pieces {
     }
 
     /// What the pieces of lines have in common. A call does nothing; its contract is what `Pieces` keeps.
+    #[tactic(auto, using(crate::proofs::Names::all_pieces, crate::proofs::Words::sharers, crate::proofs::Words::segments_once))]
     pub fn law(&self)
         ensures structured { IsStructured (all_pieces self.now) }
         ensures sharing { SharersAreAlike (all_pieces self.now) }

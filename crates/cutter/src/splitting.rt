@@ -106,6 +106,7 @@ fn visit_after(place: usize, first: usize, count: usize) -> usize {
 }
 
 // Adds the indexes of the cut positions.
+#[tactic(auto, using(crate::proofs::Names::is_member, crate::proofs::Names::indexes, crate::proofs::Known::known_at, crate::proofs::SliceLaws::indexes_step))]
 fn add_cuts(
     cuts: &mut Vec<usize>,
     positions: &[Position],

@@ -16,6 +16,7 @@ use junctions::{Stroke, Vertices};
 
 /// The index at which a ring starts: that of the first visit, in its own order, of its least cut position. Each ring of
 /// the lines that the vertices were made of has a cut position; where there is none the answer is the length.
+#[tactic(auto, using(crate::proofs::Names::is_member, crate::proofs::Names::start_in, crate::proofs::Known::start_known, crate::proofs::Known::starts_known))]
 pub fn ring_start(stroke: &Stroke, vertices: &Vertices) -> usize
     requires { AllKnown vertices.now.points stroke.now.positions }
     ensures start { result ≡ start_in (is_member vertices.now.cuts) stroke.now.positions }
@@ -29,6 +30,7 @@ pub fn ring_start(stroke: &Stroke, vertices: &Vertices) -> usize
 
 /// The index at which a ring with these positions starts, and how many of them are cut positions. The number of its first visit says where
 /// positions are looked for first; any number gives one answer.
+#[tactic(auto, using(crate::proofs::SliceLaws::no_start))]
 pub fn first_of_least_cut(
     positions: &[Position],
     visit: usize,
@@ -46,6 +48,7 @@ pub fn first_of_least_cut(
 }
 
 // The least cut position, and how many there are.
+#[tactic(auto, using(crate::proofs::Alone::at_most_one, crate::proofs::Alone::count_step, crate::proofs::Known::known_at, crate::proofs::SliceLaws::least_step))]
 fn least_cut(positions: &[Position], visit: usize, vertices: &Vertices) -> (Option<Position>, usize)
     requires { AllKnown vertices.now.points positions.now }
     ensures least { result.0 ≡ least_point (filter (is_member vertices.now.cuts) positions.now) }

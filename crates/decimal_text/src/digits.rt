@@ -8,6 +8,7 @@ use crate::num_text::Range;
 const SMALL: u128 = 1_000_000_000_000_000_000;
 
 /// As `extend`, with a small limit.
+#[tactic(auto, using(crate::proofs::DigitsValue::past_limit))]
 fn extend_small(start: u64, digits: &[u8], limit: u64) -> Result<u64, Range>
     requires digits { All IsDigit digits.now }
     requires limit { limit ≤ 10 ^ 18 }
@@ -27,6 +28,7 @@ fn extend_small(start: u64, digits: &[u8], limit: u64) -> Result<u64, Range>
 }
 
 /// As `extend`, with any limit.
+#[tactic(auto, using(crate::proofs::DigitsValue::past_limit))]
 fn extend_large(start: u128, digits: &[u8], limit: u128) -> Result<u128, Range>
     requires digits { All IsDigit digits.now }
     requires limit { limit ≤ 10 ^ 37 }
@@ -64,6 +66,7 @@ pub fn extend(start: u128, digits: &[u8], limit: u128) -> Result<u128, Range>
 }
 
 /// As `with_zeros`, with a small limit.
+#[tactic(auto, using(crate::proofs::DigitsValue::past_zeros, crate::proofs::DigitsValue::more_zeros))]
 fn with_zeros_small(start: u64, zeros: u128, limit: u64) -> Result<u64, Range>
     requires limit { limit ≤ 10 ^ 18 }
     requires start { start ≤ limit }
@@ -85,6 +88,7 @@ fn with_zeros_small(start: u64, zeros: u128, limit: u64) -> Result<u64, Range>
 }
 
 /// As `with_zeros`, with any limit.
+#[tactic(auto, using(crate::proofs::DigitsValue::past_zeros, crate::proofs::DigitsValue::more_zeros))]
 fn with_zeros_large(start: u128, zeros: u128, limit: u128) -> Result<u128, Range>
     requires limit { limit ≤ 10 ^ 37 }
     requires start { start ≤ limit }

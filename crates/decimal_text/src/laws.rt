@@ -2,6 +2,7 @@
 ghost use Rattle.decimal_text.specs.Laws.{NumbersHaveParts, PartsAreSpelled, RoundedIsUnique, ScaledIsNearest};
 
 /// The nearest whole number to a fraction, halves up, is there and is the only one.
+#[tactic(auto, using(crate::proofs::Nearest::rounded_is_unique))]
 pub fn rounded_is_unique()
     ensures { RoundedIsUnique }
 {}

@@ -94,6 +94,7 @@ impl NumText {
     }
 
     /// The number's text as it was read.
+    #[tactic(auto, using(crate::proofs::NumberBytes::same_utf8))]
     pub fn text(&self) -> &str
         ensures text { result.now ≡ self.now }
         ensures number { IsNumber self.now }

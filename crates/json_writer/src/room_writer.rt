@@ -22,6 +22,7 @@ static PAIRS: [u8; 200] =
     *b"00010203040506070809101112131415161718192021222324252627282930313233343536373839404142434445464748495051525354555657585960616263646566676869707172737475767778798081828384858687888990919293949596979899";
 
 /// How many digits a number below 10,000 has.
+#[tactic(auto, using(crate::proofs::Fixed::one_digit, crate::proofs::Fixed::digit_more))]
 fn short_count(number: u64) -> usize
     requires { number < 10000 }
     ensures { result ≡ length (decimal number) }
@@ -39,6 +40,7 @@ fn short_count(number: u64) -> usize
 }
 
 /// How many digits a number has.
+#[tactic(auto, using(crate::proofs::Fixed::four_more))]
 fn digit_count(number: u64) -> usize
     ensures { result ≡ length (decimal number) }
 {
@@ -87,6 +89,7 @@ fn sign_at(room: &mut [u8; ROOM], at: usize, negative: bool) -> usize
 }
 
 /// Writes both digits of a number below 100.
+#[tactic(auto, using(crate::proofs::Pairs::pair_at, crate::proofs::Rooms::two_written))]
 fn two_at(room: &mut [u8; ROOM], at: usize, pair: u32) -> usize
     requires room { at ≤ 510 }
     requires pair { pair < 100 }
@@ -101,6 +104,7 @@ fn two_at(room: &mut [u8; ROOM], at: usize, pair: u32) -> usize
 }
 
 /// Writes the digits of a number, which are counted first.
+#[tactic(auto, using(crate::proofs::Rooms::part_written))]
 fn long_at(room: &mut [u8; ROOM], at: usize, number: u64) -> usize
     requires { at ≤ 492 }
     ensures short { result ≤ at + 20 }
@@ -112,6 +116,7 @@ fn long_at(room: &mut [u8; ROOM], at: usize, number: u64) -> usize
 }
 
 /// Writes the digits of a number. Most whole parts have three at most.
+#[tactic(auto, using(crate::proofs::Fixed::two_digits, crate::proofs::Fixed::three_digits))]
 fn whole_at(room: &mut [u8; ROOM], at: usize, number: u64) -> usize
     requires { at ≤ 492 }
     ensures short { result ≤ at + 20 }
@@ -131,6 +136,7 @@ fn whole_at(room: &mut [u8; ROOM], at: usize, number: u64) -> usize
 }
 
 /// Both digits of a number below 100 as a word, the first in its lowest byte.
+#[tactic(auto, using(crate::proofs::Pairs::pair_at))]
 fn pair_word(pair: u32) -> u64
     requires { pair < 100 }
     ensures is { result ≡ (48 + pair / 10 % 10) + 256 * (48 + pair % 10) }

@@ -13,6 +13,7 @@ use owned_values::{Items, Memory};
 use std::alloc::Global;
 
 /// Adds the lines and rings of the features of the layer with this number.
+#[tactic(auto, using(crate::proofs::Gathered::with_none, crate::proofs::Gathered::features_turn))]
 pub fn add_layer(
     alloc: Global,
     layer: usize,
@@ -74,6 +75,7 @@ fn add_shapes(
 }
 
 // Adds the rings of the polygons at this address.
+#[tactic(auto, using(crate::proofs::Gathered::with_none, crate::proofs::Gathered::parts_turn, crate::proofs::Gathered::rings))]
 fn add_areas(
     alloc: Global,
     address: &Address,
@@ -92,6 +94,7 @@ fn add_areas(
 }
 
 // Adds the rings of the polygon at this address.
+#[tactic(auto, using(crate::proofs::Gathered::with_none, crate::proofs::Gathered::parts_turn, crate::proofs::Gathered::single))]
 fn add_rings(
     alloc: Global,
     address: &Address,
@@ -109,6 +112,7 @@ fn add_rings(
 }
 
 // Adds the lines at this address.
+#[tactic(auto, using(crate::proofs::Gathered::with_none, crate::proofs::Gathered::parts_turn, crate::proofs::Gathered::single))]
 fn add_lines(
     alloc: Global,
     address: &Address,
@@ -126,6 +130,7 @@ fn add_lines(
 }
 
 // Adds a line or a ring.
+#[tactic(auto, using(junctions::proofs::Cleaned::clean_is_clean, crate::proofs::Gathered::single, crate::proofs::Gathered::with_alone))]
 fn add_line_or_ring(
     alloc: Global,
     address: Address,

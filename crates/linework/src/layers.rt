@@ -15,6 +15,7 @@ pub trait OfLayers: Sized {
 }
 
 impl OfLayers for Lines {
+    #[tactic(auto, using(crate::proofs::Gathered::with_none, crate::proofs::Gathered::layers_turn, crate::proofs::Gathered::linework_is, crate::proofs::Gathered::collapsed_is))]
     fn of(alloc: Global, layers: &[Layer]) -> Result<Lines, Memory>
         ensures lines_and_rings { IfOk result (λ lines. lines.lines_and_rings ≡ linework layers.now) }
         ensures dropped { IfOk result (λ lines. lines.dropped ≡ collapsed layers.now) }

@@ -81,6 +81,7 @@ impl Outlines {
     }
 
     /// Each position replaced.
+    #[tactic(auto, using(geometry::proofs::Moved::refilled, crate::proofs::Outlined::outlines_over))]
     pub fn move_positions<M: Moves>(&mut self, moves: &M)
         ensures { self.new ≡ map (λ b. (b.0, map (M.goes_to moves.now) b.1)) self.old }
     {
@@ -96,6 +97,7 @@ impl Outlines {
 }
 
 /// Each position of each line or ring replaced.
+#[tactic(auto, using(geometry::proofs::Moved::turns, geometry::proofs::Moved::refilled))]
 fn move_strokes<M: Moves>(moves: &M, strokes: &mut [Stroke])
     ensures { strokes.new ≡ map (over_positions (map (M.goes_to moves.now))) strokes.old }
 {

@@ -31,6 +31,7 @@ fn nearest_units(units: u64, some: u64, parts: u64) -> u64
 /// So many decimals, and more after them, rounded to those that are kept, and whether nothing was rounded. None past the limit, and where
 /// more decimals stand after fewer than are kept.
 #[inline(always)]
+#[tactic(auto, using(crate::proofs::CutNumbers::more_rounded, crate::proofs::CutNumbers::none_more, crate::proofs::CutNumbers::parts_are, crate::proofs::PlainNumbers::product_small))]
 fn rounded_at(kept: u64, places: usize, cut: u64, more: usize) -> Option<(u64, bool)>
     requires places { places ≤ 9 }
     requires kept { kept < 10 ^ 9 * 10 ^ places }

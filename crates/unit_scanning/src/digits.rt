@@ -89,6 +89,7 @@ pub fn is_whole(bytes: &[u8]) -> bool
 
 /// A fraction, if there is one: what it writes after `start`, how many digits it has, and what follows it.
 #[inline(always)]
+#[tactic(auto, using(crate::proofs::NumberParts::fraction_found, crate::proofs::NumberParts::rest_shorter))]
 pub fn fraction_at(start: u64, bytes: &[u8]) -> Option<(u64, usize, &[u8])>
     requires { start < 10 ^ 18 }
     ensures fraction { IfSome result (λ x. IsFractionOf bytes.now start x.0 x.1 x.2.now) }
@@ -108,6 +109,7 @@ pub fn fraction_at(start: u64, bytes: &[u8]) -> Option<(u64, usize, &[u8])>
 
 /// The number with so many zeros after it. None past the limit of coordinates that are read.
 #[inline(always)]
+#[tactic(auto, using(decimal_text::proofs::DigitsValue::more_zeros))]
 pub fn with_zeros(start: u64, zeros: usize) -> Option<u64>
     requires { start < 10 ^ 18 }
     ensures value { IfSome result (λ v. v ≡ start * 10 ^ zeros) }

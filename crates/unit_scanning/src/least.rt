@@ -11,6 +11,7 @@ use geometry::INPUT_LIMIT;
 /// The least decimal at the front in whole units, and what follows it. None where the number isn't written in the shortest way, and where it has
 /// more than a few digits.
 #[inline(always)]
+#[tactic(auto, using(crate::proofs::LeastTexts::least_text, crate::proofs::PlainNumbers::product_small))]
 fn least_number_at(bytes: &[u8]) -> Option<(i64, &[u8])>
     ensures text { IfSome result (λ x. bytes.now ≡ units_text x.0 unit_places ++ x.1.now) }
     ensures within { IfSome result (λ x. unsigned_abs x.0 ≤ input_limit) }
@@ -59,6 +60,7 @@ fn least_units_at(bytes: &[u8]) -> Option<(i64, &[u8])>
 /// The position at the front in whole units, where it is written in the shortest way: in brackets, with no white space, as two least decimals
 /// without exponent, and nothing else; and what follows it. None where it isn't, and where a number has more than a few digits.
 #[inline(always)]
+#[tactic(auto, using(crate::proofs::LeastTexts::least_pair_text))]
 pub fn least_pair_at(bytes: &[u8]) -> Option<(i64, i64, &[u8])>
     ensures text { IfSome result (λ p. bytes.now ≡ (codes "[" ++ (units_text p.0 unit_places ++ (codes "," ++ (units_text p.1 unit_places ++ codes "]")))) ++ p.2.now) }
     ensures first { IfSome result (λ p. unsigned_abs p.0 ≤ input_limit) }

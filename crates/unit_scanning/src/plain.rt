@@ -49,6 +49,7 @@ fn with_digit(value: u64, bytes: &[u8]) -> Option<(u64, &[u8])>
 
 /// The digits at the front, or the first few of them: what they write after `start`, how many they are, and what follows them.
 #[inline(always)]
+#[tactic(auto, using(crate::proofs::FewDigits::digits_go_on, crate::proofs::FewDigits::digits_stay_small))]
 pub fn few_digits_at(start: u64, bytes: &[u8]) -> (u64, usize, &[u8])
     requires { start < 10 ^ 9 }
     ensures digits { AreDigits bytes.now start result.0 result.1 result.2.now }
@@ -111,6 +112,7 @@ pub fn few_decimals_at(start: u64, bytes: &[u8]) -> Option<(u64, usize, &[u8])>
 /// The number at the front in whole units, none of it rounded, and what follows it: it is a number only where that is the end of one.
 /// None where it has no digits or very many, and where few bytes follow it.
 #[inline(always)]
+#[tactic(auto, using(crate::proofs::PlainNumbers::plain_is, crate::proofs::PlainNumbers::product_small))]
 pub fn plain_units_at(bytes: &[u8]) -> Option<(i64, &[u8])>
     ensures units { IfSome result (λ x. ends x.1.now ≡ true → IsUnits bytes.now x.0 true x.1.now) }
     ensures within { IfSome result (λ x. unsigned_abs x.0 ≤ input_limit) }

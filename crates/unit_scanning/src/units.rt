@@ -24,6 +24,7 @@ pub struct Units {
 
 /// So many decimals, rounded to those that are kept, halves up, and whether nothing was rounded. None past the limit.
 #[inline(always)]
+#[tactic(auto, using(crate::proofs::Rounded::whole_units, crate::proofs::Rounded::rounded_units, crate::proofs::Rounded::step_some))]
 fn rounded(value: u64, places: usize) -> Option<(u64, bool)>
     requires value { value < 10 ^ 18 }
     requires places { places ≤ 17 }
@@ -110,6 +111,7 @@ pub fn units_at(bytes: &[u8]) -> Option<(Units, &[u8])>
 /// another digit, where it has an exponent, and where it isn't read this way for its size.
 #[cold]
 #[inline(never)]
+#[tactic(auto, using(crate::proofs::NumberParts::number_is_at, crate::proofs::Rounded::step_some, crate::proofs::Rounded::zero_decimals))]
 fn whole_decimals_at(limit: u64, bytes: &[u8]) -> Option<(i64, &[u8])>
     requires { limit ≤ 10 ^ 18 }
     ensures whole { IfSome result (λ x. IsWholeNumber limit bytes.now x.0 x.1.now) }

@@ -4,9 +4,6 @@ use Rattle.cutter.proofs.Known.{known_at}
 use Rattle.cutter.proofs.SliceLaws.{indexes_step}
 use Rattle.cutter.proofs.splitting.add_cuts.Goals as goal
 
-pub add_cut-requires : goal.add_cut-requires
-add_cut-requires c = known_at c.args.vertices.now.points c.args.positions.now c.loop-i.i c.index-positions-i.result c.requires c.loop-i-test.true c.index-positions-i.is
-
 pub loop-i-preserved : goal.loop-i-preserved
 loop-i-preserved c =
     let cut = is_member c.args.vertices.now.cuts in

@@ -5,9 +5,6 @@ use Rattle.cutter.proofs.Known.{known_at}
 use Rattle.cutter.proofs.SliceLaws.{least_step}
 use Rattle.cutter.proofs.starting.least_cut.Goals as goal
 
-pub with_cut-requires-clause-known : goal.with_cut-requires-clause-known
-with_cut-requires-clause-known c = known_at c.args.vertices.now.points c.args.positions.now c.loop-i.i c.index-positions-i.result c.requires c.loop-i-test.true c.index-positions-i.is
-
 pub loop-i-preserved : goal.loop-i-preserved
 loop-i-preserved c =
     let cut = is_member c.args.vertices.now.cuts in

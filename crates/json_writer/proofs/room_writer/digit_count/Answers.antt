@@ -6,8 +6,5 @@ use Rattle.json_writer.proofs.room_writer.digit_count.Goals as goal
 pub overflow_add-behind : goal.overflow_add-behind
 overflow_add-behind c = omega (arith, length-decimal-le 20 c.args.number (omega arith) (omega arith) (omega arith))
 
-pub loop-left-preserved : goal.loop-left-preserved
-loop-left-preserved c = omega (arith, four_more c.loop-left.left c.loop-left-test.true c.loop-left.auto.left-fits.fits)
-
 pub overflow_add-result : goal.overflow_add-result
 overflow_add-result c = omega (arith, length-decimal-le 20 c.args.number (omega arith) (omega arith) (omega arith))

@@ -11,8 +11,3 @@ write_digits-requires c = (omega arith, omega (arith, length-decimal-le 20 c.arg
 
 pub returns-clause-short : goal.returns-clause-short
 returns-clause-short c = omega (arith, length-decimal-le 20 c.args.number (omega arith) (omega arith) c.ranges.number.fits)
-
-pub returns-clause-written : goal.returns-clause-written
-returns-clause-written c =
-    let here : c.write_digits.result ≡ c.args.at = omega arith in
-    part_written c.args.at c.digit_count.result c.args.room.now c.write_digits.new.buf (decimal c.args.number) _ (rw here at c.write_digits.ensures.before) (rw here at c.write_digits.ensures.written) (omega arith)

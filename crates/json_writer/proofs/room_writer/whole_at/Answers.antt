@@ -9,10 +9,6 @@ pub returns-then-number-lt10-clause-written : goal.returns-then-number-lt10-clau
 returns-then-number-lt10-clause-written c =
     c.byte_at.ensures.written ∙ ap (λ t. take c.args.at c.args.room.now ++ t) (sym (decimal_digit c.args.number (omega arith)))
 
-pub returns-then-number-lt100-clause-written : goal.returns-then-number-lt100-clause-written
-returns-then-number-lt100-clause-written c =
-    c.two_at.ensures.written ∙ ap (λ t. take c.args.at c.args.room.now ++ t) (sym (two_digits c.args.number (omega arith) (omega arith)))
-
 pub returns-then-number-lt1000-clause-written : goal.returns-then-number-lt1000-clause-written
 returns-then-number-lt1000-clause-written c =
     let n = c.args.number in

@@ -2,9 +2,6 @@ use Rattle.std.proofs.Common.{sym, ap}
 use Rattle.linework.proofs.Gathered.{with_none, parts_turn, rings}
 use Rattle.linework.proofs.gathering.add_areas.Goals as goal
 
-pub loop-number-init : goal.loop-number-init
-loop-number-init c = sym (with_none c.args.lines.now)
-
 pub loop-number-preserved : goal.loop-number-preserved
 loop-number-preserved c =
     parts_turn rings c.args.address.now c.args.lines.now c.loop-number.lines c.add_rings.new.lines c.args.areas.now c.loop-number.number c.index-areas-number.result

@@ -6,9 +6,6 @@ use Rattle.linework.proofs.Gathered.{with_none, features_turn}
 use Rattle.linework.proofs.gathering.add_layer.Goals as goal
 use Rattle.linework.proofs.gathering.add_layer.Goals.{in-Some+in_ok-add_shape, in_default}
 
-pub loop-number-init : goal.loop-number-init
-loop-number-init c = sym (with_none c.args.lines.now)
-
 pub loop-number-preserved : goal.loop-number-preserved
 loop-number-preserved c =
     features_turn c.args.layer c.args.lines.now c.loop-number.lines c.match-shape.lines c.args.features.now c.loop-number.number c.index-features-number.result

@@ -2,9 +2,6 @@ use Rattle.std.proofs.Common.{sym, ap, false}
 use Rattle.linework.proofs.Gathered.{with_none, parts_turn, single}
 use Rattle.linework.proofs.gathering.add_lines.Goals as goal
 
-pub loop-number-init : goal.loop-number-init
-loop-number-init c = sym (with_none c.args.lines.now)
-
 pub loop-number-preserved : goal.loop-number-preserved
 loop-number-preserved c =
     parts_turn (single false) c.args.address.now c.args.lines.now c.loop-number.lines c.add_line_or_ring.new.lines c.args.parts.now c.loop-number.number c.index-parts-number.result

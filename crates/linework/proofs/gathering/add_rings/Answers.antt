@@ -2,9 +2,6 @@ use Rattle.std.proofs.Common.{sym, ap, true}
 use Rattle.linework.proofs.Gathered.{with_none, parts_turn, single}
 use Rattle.linework.proofs.gathering.add_rings.Goals as goal
 
-pub loop-number-init : goal.loop-number-init
-loop-number-init c = sym (with_none c.args.lines.now)
-
 pub loop-number-preserved : goal.loop-number-preserved
 loop-number-preserved c =
     parts_turn (single true) c.args.address.now c.args.lines.now c.loop-number.lines c.add_line_or_ring.new.lines c.args.rings.now c.loop-number.number c.index-rings-number.result

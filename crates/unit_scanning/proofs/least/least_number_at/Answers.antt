@@ -9,9 +9,6 @@ use Rattle.unit_scanning.proofs.PlainNumbers.{product_small}
 use Rattle.unit_scanning.proofs.least.least_number_at.Goals as goal
 use Rattle.unit_scanning.proofs.least.least_number_at.Goals.{else-places-gt0-via-then-places-gt0+else-kept-eq0, else-places-gt0-via-else-places-gt0}
 
-pub overflow_mul-size : goal.overflow_mul-size
-overflow_mul-size c = let small = product_small _ _ _ c.in_ok-kept.ensures.few c.in_ok-kept.ensures.small c.units_of_place.ensures in omega (arith, small)
-
 pub returns-clause-text : goal.returns-clause-text
 returns-clause-text c =
     let small : c.in_ok-kept.kept * c.units_of_place.result ≤ input_limit = omega (arith, c.if-size-gt-INPUT_LIMIT.false) in

@@ -7,9 +7,6 @@ use Rattle.unit_scanning.specs.Numbers.{IsUnits}
 use Rattle.unit_scanning.proofs.PlainNumbers.{plain_is, product_small}
 use Rattle.unit_scanning.proofs.plain.plain_units_at.Goals as goal
 
-pub overflow_mul-size : goal.overflow_mul-size
-overflow_mul-size c = let small = product_small _ _ _ c.in_ok-value.ensures.few c.in_ok-value.ensures.small c.units_of_place.ensures in omega (arith, small)
-
 pub returns-clause-units : goal.returns-clause-units
 returns-clause-units c he =
     let small : c.in_ok-value.value * c.units_of_place.result ≤ input_limit = omega (arith, c.if-size-gt-INPUT_LIMIT.false) in

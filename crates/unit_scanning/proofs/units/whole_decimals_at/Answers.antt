@@ -7,12 +7,6 @@ use Rattle.unit_scanning.proofs.NumberParts.{number_is_at}
 use Rattle.unit_scanning.proofs.Rounded.{step_some, zero_decimals}
 use Rattle.unit_scanning.proofs.units.whole_decimals_at.Goals as goal
 
-pub nonzero_div-size : goal.nonzero_div-size
-nonzero_div-size c = step_some _ _ c.in_ok-one.ensures.value
-
-pub nonzero_rem-value : goal.nonzero_rem-value
-nonzero_rem-value c = step_some _ _ c.in_ok-one.ensures.value
-
 pub returns-clause-whole : goal.returns-clause-whole
 returns-clause-whole c =
     let size : ℕ = c.in_ok-value.value / c.in_ok-one.one in

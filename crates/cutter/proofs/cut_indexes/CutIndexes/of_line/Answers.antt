@@ -2,19 +2,6 @@ use Rattle.std.proofs.Common.{◌<◌, ◌∙◌, length, Some, ap, sym, arith, 
 use Rattle.cutter.proofs.SharedCuts.{has_own, own_read}
 use Rattle.cutter.proofs.cut_indexes.CutIndexes.of_line.Goals as goal
 
-pub begin_of-requires : goal.begin_of-requires
-begin_of-requires c =
-    let b : c.args.i < length c.as_slice-ends.result.now = has_own c.self.inside.indexes.items c.self.inside.ends.items c.args.self.now c.as_slice-ends.result.now c.args.i c.self.view_is c.requires c.as_slice-ends.ensures.value in
-    omega (arith, b)
-
-pub offset_bounds-ends-i : goal.offset_bounds-ends-i
-offset_bounds-ends-i c =
-    let b : c.args.i < length c.as_slice-ends.result.now = has_own c.self.inside.indexes.items c.self.inside.ends.items c.args.self.now c.as_slice-ends.result.now c.args.i c.self.view_is c.requires c.as_slice-ends.ensures.value in
-    search rules
-
-pub bounds-ends-i : goal.bounds-ends-i
-bounds-ends-i c = has_own c.self.inside.indexes.items c.self.inside.ends.items c.args.self.now c.as_slice-ends.result.now c.args.i c.self.view_is c.requires c.as_slice-ends.ensures.value
-
 pub between-requires-clause-order : goal.between-requires-clause-order
 between-requires-clause-order c =
     let own = own_read c.self.inside.indexes.items c.self.inside.ends.items c.args.self.now c.as_slice-indexes.result.now c.as_slice-ends.result.now c.args.i c.begin_of.result
@@ -26,9 +13,3 @@ between-requires-clause-within c =
     let own = own_read c.self.inside.indexes.items c.self.inside.ends.items c.args.self.now c.as_slice-indexes.result.now c.as_slice-ends.result.now c.args.i c.begin_of.result
     c.self.view_is c.self.invariant c.requires c.as_slice-indexes.ensures.value c.as_slice-ends.ensures.value c.begin_of.ensures in
     own.within
-
-pub returns : goal.returns
-returns c =
-    let own = own_read c.self.inside.indexes.items c.self.inside.ends.items c.args.self.now c.as_slice-indexes.result.now c.as_slice-ends.result.now c.args.i c.begin_of.result
-    c.self.view_is c.self.invariant c.requires c.as_slice-indexes.ensures.value c.as_slice-ends.ensures.value c.begin_of.ensures in
-    own.got ∙ ap Some (sym c.between.ensures)

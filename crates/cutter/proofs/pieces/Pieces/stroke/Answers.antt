@@ -4,10 +4,6 @@ use Rattle.cutter.specs.Slices.{lines_and_rings}
 use Rattle.cutter.proofs.SharedCuts.{as_many_splits, lines_and_rings_of}
 use Rattle.cutter.proofs.pieces.Pieces.stroke.Goals as goal
 
-pub index-requires : goal.index-requires
-index-requires c =
-    omega (arith, c.requires, ap length c.self.view_is, as_many_splits c.self.inside.cuts.items 0 c.self.inside.lines_and_rings.items c.self.inside.ends.items c.self.invariant.0)
-
 pub returns : goal.returns
 returns c =
     let ss = c.self.inside.lines_and_rings.items in

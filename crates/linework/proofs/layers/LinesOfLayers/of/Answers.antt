@@ -4,17 +4,8 @@ use Rattle.junctions.specs.Gathering.{nothing_gathered, with_lines_and_rings}
 use Rattle.linework.proofs.Gathered.{with_none, layers_turn, linework_is, collapsed_is}
 use Rattle.linework.proofs.layers.LinesOfLayers.of.Goals as goal
 
-pub loop-number-init : goal.loop-number-init
-loop-number-init c = c.none-lines.ensures ∙ sym (with_none nothing_gathered)
-
 pub loop-number-preserved : goal.loop-number-preserved
 loop-number-preserved c =
     layers_turn nothing_gathered c.loop-number.lines c.add_layer.new.lines c.args.layers.now c.loop-number.number c.index-layers-number.result
     c.loop-number-test.true c.index-layers-number.is c.loop-number.invariant
     (c.in_ok-add_layer.ensures ∙ ap (λ fs. with_lines_and_rings c.loop-number.lines (lines_and_rings_of_layer c.loop-number.number 0 fs)) c.as_slice.ensures)
-
-pub returns-clause-lines_and_rings : goal.returns-clause-lines_and_rings
-returns-clause-lines_and_rings c = linework_is c.loop-number.lines c.args.layers.now c.loop-number.number c.loop-number-test.false c.loop-number.invariant
-
-pub returns-clause-dropped : goal.returns-clause-dropped
-returns-clause-dropped c = collapsed_is c.loop-number.lines c.args.layers.now c.loop-number.number c.loop-number-test.false c.loop-number.invariant

@@ -3,7 +3,7 @@ ghost use Rattle.std.specs.Prelude.{IfOk};
 ghost use Rattle.command_words.specs.CommandLine.{IsApp, IsRule, crossings_rule, file_rule, geo_app, keep_rule, object_rule, simplify_app, stat_app};
 
 use crate::commands::{Help, command};
-use crate::usage::{quiet, with_common, with_reducing};
+use crate::usage::{quiet, with_argument, with_common, with_reducing};
 use clap::{Arg, ArgAction, Command};
 use std::alloc::{AllocError, Global};
 
@@ -112,10 +112,9 @@ fn file<'a>(alloc: Global) -> Arg<'a>
 pub(crate) fn simplify<'a>(alloc: Global, keep: Arg<'a>) -> Result<Command<'a>, AllocError>
     ensures { IsRule keep.entry keep_rule → IfOk result (λ c. IsApp c simplify_app) }
 {
-    let command = with_reducing(alloc, command(alloc, SIMPLIFY, SIMPLIFY_HELP), keep)?;
-    with_common(alloc, command)?
-        .arg(quiet(alloc))?
-        .arg(file(alloc))
+    let command = Ok(command(alloc, SIMPLIFY, SIMPLIFY_HELP));
+    let command = with_common(alloc, with_reducing(alloc, command, keep));
+    with_argument(with_argument(command, quiet(alloc)), file(alloc))
 }
 
 /// The option of `geo` that names the object.
@@ -133,8 +132,8 @@ fn object<'a>(alloc: Global) -> Arg<'a>
 pub(crate) fn geo<'a>(alloc: Global) -> Result<Command<'a>, AllocError>
     ensures { IfOk result (λ c. IsApp c geo_app) }
 {
-    let command = command(alloc, GEO, GEO_HELP).arg(object(alloc))?;
-    with_common(alloc, command)?.arg(file(alloc))
+    let command = with_argument(Ok(command(alloc, GEO, GEO_HELP)), object(alloc));
+    with_argument(with_common(alloc, command), file(alloc))
 }
 
 /// The option of `stat` that counts crossings.
@@ -152,6 +151,6 @@ fn crossings<'a>(alloc: Global) -> Arg<'a>
 pub(crate) fn stat<'a>(alloc: Global) -> Result<Command<'a>, AllocError>
     ensures { IfOk result (λ c. IsApp c stat_app) }
 {
-    let command = command(alloc, STAT, STAT_HELP).arg(crossings(alloc))?;
-    with_common(alloc, command)?.arg(file(alloc))
+    let command = with_argument(Ok(command(alloc, STAT, STAT_HELP)), crossings(alloc));
+    with_argument(with_common(alloc, command), file(alloc))
 }

@@ -1,7 +1,8 @@
 // The words that the program takes, and its help.
 ghost use Rattle.std.specs.Prelude.{◌≡◌, IfOk, pos};
 ghost use Rattle.clap.specs.declared.builder.value_parser.ValueParser.TheVariants.{Signed};
-ghost use Rattle.clap.specs.Simple.{App, with_subcommand};
+ghost use Rattle.clap.specs.Simple.{App, with_rule, with_subcommand};
+ghost use Rattle.clap.specs.Walk.{Rule};
 ghost use Rattle.command_words.specs.CommandLine as spec;
 ghost use Rattle.command_words.specs.CommandLine.{IsApp, IsRule, area_rule, bare_app, build_app, exact_rule, grid_rule};
 ghost use Rattle.command_words.specs.CommandLine.{explain_rule, keep_rule, keep_shapes_rule, layers_rule, no_crossings_rule, output_rule, program_app, quiet_rule, report_rule, ring_area_rule};
@@ -215,20 +216,24 @@ fn bare<'a>(alloc: Global) -> Result<Command<'a>, AllocError>
         .bin_name("mapchain")
 }
 
-/// A command with this one below it, if there is memory for that.
+/// A command with this one below it, if there was memory for both and is for that.
 fn with_command<'a>(
-    command: Command<'a>,
+    command: Result<Command<'a>, AllocError>,
     below: Result<Command<'a>, AllocError>,
 ) -> Result<Command<'a>, AllocError>
-    ensures { (app sub : App) → IsApp command.entry app → IfOk below.entry (λ c. IsApp c sub) → IfOk result (λ c. IsApp c (with_subcommand app sub.top)) }
+    ensures { (app sub : App) → IfOk command.entry (λ c. IsApp c app) → IfOk below.entry (λ c. IsApp c sub) → IfOk result (λ c. IsApp c (with_subcommand app sub.top)) }
 {
-    match below {
-        Ok(below) => command.subcommand(below),
-        Err(fault) => {
-            drop(command);
-            Err(fault)
-        }
-    }
+    command?.subcommand(below?)
+}
+
+/// A command with this argument, if there was memory for the command and is for that.
+pub(crate) fn with_argument<'a>(
+    command: Result<Command<'a>, AllocError>,
+    argument: Arg<'a>,
+) -> Result<Command<'a>, AllocError>
+    ensures { (app : App) (rule : Rule) → IfOk command.entry (λ c. IsApp c app) → IsRule argument.entry rule → IfOk result (λ c. IsApp c (with_rule app rule)) }
+{
+    command?.arg(argument)
 }
 
 /// The command line of the program, with these options of `build` and of `simplify` that keep a share.
@@ -239,9 +244,9 @@ fn program_with<'a>(
 ) -> Result<Command<'a>, AllocError>
     ensures { IsRule build_keep.entry keep_rule → IsRule simplify_keep.entry keep_rule → IfOk result (λ c. IsApp c program_app) }
 {
-    let program = with_command(bare(alloc)?, build(alloc, build_keep))?;
-    let program = with_command(program, simplify(alloc, simplify_keep))?;
-    let program = with_command(program, geo(alloc))?;
+    let program = with_command(bare(alloc), build(alloc, build_keep));
+    let program = with_command(program, simplify(alloc, simplify_keep));
+    let program = with_command(program, geo(alloc));
     with_command(program, stat(alloc))
 }
 
@@ -370,30 +375,28 @@ fn explain<'a>(alloc: Global) -> Arg<'a>
 /// A command with the options that each command has.
 pub(crate) fn with_common<'a>(
     alloc: Global,
-    command: Command<'a>,
+    command: Result<Command<'a>, AllocError>,
 ) -> Result<Command<'a>, AllocError>
-    ensures { (app : App) → IsApp command.entry app → IfOk result (λ c. IsApp c (spec.with_common app)) }
+    ensures { (app : App) → IfOk command.entry (λ c. IsApp c app) → IfOk result (λ c. IsApp c (spec.with_common app)) }
 {
-    command
-        .arg(output(alloc))?
-        .arg(report(alloc))?
-        .arg(explain(alloc))
+    let command = with_argument(command, output(alloc));
+    let command = with_argument(command, report(alloc));
+    with_argument(command, explain(alloc))
 }
 
 /// A command with the options that say what is reduced, of which this one keeps a share.
 pub(crate) fn with_reducing<'a>(
     alloc: Global,
-    command: Command<'a>,
+    command: Result<Command<'a>, AllocError>,
     keep: Arg<'a>,
 ) -> Result<Command<'a>, AllocError>
-    ensures { (app : App) → IsApp command.entry app → IsRule keep.entry keep_rule → IfOk result (λ c. IsApp c (spec.with_reducing app)) }
+    ensures { (app : App) → IfOk command.entry (λ c. IsApp c app) → IsRule keep.entry keep_rule → IfOk result (λ c. IsApp c (spec.with_reducing app)) }
 {
-    command
-        .arg(area(alloc))?
-        .arg(keep)?
-        .arg(ring_area(alloc))?
-        .arg(no_crossings(alloc))?
-        .arg(keep_shapes(alloc))
+    let command = with_argument(command, area(alloc));
+    let command = with_argument(command, keep);
+    let command = with_argument(command, ring_area(alloc));
+    let command = with_argument(command, no_crossings(alloc));
+    with_argument(command, keep_shapes(alloc))
 }
 
 /// The option of `build` and `simplify` that leaves out the report.
@@ -435,9 +438,8 @@ fn layers<'a>(alloc: Global) -> Arg<'a>
 fn build<'a>(alloc: Global, keep: Arg<'a>) -> Result<Command<'a>, AllocError>
     ensures { IsRule keep.entry keep_rule → IfOk result (λ c. IsApp c build_app) }
 {
-    let command = command(alloc, BUILD, BUILD_HELP).arg(grid(alloc))?;
-    let command = with_reducing(alloc, command, keep)?.arg(exact(alloc))?;
-    with_common(alloc, command)?
-        .arg(quiet(alloc))?
-        .arg(layers(alloc))
+    let command = with_argument(Ok(command(alloc, BUILD, BUILD_HELP)), grid(alloc));
+    let command = with_reducing(alloc, command, keep);
+    let command = with_common(alloc, with_argument(command, exact(alloc)));
+    with_argument(with_argument(command, quiet(alloc)), layers(alloc))
 }

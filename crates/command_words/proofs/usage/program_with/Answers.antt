@@ -3,7 +3,7 @@ use Rattle.command_words.proofs.usage.program_with.Goals as goal
 
 pub returns : goal.returns
 returns c = λ build_rule simplify_rule.
-    let one = c.in_ok-program.ensures bare_app build_app c.in_ok-bare.ensures (c.build.ensures build_rule) in
-    let two = c.in_ok-program-2.ensures _ simplify_app one (c.simplify.ensures simplify_rule) in
-    let three = c.in_ok-program-3.ensures _ geo_app two c.geo.ensures in
-    c.with_command-4.ensures _ stat_app three c.stat.ensures
+    let one = c.with_command-program.ensures bare_app build_app c.bare.ensures (c.build.ensures build_rule) in
+    let two = c.with_command-program-2.ensures _ simplify_app one (c.simplify.ensures simplify_rule) in
+    let three = c.with_command-program-3.ensures _ geo_app two c.geo.ensures in
+    c.with_command.ensures _ stat_app three c.stat.ensures

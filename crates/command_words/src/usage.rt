@@ -89,7 +89,7 @@ error takes a report, with a line each:
   arcs     arcs that are written
   kept     positions in these arcs
   removed  positions that '--min-area' or '--keep' removed from these arcs
-  chosen   twice the area that '--keep' chose, in square units
+  chosen   twice the area that '--keep' chose, in square units of 10^-9
 
 A border that lines and rings share, be it between layers, is one arc. Positions that
 are equal and follow each other count as one. A line that is left with one position,

@@ -1,12 +1,12 @@
-// A new file that takes the place of another once it is whole, or a device that is written itself.
+// A new file that takes the place of another once it is whole, or a device or a standard stream that is written itself.
 ghost use Rattle.std.specs.Prelude.{◌≡◌, IfOk};
 ghost use Rattle.std.specs.String.{string_bytes};
 
 use crate::system_errors::failure_of;
 use mapchain_cli::WriteFailure;
-use std::fs::{File, FileType, Permissions};
+use std::fs::{File, FileType, Metadata, Permissions};
 use std::io::{ErrorKind, Write};
-use std::os::unix::fs::{FileTypeExt, OpenOptionsExt, PermissionsExt};
+use std::os::unix::fs::{FileTypeExt, MetadataExt, OpenOptionsExt, PermissionsExt};
 use std::{fs, io};
 
 /// How many names are tried for the new file.
@@ -21,6 +21,18 @@ const NEW_FILE: u32 = 0o666;
 /// The permissions of a new file until it has those of the file that it replaces.
 const OWNER_ONLY: u32 = 0o600;
 
+/// The files that standard output and standard error go to, as the system names them.
+const STANDARD_OUTPUT: &str = "/proc/self/fd/1";
+
+const STANDARD_ERROR: &str = "/proc/self/fd/2";
+
+/// A standard stream of this process.
+#[derive(Clone, Copy)]
+enum Stream {
+    Output,
+    Error,
+}
+
 /// What a target is.
 #[derive(Clone, Copy)]
 enum TargetKind {
@@ -30,23 +42,33 @@ enum TargetKind {
     File { mode: u32 },
     /// A device that takes bytes one after another, as `/dev/null` or a pipe.
     Device,
+    /// The file that a standard stream goes to.
+    Stream(Stream),
 }
 
-/// The file that is to be replaced, the name that a first one is to have, or a device that is to be written.
+/// The file that is to be replaced, the name that a first one is to have, or a device or a standard stream that is to be written.
 #[derive(Drop)]
 pub(crate) struct Target {
     /// The path by which it was named.
     pub(crate) named: String,
-    /// Where that leads, past symbolic links; of a device, the path itself.
+    /// Where that leads, past symbolic links; of a device and of a stream, the path itself.
     path: String,
     kind: TargetKind,
 }
 
+/// Where bytes are put.
+#[derive(Drop)]
+enum Destination {
+    /// A new file, or a device.
+    File(File),
+    Stream(Stream),
+}
+
 /// What is written for a target: a new file beside it, which is removed where it is dropped, unless it has taken the target's place; or a
-/// device.
+/// device or a standard stream.
 pub(crate) struct PartFile {
     rt: HostRuntime,
-    file: File,
+    destination: Destination,
     /// The path of the new file.
     path: Option<String>,
     /// Why a write or a flush failed last, if one did.
@@ -56,6 +78,37 @@ pub(crate) struct PartFile {
 /// Whether bytes are written to it as they come. A disk and a socket are none.
 fn takes_bytes(file_type: FileType) -> bool {
     file_type.is_char_device() || file_type.is_fifo()
+}
+
+/// Whether a standard stream, which the system names so, goes to the file that has this metadata.
+fn is_stream(rt: &HostRuntime, stream: &str, file: &Metadata) -> bool {
+    fs::metadata(rt, stream).is_ok_and(|own| own.dev() == file.dev() && own.ino() == file.ino())
+}
+
+/// The standard stream that goes to the file that has this metadata, if one does.
+fn stream_to(rt: &HostRuntime, file: &Metadata) -> Option<Stream> {
+    if is_stream(rt, STANDARD_OUTPUT, file) {
+        return Some(Stream::Output);
+    }
+    if is_stream(rt, STANDARD_ERROR, file) {
+        return Some(Stream::Error);
+    }
+    None
+}
+
+/// What a regular file is that a path leads to by a symbolic link, as `/dev/stdout` does, and its own path. What a standard stream goes to has
+/// the link's: to replace it would lose what the stream has taken and will take.
+fn linked_file(
+    rt: &HostRuntime,
+    link: String,
+    file: &Metadata,
+    mode: u32,
+) -> io::Result<(String, TargetKind)> {
+    if let Some(stream) = stream_to(rt, file) {
+        return Ok((link, TargetKind::Stream(stream)));
+    }
+    let path = fs::canonicalize(rt, link.as_str())?.into_string();
+    Ok((path, TargetKind::File { mode }))
 }
 
 /// Where a path leads: to a regular file or to a device, by itself or by a symbolic link, or to nothing yet. Anything else is an error.
@@ -82,12 +135,10 @@ fn led_to(rt: &HostRuntime, path: &str) -> io::Result<(String, TargetKind)> {
         return Err(io::Error::from(ErrorKind::InvalidInput));
     }
     let mode = metadata.permissions().mode() & PERMISSION_BITS;
-    let path = if is_link {
-        fs::canonicalize(rt, path)?.into_string()
-    } else {
-        own_path
-    };
-    Ok((path, TargetKind::File { mode }))
+    if is_link {
+        return linked_file(rt, own_path, &metadata, mode);
+    }
+    Ok((own_path, TargetKind::File { mode }))
 }
 
 impl Target {
@@ -129,16 +180,19 @@ fn create_beside(rt: &HostRuntime, name: &str, mode: u32) -> io::Result<(File, S
 
 impl PartFile {
     /// What is to be written for a target, and how many new files of other runs stand beside that. A regular file is replaced by a new
-    /// one with its permissions; where it was named by a symbolic link, the link stays. A device is opened as it is.
+    /// one with its permissions; where it was named by a symbolic link, the link stays. A device is opened as it is, and a standard stream is open.
     pub(crate) fn of(rt: &HostRuntime, target: &Target) -> io::Result<(PartFile, u32)> {
         match target.kind {
             TargetKind::New => PartFile::beside(rt, target, NEW_FILE),
             TargetKind::File { mode } => {
                 let (part, others) = PartFile::beside(rt, target, OWNER_ONLY)?;
-                part.file.set_permissions(Permissions::from_mode(mode))?;
+                if let Destination::File(file) = &part.destination {
+                    file.set_permissions(Permissions::from_mode(mode))?;
+                }
                 Ok((part, others))
             }
             TargetKind::Device => Ok((PartFile::device(rt, target)?, 0)),
+            TargetKind::Stream(stream) => Ok((PartFile::stream(rt, stream)?, 0)),
         }
     }
 
@@ -148,7 +202,7 @@ impl PartFile {
         let (file, path, taken) = create_beside(rt, target.path.as_str(), mode)?;
         let part = PartFile {
             rt: part_rt,
-            file,
+            destination: Destination::File(file),
             path: Some(path),
             failure: None,
         };
@@ -161,23 +215,33 @@ impl PartFile {
         let file = File::options().write(true).open(rt, target.path.as_str())?;
         Ok(PartFile {
             rt: part_rt,
-            file,
+            destination: Destination::File(file),
+            path: None,
+            failure: None,
+        })
+    }
+
+    /// A standard stream.
+    fn stream(rt: &HostRuntime, stream: Stream) -> io::Result<PartFile> {
+        Ok(PartFile {
+            rt: rt.clone()?,
+            destination: Destination::Stream(stream),
             path: None,
             failure: None,
         })
     }
 
     /// Takes the place of the target, once all of the file is on the disk. On an error the target is as it was, and the new file is
-    /// removed. A device has taken all of it already.
+    /// removed. A device or a standard stream has taken all of it already.
     pub(crate) fn replace(self, target: &Target) -> io::Result<()> {
-        if let Some(path) = &self.path {
-            self.file.sync_all()?;
+        if let (Some(path), Destination::File(file)) = (&self.path, &self.destination) {
+            file.sync_all()?;
             fs::rename(&self.rt, path.as_str(), target.path.as_str())?;
         }
         // Nothing is left to remove.
         let PartFile {
             rt: _,
-            file: _,
+            destination: _,
             path: _,
             failure: _,
         } = self;
@@ -194,7 +258,7 @@ impl Drop for PartFile {
     fn drop(self) {
         let PartFile {
             rt,
-            file: _,
+            destination: _,
             path,
             failure: _,
         } = self;
@@ -206,7 +270,11 @@ impl Drop for PartFile {
 
 impl Write for PartFile {
     fn write(&mut self, buf: &[u8]) -> io::Result<usize> {
-        let taken = self.file.write(buf);
+        let taken = match &mut self.destination {
+            Destination::File(file) => file.write(buf),
+            Destination::Stream(Stream::Output) => self.rt.stdout().write(buf),
+            Destination::Stream(Stream::Error) => self.rt.stderr().write(buf),
+        };
         if let Err(error) = &taken {
             self.failure = Some(failure_of(error));
         }
@@ -214,7 +282,11 @@ impl Write for PartFile {
     }
 
     fn flush(&mut self) -> io::Result<()> {
-        let flushed = self.file.flush();
+        let flushed = match &mut self.destination {
+            Destination::File(file) => file.flush(),
+            Destination::Stream(Stream::Output) => self.rt.stdout().flush(),
+            Destination::Stream(Stream::Error) => self.rt.stderr().flush(),
+        };
         if let Err(error) = &flushed {
             self.failure = Some(failure_of(error));
         }

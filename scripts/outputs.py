@@ -270,6 +270,30 @@ def try_devices():
             try_not_begun("a folder that can't be written", "below/new")
 
 
+def try_standard_streams():
+    """An output whose path is a link to the file that a standard stream goes to is put where the stream is, and nothing in that file is lost."""
+    with new_folder():
+        write("own", OLD)
+        for words, _ in COMMANDS:
+            _, output, error = plain(words)
+            reported = subprocess.run([PROGRAM, *words, "--report", "report"], capture_output=True, timeout=120)
+            with open("report", "rb") as file:
+                report = file.read()
+            expect(f"{words[0]} with a report", (0, output, error), (reported.returncode, reported.stdout, reported.stderr))
+            for name, script, wanted in (
+                ("-o, behind other lines", '(echo head; "$0" "$@" -o /dev/stdout; echo "$?") > own 2> /dev/null', b"head\n" + output + b"0\n"),
+                ("-o, after what was there", '"$0" "$@" -o /dev/stdout >> own 2> /dev/null', OLD + output),
+                ("-o, by the descriptor", '"$0" "$@" -o /dev/fd/1 > own 2> /dev/null', output),
+                ("--report", '"$0" "$@" --report /dev/stdout > own 2> /dev/null', output + report),
+                ("--report, standard error", '("$0" "$@" --report /dev/stderr; echo "$?" >&2) 2> own > /dev/null', report + error + b"0\n"),
+            ):
+                write("own", OLD)
+                before = held()
+                ended = subprocess.run(["sh", "-c", script, PROGRAM, *words], capture_output=True, timeout=120)
+                expect(f"{words[0]}, {name}", (0, b"", b""), (ended.returncode, ended.stdout, ended.stderr))
+                expect_held(f"{words[0]}, {name}", before, [("own", wanted, 0o644)])
+
+
 def try_words():
     """What `--explain` says of an output that isn't written."""
     with new_folder():
@@ -643,6 +667,7 @@ PARTS = (
     (try_own_inputs, 48),
     (try_what_is_no_file, 364),
     (try_devices, 160 if IS_ROOT else 180),
+    (try_standard_streams, 0),
     (try_words, 24),
     (try_losses, 24),
     (try_standard_output, 4),

@@ -35,6 +35,16 @@ fn explain_unread<F: Files>(alloc: Global, path: &str, files: &mut F) -> Result<
     unopened(alloc, path, kind)
 }
 
+/// Both texts as one, if there was memory for each of them and is for that.
+fn joined(
+    first: Result<String, AllocError>,
+    second: Result<String, AllocError>,
+) -> Result<String, AllocError> {
+    let mut text = first?;
+    text.push_str(second?.as_str())?;
+    Ok(text)
+}
+
 /// The number of the layer that a fault is in, if it is in one.
 fn layer_in(fault: &BuildFault) -> Option<usize> {
     match fault {
@@ -70,9 +80,8 @@ fn explain_layer<F: Files>(
             ..
         }
     ) {
-        let mut text = layer_fault(alloc, layer, name, path, exact, None, fault)?;
-        text.push_str(explain_unread(alloc, path, files)?.as_str())?;
-        return Ok(text);
+        let refused = layer_fault(alloc, layer, name, path, exact, None, fault);
+        return joined(refused, explain_unread(alloc, path, files));
     }
     let bytes = read_again(alloc, path, files);
     layer_fault(alloc, layer, name, path, exact, bytes.as_deref(), fault)
@@ -88,9 +97,8 @@ fn explain_file<F: Files>(
     ensures { OnlyReads (used (F.state files.old) (F.state files.new)) }
 {
     if matches!(fault, FileFault::Read(ReadFault::Read)) {
-        let mut text = topology_fault(alloc, path, None, fault)?;
-        text.push_str(explain_unread(alloc, path, files)?.as_str())?;
-        return Ok(text);
+        let refused = topology_fault(alloc, path, None, fault);
+        return joined(refused, explain_unread(alloc, path, files));
     }
     let bytes = read_again(alloc, path, files);
     topology_fault(alloc, path, bytes.as_deref(), fault)
@@ -199,6 +207,18 @@ fn parts_beside<F: Files>(alloc: Global, path: &str, files: &mut F) -> Result<u3
     Ok(MOST_PARTS)
 }
 
+/// Which new files of other runs stand beside the file of this path.
+fn explain_parts_of<F: Files>(
+    alloc: Global,
+    path: &str,
+    files: &mut F,
+) -> Result<String, AllocError>
+    ensures { F.state files.new ≡ F.state files.old }
+{
+    let count = parts_beside(alloc, path, files)?;
+    other_parts(alloc, path, count)
+}
+
 /// The path of the report that an order asks for, if it isn't that of its output, too.
 fn unnamed_report<'a>(order: &Order<'a>) -> Option<&'a str> {
     match (order.output, order.report) {
@@ -215,15 +235,14 @@ fn explain_parts<F: Files>(
 ) -> Result<String, AllocError>
     ensures { F.state files.new ≡ F.state files.old }
 {
-    let mut text = match order.output {
-        Some(path) => other_parts(alloc, path, files.other_parts())?,
-        None => String::new(alloc),
+    let beside_output = match order.output {
+        Some(path) => other_parts(alloc, path, files.other_parts()),
+        None => Ok(String::new(alloc)),
     };
-    if let Some(path) = unnamed_report(order) {
-        let count = parts_beside(alloc, path, files)?;
-        text.push_str(other_parts(alloc, path, count)?.as_str())?;
+    match unnamed_report(order) {
+        Some(path) => joined(beside_output, explain_parts_of(alloc, path, files)),
+        None => beside_output,
     }
-    Ok(text)
 }
 
 /// What is said in words of how an order came out.
@@ -237,12 +256,11 @@ fn explain<F: Files>(
     ensures reads { OnlyReads (used (F.state files.old) (F.state files.new)) }
     ensures unread { ReadsNothing outcome.now (F.state files.old) (F.state files.new) }
 {
-    let mut text = match outcome {
-        Ok(report) => explain_done(alloc, report, observed)?,
-        Err(ending) => explain_refused(alloc, order, ending, files)?,
+    let said = match outcome {
+        Ok(report) => explain_done(alloc, report, observed),
+        Err(ending) => explain_refused(alloc, order, ending, files),
     };
-    text.push_str(explain_parts(alloc, order, files)?.as_str())?;
-    Ok(text)
+    joined(said, explain_parts(alloc, order, files))
 }
 
 /// What is said in words of how an order came out, in lines, each ended by a line feed: nothing for want of memory.

@@ -667,7 +667,7 @@ PARTS = (
     (try_own_inputs, 48),
     (try_what_is_no_file, 364),
     (try_devices, 160 if IS_ROOT else 180),
-    (try_standard_streams, 0),
+    (try_standard_streams, 144),
     (try_words, 24),
     (try_losses, 24),
     (try_standard_output, 4),

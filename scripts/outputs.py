@@ -285,7 +285,7 @@ def try_standard_streams():
                 ("-o, after what was there", '"$0" "$@" -o /dev/stdout >> own 2> /dev/null', OLD + output),
                 ("-o, by the descriptor", '"$0" "$@" -o /dev/fd/1 > own 2> /dev/null', output),
                 ("--report", '"$0" "$@" --report /dev/stdout > own 2> /dev/null', output + report),
-                ("--report, standard error", '("$0" "$@" --report /dev/stderr; echo "$?" >&2) 2> own > /dev/null', report + error + b"0\n"),
+                ("--report, standard error", '("$0" "$@" --report /dev/stderr; echo "$?" >&2) 2> own > /dev/null', error + report + b"0\n"),
             ):
                 write("own", OLD)
                 before = held()

@@ -319,7 +319,7 @@ def try_losses():
     """What `--explain` and `--report` say of features that are lost, also through a pipe and where the output replaces the input: the same."""
     lost = b'feature 0, id 7, name "Sark": nothing of its geometry is left\n'
     explanations = {
-        "build": b'  layer 0, ' + lost + b'  layer 0: "bbox" 1, "crs" 0, other members 0 left out\n',
+        "build": b'  layer 0, ' + lost + b'  layer 0: "bbox" 1 left out\n',
         "simplify": b'  object "a", ' + lost,
     }
     with new_folder():

@@ -272,7 +272,7 @@ RUNS = (
         LESS_NAMED,
         report(1, 4, ("0 0 0 small",))
         + f"  {KEPT_RING}\n  layer 0, {LOST}\n"
-        + '  layer 0: "bbox" 1, "crs" 1, other members 0 left out\n'
+        + '  layer 0: "bbox" 1, "crs" 1 left out\n'
         + '  layer 0: its "crs" is "EPSG:3857": coordinates are taken as they are, so areas are in square units of it, not in square degrees\n',
         BUILD,
         30,

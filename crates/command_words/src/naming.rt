@@ -40,6 +40,20 @@ fn is_number(word: &str) -> bool {
         && word.chars().all(|letter| letter.is_ascii_digit() || ".eE+-".contains(letter))
 }
 
+/// The text between single quotes of a shell, in which no letter but such a quote is special: it closes them, stands behind a backslash, and opens
+/// them anew.
+fn between_quotes(alloc: Global, text: &str) -> Result<String, AllocError> {
+    let mut written = String::new(alloc);
+    for letter in text.chars() {
+        if letter == '\'' {
+            written.push_str("'\\''")?;
+        } else {
+            written.push(letter)?;
+        }
+    }
+    Ok(written)
+}
+
 /// How the layer of a word is named that has no `=`, as a line, where that is asked and its path suggests a name.
 pub(crate) fn naming(alloc: Global, word: &str, is_asked: bool) -> Result<String, AllocError>
     ensures { IfOk result (λ t. IsAdvice is_asked (string_bytes t)) }
@@ -51,8 +65,10 @@ pub(crate) fn naming(alloc: Global, word: &str, is_asked: bool) -> Result<String
     if name.is_empty() || is_number(word) || !word.chars().all(is_shown) {
         return Ok(String::new(alloc));
     }
-    if word.chars().all(is_bare) || word.contains('\'') {
+    if word.chars().all(is_bare) {
         return format!(in alloc; "  name it: {name}={word}\n");
     }
+    let name = between_quotes(alloc, name)?;
+    let word = between_quotes(alloc, word)?;
     format!(in alloc; "  name it: '{name}={word}'\n")
 }

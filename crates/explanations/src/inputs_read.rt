@@ -8,17 +8,28 @@ use json_value::{Json, OwnText, find, need_text};
 use std::alloc::{AllocError, Global};
 use topojson_decoder::quoted;
 
+/// Adds how many members of this kind there are, if there are any.
+fn add_count(alloc: Global, counts: &mut String, kind: &str, count: u64) -> Result<(), AllocError> {
+    if count == 0 {
+        return Ok(());
+    }
+    if !counts.is_empty() {
+        counts.push_str(", ")?;
+    }
+    let part = format!(in alloc; "{kind} {count}")?;
+    counts.push_str(part.as_str())
+}
+
 /// The line for members that aren't read, if there are any. `place` is what stands before it: the layer, or nothing.
 fn unread_line(alloc: Global, place: &str, unread: &Unread<'_>) -> Result<String, AllocError> {
-    let bbox = unread.bbox;
-    let crs = unread.crs;
-    let others = unread.others;
-    if bbox == 0 && crs == 0 && others == 0 {
-        return Ok(String::new(alloc));
+    let mut counts = String::new(alloc);
+    add_count(alloc, &mut counts, "\"bbox\"", unread.bbox)?;
+    add_count(alloc, &mut counts, "\"crs\"", unread.crs)?;
+    add_count(alloc, &mut counts, "other members", unread.others)?;
+    if counts.is_empty() {
+        return Ok(counts);
     }
-    format!(in alloc;
-        "  {place}\"bbox\" {bbox}, \"crs\" {crs}, other members {others}{UNREAD_ENDING}\n"
-    )
+    format!(in alloc; "  {place}{counts}{UNREAD_ENDING}\n")
 }
 
 /// The line for a layer whose positions seem to have their latitude first, if they do. `place` is what stands before it.

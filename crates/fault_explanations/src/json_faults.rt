@@ -61,8 +61,16 @@ fn is_latin(bytes: &[u8], at: usize) -> bool {
         && at.saturating_add(1) < bytes.len()
 }
 
+/// Whether the bytes begin with the byte order mark of UTF-32. The little-endian one begins with that of UTF-16.
+fn is_utf32(bytes: &[u8]) -> bool {
+    matches!(bytes, [0xff, 0xfe, 0, 0, ..] | [0, 0, 0xfe, 0xff, ..])
+}
+
 /// What to do with a file that is no UTF-8 from the byte of this number on, if that is known.
 fn encoding_advice(bytes: &[u8], at: usize) -> &'static str {
+    if is_utf32(bytes) {
+        return "  the file is text of UTF-32: save it as UTF-8\n";
+    }
     match form_of(bytes) {
         FileForm::Other if is_latin(bytes, at) => {
             "  the file may be text of Latin-1: make UTF-8 of it, as by iconv -f WINDOWS-1252 -t UTF-8 in.json > out.json\n"

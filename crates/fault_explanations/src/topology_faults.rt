@@ -120,15 +120,29 @@ fn words(found: &Found) -> &'static str {
     }
 }
 
-/// The line for a value that is no topology, where it is known what it is instead.
+/// The line for a value that is no object.
+fn kind_line(value: &Json) -> &'static str {
+    match value {
+        Json::Null => "  it is null, not an object\n",
+        Json::Bool(true) => "  it is true, not an object\n",
+        Json::Bool(false) => "  it is false, not an object\n",
+        Json::Number(_) => "  it is a number, not an object\n",
+        Json::Text(_) => "  it is a text, not an object\n",
+        Json::Array(_) => "  it is an array, not an object\n",
+        Json::Object(_) => "",
+    }
+}
+
+/// The line for a value that is no topology: what it is instead.
 fn other_line(alloc: Global, value: &Json) -> Result<String, AllocError> {
     let Some(name) = type_of(value) else {
-        return Ok(String::new(alloc));
+        return String::from_str(alloc, kind_line(value));
     };
-    match geojson_type(name) {
-        None => Ok(String::new(alloc)),
-        Some(_) => String::from_str(alloc, "  this is GeoJSON, which mapchain build takes\n"),
+    if geojson_type(name).is_some() {
+        return String::from_str(alloc, "  this is GeoJSON, which mapchain build takes\n");
     }
+    let name = quoted(alloc, name)?;
+    format!(in alloc; "  its type is {name}, not \"Topology\"\n")
 }
 
 /// What is wrong with this value, which is no topology.

@@ -273,7 +273,7 @@ RUNS = (
         report(1, 4, ("0 0 0 small",))
         + f"  {KEPT_RING}\n  layer 0, {LOST}\n"
         + '  layer 0: "bbox" 1, "crs" 1 left out\n'
-        + '  layer 0: its "crs" is "EPSG:3857": coordinates are taken as they are, so areas are in square units of it, not in square degrees\n',
+        + '  layer 0: its "crs" is "EPSG:3857": coordinates are taken as they are, so areas are in square units of it, which may not be degrees\n',
         BUILD,
         30,
     ),

@@ -18,9 +18,9 @@ loss_ending = codes ": nothing of its geometry is left"
 abbrev pub unread_ending : List ℕ
 unread_ending = codes " left out"
 
--- of a layer whose coordinates aren't degrees
+-- of a layer whose coordinates may not be degrees
 abbrev pub system_ending : List ℕ
-system_ending = codes ", not in square degrees"
+system_ending = codes ", which may not be degrees"
 
 -- of a layer that seems to have its latitudes first
 abbrev pub swapped_ending : List ℕ

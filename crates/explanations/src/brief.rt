@@ -16,8 +16,8 @@ pub(crate) const LOSS_ENDING: &str = ": nothing of its geometry is left";
 /// How a line ends that tells of members of an input that aren't read.
 pub(crate) const UNREAD_ENDING: &str = " left out";
 
-/// How a line ends that tells of a layer whose coordinates aren't degrees.
-pub(crate) const SYSTEM_ENDING: &str = ", not in square degrees";
+/// How a line ends that tells of a layer whose coordinates may not be degrees.
+pub(crate) const SYSTEM_ENDING: &str = ", which may not be degrees";
 
 /// How a line ends that tells of a layer which seems to have its latitudes first.
 pub(crate) const SWAPPED_ENDING: &str = ", as GeoJSON has the longitude first";
@@ -35,7 +35,7 @@ pub enum LineKind {
     Loss,
     /// Members of an input that aren't read.
     Unread,
-    /// A layer whose coordinates aren't degrees.
+    /// A layer whose coordinates may not be degrees.
     System,
     /// A layer that seems to have its latitudes first.
     Swapped,

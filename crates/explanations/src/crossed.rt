@@ -25,22 +25,67 @@ fn position_text(alloc: Global, at: Position) -> Result<String, AllocError> {
     format!(in alloc; "[{x}, {y}]")
 }
 
-/// Two of these positions that follow one another are the segment's ends.
-fn has_segment(positions: &[Position], ends: &Ends) -> bool {
-    for next in 1..positions.len() {
-        if positions[next - 1] == ends.0 && positions[next] == ends.1 {
-            return true;
-        }
-    }
-    false
+/// Where a segment of arcs stands: the number of its arc, and that of its second end among the arc's positions.
+#[derive(Clone, Copy, PartialEq, Eq)]
+struct Place {
+    arc: usize,
+    end: usize,
 }
 
-/// The number of the first arc that has the segment.
-fn arc_with(arcs: &[Items<Position>], ends: &Ends) -> Option<usize> {
-    for (number, arc) in arcs.iter().enumerate() {
-        if has_segment(arc.as_slice(), ends) {
-            return Some(number);
+impl Place {
+    /// That of the segment that comes next, if the arc has one more.
+    fn next(self) -> Place {
+        Place {
+            arc: self.arc,
+            end: self.end.saturating_add(1),
         }
+    }
+}
+
+/// The number of the second end of the first segment with these ends, from the segment on whose second end has this number.
+fn end_in(positions: &[Position], from: usize, ends: &Ends) -> Option<usize> {
+    for end in from.max(1)..positions.len() {
+        if positions[end - 1] == ends.0 && positions[end] == ends.1 {
+            return Some(end);
+        }
+    }
+    None
+}
+
+/// The first segment with these ends, from this place on.
+fn segment_from(arcs: &[Items<Position>], from: Place, ends: &Ends) -> Option<Place> {
+    for arc in from.arc..arcs.len() {
+        let first = if arc == from.arc { from.end } else { 1 };
+        if let Some(end) = end_in(arcs[arc].as_slice(), first, ends) {
+            return Some(Place { arc, end });
+        }
+    }
+    None
+}
+
+/// Where both segments of a pair stand.
+#[derive(Clone, Copy)]
+struct Pair {
+    first: Place,
+    second: Place,
+}
+
+/// Where the pair with these ends stands, which is the next after this one. Pairs come in the order of their first segments, and those of one
+/// first segment in the order of their second. So of segments with the same ends that one is meant that comes first after the pair before.
+fn pair_after(arcs: &[Items<Position>], before: Pair, crossing: &Crossing) -> Option<Pair> {
+    let mut first = segment_from(arcs, before.first, &crossing.first)?;
+    let mut from = if first == before.first {
+        before.second.next()
+    } else {
+        first.next()
+    };
+    // (a first segment that has no such second one any more is that of a pair before)
+    for _turn in 0..MOST_ASKED {
+        if let Some(second) = segment_from(arcs, from, &crossing.second) {
+            return Some(Pair { first, second });
+        }
+        first = segment_from(arcs, first.next(), &crossing.first)?;
+        from = first.next();
     }
     None
 }
@@ -64,18 +109,17 @@ fn feature_text(alloc: Global, topology: &Topology, number: u64) -> Result<Strin
     Ok(String::new(alloc))
 }
 
-/// A segment, and the first feature that uses its arc.
+/// A segment of the arc with this number, and the first feature that uses the arc.
 fn segment_text(
     alloc: Global,
     topology: &Topology,
-    arcs: &[Items<Position>],
     owners: &[Owner],
+    arc: usize,
     ends: &Ends,
 ) -> Result<String, AllocError> {
     let from = position_text(alloc, ends.0)?;
     let to = position_text(alloc, ends.1)?;
-    let owner = arc_with(arcs, ends).and_then(|number| owners.get(number));
-    match owner {
+    match owners.get(arc) {
         Some(Owner::One(number) | Owner::Several(number)) => {
             let feature = feature_text(alloc, topology, *number)?;
             format!(in alloc; "{from} to {to} of {feature}")
@@ -93,13 +137,33 @@ pub(crate) fn crossing_lines(
 ) -> Result<String, AllocError> {
     let mut lines = String::new(alloc);
     let owners = owners_of(alloc, topology)?;
+    let mut at = Pair {
+        first: Place { arc: 0, end: 1 },
+        second: Place { arc: 0, end: 1 },
+    };
     for (number, crossing) in crossings.iter().enumerate() {
         if number == MOST_NAMED {
             lines.push_str("  and others, which aren't named\n")?;
             break;
         }
-        let first = segment_text(alloc, topology, arcs, owners.as_slice(), &crossing.first)?;
-        let second = segment_text(alloc, topology, arcs, owners.as_slice(), &crossing.second)?;
+        let Some(pair) = pair_after(arcs, at, crossing) else {
+            break;
+        };
+        at = pair;
+        let first = segment_text(
+            alloc,
+            topology,
+            owners.as_slice(),
+            pair.first.arc,
+            &crossing.first,
+        )?;
+        let second = segment_text(
+            alloc,
+            topology,
+            owners.as_slice(),
+            pair.second.arc,
+            &crossing.second,
+        )?;
         write!(lines, "  the segment {first} meets {second}\n")?;
     }
     Ok(lines)

@@ -57,7 +57,7 @@ fn crs_name(crs: &Json) -> Option<&str> {
     need_text(properties.as_slice(), "name").ok()
 }
 
-/// The line for a layer that names a coordinate reference system which isn't of degrees. What stands from the value of its `crs` on is
+/// The line for a layer that names a coordinate reference system which isn't known to be of degrees. What stands from the value of its `crs` on is
 /// given, and `place` is what stands before the line.
 fn crs_line(alloc: Global, place: &str, bytes: &[u8]) -> Result<String, AllocError> {
     let value = match value_at(alloc, LAYER_DEPTH, bytes) {
@@ -96,7 +96,7 @@ impl InputLines {
     }
 
     /// Adds what is said of the layer of this number, which the bytes spell: a line for the members that aren't read; one where it says
-    /// that its coordinates aren't degrees; and one where latitude and longitude seem to be swapped.
+    /// that its coordinates may not be degrees; and one where latitude and longitude seem to be swapped.
     pub(crate) fn add_layer(
         &mut self,
         alloc: Global,

@@ -228,7 +228,11 @@ BUILD, FILE = "B7", "E6"
 # Lines that explain a run, some or all of which aren't there where memory for them is refused.
 KEPT_ALL = "kept 2 of 2 positions of the arcs that are written, 100.0 %"
 KEPT_RING = "kept 4 of 4 positions of the arcs that are written, 100.0 %"
-CUT_SHORT = ('layer 0 is "a", the file cut.json', "line 1, column 41 (byte 40): the text ends too early")
+CUT_SHORT = (
+    'layer 0 is "a", the file cut.json',
+    "line 1, column 41 (byte 40): the text ends too early",
+    "the array begins at line 1, column 37 (byte 36)",
+)
 LINE_COUNTED = '{"rounded":0,"extra":0,"empty":0,"dropped":[],"lost":0,"arcs":1,"kept":2,"removed":0,"chosen":null}'
 LINE_LAYER = layer(("LineString", "[[0,0],[1.5,0.25]]"))
 SUMMARY = 'objects 1\n"land" 3\narcs 2\npositions 7\ngrid no\n'

@@ -3,7 +3,9 @@ ghost use Rattle.std.specs.Prelude.{◌≤◌};
 
 use crate::form::{FileForm, form_of, is_plain};
 use crate::place::{place_in, prefix};
-use crate::slips::slip_at;
+use crate::sight::slip_at;
+use crate::slips;
+use crate::spot::{Opened, Part, spot_at};
 use crate::trees::{is_sequence, stop};
 use json_reading::{JsonFault, Why, skip};
 use std::alloc::{AllocError, Global};
@@ -79,15 +81,73 @@ fn encoding_advice(bytes: &[u8], at: usize) -> &'static str {
     }
 }
 
-/// The line for the byte of this number, where reading stops for this reason, and what to do if it is something that is often taken for
-/// JSON.
-fn stopped(alloc: Global, bytes: &[u8], at: usize, why: Why) -> Result<String, AllocError> {
-    match slip_at(bytes, at) {
-        Some(slip) if why == Why::Syntax => {
-            let mut lines = placed(alloc, bytes, at, slip.words())?;
-            lines.push_str(slip.advice())?;
-            Ok(lines)
+/// Adds the line for what begins at the byte of this number and isn't ended there.
+fn add_begun(
+    alloc: Global,
+    lines: &mut String,
+    bytes: &[u8],
+    begun: &str,
+    at: usize,
+) -> Result<(), AllocError> {
+    let place = place_in(bytes, at);
+    let line = place.line;
+    let column = place.column;
+    let begins = format!(in alloc;
+        "  the {begun} begins at line {line}, column {column} (byte {at})\n"
+    )?;
+    lines.push_str(begins.as_str())
+}
+
+/// Adds the line for an array or an object that isn't ended, if there is one.
+fn add_opened(
+    alloc: Global,
+    lines: &mut String,
+    bytes: &[u8],
+    innermost: Option<Opened>,
+) -> Result<(), AllocError> {
+    match innermost {
+        None => Ok(()),
+        Some(opened) if opened.is_object => add_begun(alloc, lines, bytes, "object", opened.at),
+        Some(opened) => add_begun(alloc, lines, bytes, "array", opened.at),
+    }
+}
+
+/// The lines for the byte of this number, which does not belong there: what it is, as far as the bytes show, and what to do.
+fn misplaced(alloc: Global, bytes: &[u8], at: usize) -> Result<String, AllocError> {
+    let spot = spot_at(alloc, bytes, at)?;
+    let slip = slip_at(&spot, bytes, at);
+    let mut lines = placed(alloc, bytes, at, slip.words)?;
+    lines.push_str(slip.advice)?;
+    if slip == slips::OPEN_ARRAY || slip == slips::OPEN_OBJECT || slip == slips::NAME {
+        add_opened(alloc, &mut lines, bytes, spot.innermost())?;
+    }
+    Ok(lines)
+}
+
+/// The lines for a text that ends too early: where what isn't ended begins.
+fn ended(alloc: Global, bytes: &[u8], at: usize) -> Result<String, AllocError> {
+    let spot = spot_at(alloc, bytes, at)?;
+    let mut lines = placed(alloc, bytes, at, words(Why::End))?;
+    match spot.part {
+        Part::Text | Part::Escape => add_begun(alloc, &mut lines, bytes, "text", spot.start)?,
+        Part::Nothing | Part::Scalar => {
+            add_opened(alloc, &mut lines, bytes, spot.innermost())?;
         }
+    }
+    Ok(lines)
+}
+
+/// The lines for the byte of this number, where reading stops for this reason in a file of this kind. Of a file that isn't text the kind says more.
+fn stopped(
+    alloc: Global,
+    bytes: &[u8],
+    form: FileForm,
+    at: usize,
+    why: Why,
+) -> Result<String, AllocError> {
+    match why {
+        Why::Syntax if form == FileForm::Other => misplaced(alloc, bytes, at),
+        Why::End => ended(alloc, bytes, at),
         _ => placed(alloc, bytes, at, words(why)),
     }
 }
@@ -101,12 +161,12 @@ fn malformed(
 ) -> Result<String, AllocError>
     requires { deepest ≤ 255 }
 {
-    let advice = advice(form_of(after_mark(bytes)));
+    let form = form_of(after_mark(bytes));
     let Some((at, why)) = stop(alloc, bytes, deepest)? else {
-        return String::from_str(alloc, advice);
+        return String::from_str(alloc, advice(form));
     };
-    let mut lines = stopped(alloc, bytes, at, why)?;
-    lines.push_str(advice)?;
+    let mut lines = stopped(alloc, bytes, form, at, why)?;
+    lines.push_str(advice(form))?;
     if is_sequence(alloc, bytes, deepest)? {
         lines.push_str(sequence)?;
     }

@@ -1,8 +1,10 @@
 // Why a layer is refused.
 use crate::json_faults::json_fault;
 use crate::read_faults::read_words;
+use crate::trails::file_line;
 use crate::trees::{tree, type_of};
-use crate::walk::{Member, Step, Walk};
+use crate::type_names::layer_words;
+use crate::walk::{Member, Walk};
 use geojson_meaning::{GeoFault, GeoFaultKind, GeoJsonType, geojson_type};
 use inputs::BuildFault;
 use json_reading::LAYER_DEPTH;
@@ -10,66 +12,18 @@ use json_value::{Json, OwnText, need};
 use std::alloc::{AllocError, Global};
 use topojson_decoder::{label_of, quoted, shown};
 
-/// Whether the way leads to more of the geometry of a feature than its type.
-fn is_in_geometry(trail: &[Step]) -> bool {
-    trail.len() > 1
-        && trail[0] == Step::Member(Member::Geometry)
-        && trail[1] != Step::Member(Member::Type)
-}
-
-/// Adds a step to a way.
-fn add_step(alloc: Global, path: &mut String, step: Step) -> Result<(), AllocError> {
-    match step {
-        Step::Element(index) => {
-            let part = format!(in alloc; "[{index}]")?;
-            path.push_str(part.as_str())
-        }
-        Step::Member(member) => {
-            if !path.is_empty() {
-                path.push_str(".")?;
-            }
-            path.push_str(member.name())
-        }
-    }
-}
-
 /// What to do with a layer that is JSON texts one after another.
 const SEQUENCE: &str =
     "  the file is JSON texts one after another: make one FeatureCollection of them, as by ogr2ogr -f GeoJSON or jq -s\n";
-
-/// The way to a value, as `coordinates[0][3]`. That it is the `geometry` of a feature goes without saying for what is in it.
-fn path(alloc: Global, trail: &[Step]) -> Result<String, AllocError> {
-    let steps = match trail {
-        [_, inside @ ..] if is_in_geometry(trail) => inside,
-        _ => trail,
-    };
-    let mut path = String::new(alloc);
-    for step in steps {
-        add_step(alloc, &mut path, *step)?;
-    }
-    Ok(path)
-}
-
-/// The line for the place where a walk stopped, and what is wrong there.
-fn walk_line(alloc: Global, walk: &Walk) -> Result<String, AllocError> {
-    let path = path(alloc, walk.trail())?;
-    let words = walk.words();
-    if path.is_empty() {
-        return format!(in alloc; "  it {words}\n");
-    }
-    format!(in alloc; "  {path} {words}\n")
-}
 
 /// Looks at what of a layer comes before its features.
 fn walk_layer(walk: &mut Walk, value: &Json) -> Result<(), GeoFaultKind> {
     let Some(members) = value.as_object() else {
         return Err(walk.stop(GeoFaultKind::NotObject, "is no object"));
     };
-    match geojson_type(walk.enter_type(members)?) {
-        None => Err(walk.stop(
-            GeoFaultKind::UnknownType,
-            "is none of the nine types of GeoJSON",
-        )),
+    let name = walk.enter_type(members)?;
+    match geojson_type(name) {
+        None => Err(walk.stop_type(name, layer_words(name))),
         Some(GeoJsonType::FeatureCollection) => {
             walk.leave();
             let _features = walk.enter_array(members, Member::Features)?;
@@ -148,7 +102,7 @@ fn add_met(
         Err(GeoFaultKind::Memory) => Err(AllocError),
         Err(found) => {
             if found == kind {
-                let line = walk_line(alloc, walk)?;
+                let line = file_line(alloc, walk)?;
                 lines.push_str(line.as_str())?;
             }
             Ok(())

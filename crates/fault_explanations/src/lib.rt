@@ -7,16 +7,23 @@
 
 mod file_kinds;
 mod form;
+mod fronts;
 mod json_faults;
 mod layer_faults;
 mod options;
 mod place;
 mod positions;
 mod read_faults;
+mod scalars;
+mod sight;
 mod slips;
+mod spot;
 mod topology_faults;
+mod topology_kinds;
 mod topology_walk;
+mod trails;
 mod trees;
+mod type_names;
 mod unwritten;
 mod walk;
 

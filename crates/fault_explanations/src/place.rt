@@ -39,6 +39,15 @@ pub(crate) fn prefix(bytes: &[u8], count: usize) -> &[u8]
     }
 }
 
+/// The bytes from this one on.
+pub(crate) fn suffix(bytes: &[u8], from: usize) -> &[u8] {
+    if from < bytes.len() {
+        &bytes[from..]
+    } else {
+        &[]
+    }
+}
+
 /// Where the byte of this number stands, or the end where there are no more bytes.
 #[tactic(auto, unfolding(crate::specs::Places::place_after))]
 pub fn place_in(bytes: &[u8], at: usize) -> Place

@@ -2,8 +2,10 @@
 use crate::json_faults::json_fault;
 use crate::read_faults::read_words;
 use crate::topology_walk::{Found, Site, walk_topology};
+use crate::trails::{file_line, part_line};
 use crate::trees::{objects_of, parts_of, tree, type_of};
-use geojson_meaning::geojson_type;
+use crate::walk::Walk;
+use geojson_meaning::{GeoFaultKind, geojson_type};
 use inputs::FileFault;
 use json_reading::TOPOLOGY_DEPTH;
 use json_value::Json;
@@ -80,12 +82,16 @@ fn site_text(alloc: Global, topology: &Json, site: Site) -> Result<String, Alloc
     }
 }
 
-/// What is wrong with a member of a topology itself.
-fn member_words(fault: TopoFault) -> &'static str {
+/// What is wrong with the member of this name of a topology itself.
+fn member_words(name: &str, fault: TopoFault) -> &'static str {
     match fault {
-        TopoFault::Missing => "it is missing",
-        TopoFault::Duplicate => "it stands there twice",
-        _ => "it isn't of the kind of JSON value that it must be",
+        TopoFault::Missing => "is missing",
+        TopoFault::Duplicate => "stands there twice",
+        _ => match name {
+            "type" => "is no text",
+            "arcs" => "is no array",
+            _ => "is no object",
+        },
     }
 }
 
@@ -111,17 +117,91 @@ fn inner_words(fault: TopoFault) -> &'static str {
     }
 }
 
-/// What is wrong there.
-fn words(found: &Found) -> &'static str {
-    match found.site {
-        Site::Member(_) => member_words(found.fault),
-        Site::Repeated(_) => "an object before it has the same name",
-        _ => inner_words(found.fault),
+/// The fault of a layer that is of the same name, of those that a value's kind alone shows.
+fn kind_of(fault: TopoFault) -> Option<GeoFaultKind> {
+    match fault {
+        TopoFault::Missing => Some(GeoFaultKind::Missing),
+        TopoFault::Duplicate => Some(GeoFaultKind::Duplicate),
+        TopoFault::WrongKind => Some(GeoFaultKind::WrongKind),
+        TopoFault::UnknownType => Some(GeoFaultKind::UnknownType),
+        _ => None,
     }
 }
 
+/// Looks at the object of this number, or at a feature of it.
+fn walk_object(
+    walk: &mut Walk,
+    topology: &Json,
+    number: usize,
+    feature: Option<usize>,
+) -> Result<(), GeoFaultKind> {
+    let Some(object) = objects_of(topology).get(number) else {
+        return Ok(());
+    };
+    match feature {
+        None => walk.topology_object(&object.1),
+        Some(feature) => match object.1.as_object() {
+            None => Ok(()),
+            Some(members) => match parts_of(members).get(feature) {
+                None => Ok(()),
+                Some(value) => walk.topology_feature(value),
+            },
+        },
+    }
+}
+
+/// Looks at the kinds of the values at a place in a topology.
+fn walk_site(walk: &mut Walk, topology: &Json, site: Site) -> Result<(), GeoFaultKind> {
+    let Some(members) = topology.as_object() else {
+        return Ok(());
+    };
+    match site {
+        Site::Transform => walk.transform(members),
+        Site::Arc(number) => walk.arc(members, number),
+        Site::Object(number) => walk_object(walk, topology, number, None),
+        Site::Feature { object, feature } => walk_object(walk, topology, object, Some(feature)),
+        Site::Topology | Site::Member(_) | Site::Repeated(_) => Ok(()),
+    }
+}
+
+/// The line for a fault that the kinds of the values at its place show, or nothing where they don't.
+fn kind_line(
+    alloc: Global,
+    topology: &Json,
+    found: &Found,
+    site: &str,
+) -> Result<Option<String>, AllocError> {
+    let mut walk = Walk::new(alloc, false);
+    match walk_site(&mut walk, topology, found.site) {
+        Ok(()) => Ok(None),
+        Err(GeoFaultKind::Memory) => Err(AllocError),
+        Err(kind) if kind_of(found.fault) != Some(kind) => Ok(None),
+        Err(_) => match found.site {
+            Site::Object(_) | Site::Feature { .. } => Ok(Some(part_line(alloc, site, &walk)?)),
+            _ => Ok(Some(file_line(alloc, &walk)?)),
+        },
+    }
+}
+
+/// The line for a fault, where it is and what is wrong there.
+fn found_line(alloc: Global, topology: &Json, found: &Found) -> Result<String, AllocError> {
+    let site = site_text(alloc, topology, found.site)?;
+    if let Site::Member(name) = found.site {
+        let words = member_words(name, found.fault);
+        return format!(in alloc; "  {site} {words}\n");
+    }
+    if let Some(line) = kind_line(alloc, topology, found, site.as_str())? {
+        return Ok(line);
+    }
+    let words = match found.site {
+        Site::Repeated(_) => "an object before it has the same name",
+        _ => inner_words(found.fault),
+    };
+    format!(in alloc; "  {site}: {words}\n")
+}
+
 /// The line for a value that is no object.
-fn kind_line(value: &Json) -> &'static str {
+fn value_line(value: &Json) -> &'static str {
     match value {
         Json::Null => "  it is null, not an object\n",
         Json::Bool(true) => "  it is true, not an object\n",
@@ -136,7 +216,7 @@ fn kind_line(value: &Json) -> &'static str {
 /// The line for a value that is no topology: what it is instead.
 fn other_line(alloc: Global, value: &Json) -> Result<String, AllocError> {
     let Some(name) = type_of(value) else {
-        return String::from_str(alloc, kind_line(value));
+        return String::from_str(alloc, value_line(value));
     };
     if geojson_type(name).is_some() {
         return String::from_str(alloc, "  this is GeoJSON, which mapchain build takes\n");
@@ -160,9 +240,7 @@ fn topo_fault(alloc: Global, value: &Json, fault: TopoFault) -> Result<String, A
     if found.fault != fault {
         return Ok(String::new(alloc));
     }
-    let site = site_text(alloc, value, found.site)?;
-    let words = words(&found);
-    format!(in alloc; "  {site}: {words}\n")
+    found_line(alloc, value, &found)
 }
 
 /// What is wrong with the value that the bytes spell, for which this fault was answered.

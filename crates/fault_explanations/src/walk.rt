@@ -1,11 +1,12 @@
 // The first fault of a layer's tree, and the way to it.
 use crate::positions::position;
+use crate::type_names::geometry_words;
 use geojson_meaning::{CoordinatesType, GeoFaultKind, GeometryType, Position, geometry_type};
 use json_reading::LAYER_DEPTH;
 use json_value::{Json, LookupFault, OwnText, find};
 use std::alloc::Global;
 
-/// The members of layers that are looked at (RFC 7946).
+/// The members of layers (RFC 7946) and of topologies that are looked at.
 #[derive(Clone, Copy, PartialEq, Eq)]
 pub(crate) enum Member {
     Type,
@@ -15,6 +16,10 @@ pub(crate) enum Member {
     Geometry,
     Coordinates,
     Geometries,
+    Transform,
+    Scale,
+    Translate,
+    Arcs,
 }
 
 impl Member {
@@ -27,6 +32,10 @@ impl Member {
             Member::Geometry => "geometry",
             Member::Coordinates => "coordinates",
             Member::Geometries => "geometries",
+            Member::Transform => "transform",
+            Member::Scale => "scale",
+            Member::Translate => "translate",
+            Member::Arcs => "arcs",
         }
     }
 }
@@ -42,8 +51,11 @@ pub(crate) enum Step {
 /// words say what is wrong with it.
 #[derive(Drop)]
 pub(crate) struct Walk {
+    alloc: Global,
     exact: bool,
     trail: Vec<Step>,
+    /// The type that is none that can stand there.
+    type_name: Option<String>,
     words: &'static str,
 }
 
@@ -51,8 +63,10 @@ impl Walk {
     /// A walk that hasn't begun.
     pub(crate) fn new(alloc: Global, exact: bool) -> Walk {
         Walk {
+            alloc,
             exact,
             trail: Vec::new(alloc),
+            type_name: None,
             words: "",
         }
     }
@@ -62,12 +76,20 @@ impl Walk {
         self.trail.as_slice()
     }
 
+    /// The type that is wrong there, if it is one.
+    pub(crate) fn type_name(&self) -> Option<&str> {
+        match &self.type_name {
+            Some(name) => Some(name.as_str()),
+            None => None,
+        }
+    }
+
     /// What is wrong there.
     pub(crate) fn words(&self) -> &'static str {
         self.words
     }
 
-    fn enter(&mut self, step: Step) -> Result<(), GeoFaultKind> {
+    pub(crate) fn enter(&mut self, step: Step) -> Result<(), GeoFaultKind> {
         self.trail.push(step)?;
         Ok(())
     }
@@ -80,6 +102,17 @@ impl Walk {
     pub(crate) fn stop(&mut self, kind: GeoFaultKind, words: &'static str) -> GeoFaultKind {
         self.words = words;
         kind
+    }
+
+    /// Answers that a type is none that can stand there. The words follow it.
+    pub(crate) fn stop_type(&mut self, name: &str, words: &'static str) -> GeoFaultKind {
+        match String::from_str(self.alloc, name) {
+            Ok(name) => {
+                self.type_name = Some(name);
+                self.stop(GeoFaultKind::UnknownType, words)
+            }
+            Err(_) => GeoFaultKind::Memory,
+        }
     }
 
     /// The member of this name, if there is one, which is entered.
@@ -99,7 +132,7 @@ impl Walk {
     }
 
     /// The member of this name, which must be there and is entered.
-    fn enter_member<'a>(
+    pub(crate) fn enter_member<'a>(
         &mut self,
         members: &'a [(OwnText, Json)],
         member: Member,
@@ -121,7 +154,7 @@ impl Walk {
     }
 
     /// The elements of an array.
-    fn elements<'a>(&mut self, value: &'a Json) -> Result<&'a [Json], GeoFaultKind> {
+    pub(crate) fn elements<'a>(&mut self, value: &'a Json) -> Result<&'a [Json], GeoFaultKind> {
         match value.as_array() {
             Some(elements) => Ok(elements),
             None => Err(self.stop(GeoFaultKind::WrongKind, "is no array")),
@@ -145,11 +178,9 @@ impl Walk {
         let Some(members) = value.as_object() else {
             return Err(self.stop(GeoFaultKind::NotObject, "is no object"));
         };
-        if self.enter_type(members)? != "Feature" {
-            return Err(self.stop(
-                GeoFaultKind::UnknownType,
-                "is another text than \"Feature\"",
-            ));
+        let name = self.enter_type(members)?;
+        if name != "Feature" {
+            return Err(self.stop_type(name, "not \"Feature\""));
         }
         self.leave();
         self.feature(members)
@@ -157,6 +188,15 @@ impl Walk {
 
     /// Looks at the feature with these members, whose type was looked at.
     pub(crate) fn feature(&mut self, members: &[(OwnText, Json)]) -> Result<(), GeoFaultKind> {
+        self.identity(members)?;
+        match self.enter_object_if(members, Member::Geometry)? {
+            None => Ok(()),
+            Some(geometry) => self.geometry(geometry),
+        }
+    }
+
+    /// Looks at the identifier and the properties of a feature with these members.
+    pub(crate) fn identity(&mut self, members: &[(OwnText, Json)]) -> Result<(), GeoFaultKind> {
         match self.enter_if(members, Member::Id)? {
             None | Some(Json::Null | Json::Text(_) | Json::Number(_)) => self.leave(),
             Some(_) => {
@@ -168,14 +208,11 @@ impl Walk {
         }
         let _properties = self.enter_object_if(members, Member::Properties)?;
         self.leave();
-        match self.enter_object_if(members, Member::Geometry)? {
-            None => Ok(()),
-            Some(geometry) => self.geometry(geometry),
-        }
+        Ok(())
     }
 
     /// The members of the object that the member of this name is, if it is there and isn't null. It is entered.
-    fn enter_object_if<'a>(
+    pub(crate) fn enter_object_if<'a>(
         &mut self,
         members: &'a [(OwnText, Json)],
         member: Member,
@@ -189,15 +226,13 @@ impl Walk {
 
     /// The type of the geometry with these members.
     fn geometry_kind(&mut self, members: &[(OwnText, Json)]) -> Result<GeometryType, GeoFaultKind> {
-        match geometry_type(self.enter_type(members)?) {
+        let name = self.enter_type(members)?;
+        match geometry_type(name) {
             Some(kind) => {
                 self.leave();
                 Ok(kind)
             }
-            None => Err(self.stop(
-                GeoFaultKind::UnknownType,
-                "is none of the seven types of geometries",
-            )),
+            None => Err(self.stop_type(name, geometry_words(name))),
         }
     }
 

@@ -302,7 +302,7 @@ def try_words():
             ("missing/new", "its folder is not there, or it is a link that leads nowhere"),
             ("line/new", "its folder is not there, or it is a link that leads nowhere"),
             ("below", "a folder, not a file"),
-            ("x" * 255, "no file can have this name"),
+            ("x" * 255, "no file can have this name, or that of the new one beside it"),
         ):
             said = write_fault("B6", 0) + f"  {path}: {words}\n".encode()
             try_run(f"{path[:20]} in words", ["build", "--explain", "a=line", "-o", path], (3, said))

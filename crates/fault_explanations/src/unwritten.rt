@@ -25,6 +25,8 @@ pub enum WriteFailure {
     NoReader,
     /// All names for the new file beside it are taken.
     NamesTaken,
+    /// It has taken the output of the run.
+    HoldsOutput,
     /// Too many files are open.
     TooManyOpen,
     /// It is closed, or can only be read.
@@ -44,9 +46,11 @@ fn words(failure: Option<WriteFailure>) -> &'static str {
         Some(WriteFailure::Full) => "the disk is full",
         Some(WriteFailure::OverQuota) => "this user has no more room on the disk",
         Some(WriteFailure::TooLarge) => "no file may be that long here",
-        Some(WriteFailure::BadName) => "no file can have this name",
+        Some(WriteFailure::BadName) =>
+            "no file can have this name, or that of the new one beside it",
         Some(WriteFailure::NoReader) => "the program that reads it has ended",
         Some(WriteFailure::NamesTaken) => "a thousand new files of other runs stand beside it",
+        Some(WriteFailure::HoldsOutput) => "it has taken the output of this run",
         Some(WriteFailure::TooManyOpen) =>
             "too many files are open: ulimit -n says how many may be",
         Some(WriteFailure::Closed) => "closed, or open for reading alone",

@@ -153,6 +153,11 @@ impl Target {
         }
     }
 
+    /// Whether this path leads to it, and it is a file that a new one takes the place of.
+    pub(crate) fn is_file_at(&self, rt: &HostRuntime, path: &str) -> bool {
+        matches!(self.kind, TargetKind::New | TargetKind::File { .. }) && self.is_at(rt, path)
+    }
+
     /// The file or the device of this path, or the name of a file that isn't there yet.
     pub(crate) fn of(rt: &HostRuntime, path: &str) -> io::Result<Target>
         ensures { IfOk result (λ target. string_bytes target.named ≡ path.now) }

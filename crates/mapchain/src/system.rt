@@ -56,13 +56,29 @@ impl<'a> System<'a> {
 
 // The file or the device of this path, what is to be written for it, with a buffer before it, and how many new files of other runs stand
 // beside.
-fn begin(rt: &HostRuntime, path: &str) -> io::Result<(Target, BufWriter<PartFile>, u32)>
+fn begin_target(rt: &HostRuntime, path: &str) -> io::Result<(Target, BufWriter<PartFile>, u32)>
     ensures { IfOk result (λ r. string_bytes r.0.named ≡ path.now) }
 {
     let target = Target::of(rt, path)?;
     let (part, other_parts) = PartFile::of(rt, &target)?;
     let output = BufWriter::with_capacity(rt.alloc(), OUT_BUFFER, part)?;
     Ok((target, output, other_parts))
+}
+
+// The same, or why it can't be begun. What has taken the output of the run isn't replaced once more.
+fn begin(
+    rt: &HostRuntime,
+    replaced: &Option<Target>,
+    path: &str,
+) -> Result<(Target, BufWriter<PartFile>, u32), WriteFailure>
+    ensures { IfOk result (λ r. string_bytes r.0.named ≡ path.now) }
+{
+    if let Some(output) = replaced {
+        if output.is_file_at(rt, path) {
+            return Err(WriteFailure::HoldsOutput);
+        }
+    }
+    begin_target(rt, path).map_err(|error| failure_of(&error))
 }
 
 // Writes what is still held back, and has the new file take the place of the target.
@@ -144,9 +160,9 @@ impl Files for System<'_> {
     }
 
     fn begin(&mut self, path: &str) -> Option<Sink<ToWrite<BufWriter<PartFile>>>> {
-        let begun = begin(&self.rt, path);
+        let begun = begin(&self.rt, &self.replaced, path);
         self.counts.count_begin(begun.is_ok());
-        self.failure = begun.as_ref().err().map(failure_of);
+        self.failure = begun.as_ref().err().copied();
         let (target, output, other_parts) = begun.ok()?;
         self.pending = Some(target);
         self.other_parts = other_parts;

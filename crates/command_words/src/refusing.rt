@@ -29,13 +29,14 @@ fn told(alloc: Global, command: &str, error: Error) -> Result<Error, AllocError>
         return Ok(error);
     };
     let line = line.strip_prefix("error: ").unwrap_or(line);
-    match (grid_tip(line), command_named(alloc, command)?) {
-        (Some(tip), Some(mut command)) => {
-            let message = format!(in alloc; "{line}\n\n  tip: {tip}")?;
-            command.error(error.kind(), message.as_str())
-        }
-        _ => Ok(error),
-    }
+    let Some(tip) = grid_tip(line) else {
+        return Ok(error);
+    };
+    let Some(mut command) = command_named(alloc, command)? else {
+        return Ok(error);
+    };
+    let message = format!(in alloc; "{line}\n\n  tip: {tip}")?;
+    command.error(error.kind(), message.as_str())
 }
 
 /// What is said of refused words, by the command line in which a share can't stand beside an area.

@@ -12,7 +12,7 @@ of its last section is tried in a browser by scripts/web-example.py, which needs
 A block `KIND file NAME` of the guide is a file. A block `console` has commands for bash, each after `$ `, with what each writes below it,
 standard output and standard error as they come. They run one after another in a folder with `countries.shp` and the files of examples/;
 `mapchain` and `mapchain-picture` are on the path. What they leave in files `guide-*.svg` are the pictures. A table between a line
-`<!-- made: NAME -->` and a line `<!-- end -->` is computed here. The status is 0 where all is as it stands.
+`<!-- made: NAME -->` and a line `<!-- end -->` is computed here. The status is 0 where all is as it stands and the page was tried.
 """
 import argparse
 import math
@@ -168,9 +168,11 @@ def main():
             changed += keep(ROOT / "docs" / picture.name, picture.read_bytes(), words.write)
         shot = ["--screenshot", ROOT / "docs" / "guide-web.png"] if words.write else []
         page = [ROOT / "scripts" / "web-example.py", "--program", program, *shot, folder / "web.topojson"]
-        changed += subprocess.run(page).returncode
+        is_shown = subprocess.run(page).returncode == 0
     print(f"guide: {guide.ran} commands, {len(pictures)} pictures, {changed} files otherwise than they stood")
-    sys.exit(0 if words.write or not changed else 1)
+    if not is_shown:
+        print("guide: the page couldn't be tried, or doesn't show the topology: web-example says which")
+    sys.exit(0 if is_shown and (words.write or not changed) else 1)
 
 
 if __name__ == "__main__":

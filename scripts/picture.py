@@ -11,6 +11,8 @@ two or more do. Its number stands at its middle, and its ends are dots; `--plain
 Where the topology lies within longitudes from -180 to 180 and latitudes from -90 to 90, its coordinates are taken for degrees, and
 those sideways are drawn shorter than those upwards, by the cosine of the latitude in the middle of the picture. Else they are
 those of a projection, and drawn as they are. `--degrees` and `--projected` say which it is whatever the numbers are.
+
+Where there is no topology a line on standard error says what is wrong with which file, nothing is drawn, and the status is 1.
 """
 import argparse
 import json
@@ -152,6 +154,25 @@ def four(text):
     return numbers
 
 
+def drawing(words):
+    """The lines of the picture of the file that the words name, or of standard input."""
+    name = words.file or "standard input"
+    try:
+        with open(words.file, encoding="utf-8") if words.file else sys.stdin as source:
+            topology = json.load(source)
+    except OSError as error:
+        sys.exit(f"picture: {name}: {error.strerror}")
+    except (ValueError, RecursionError) as error:
+        sys.exit(f"picture: {name} is no JSON: {error}")
+    kind = topology.get("type") if isinstance(topology, dict) else None
+    if kind != "Topology":
+        sys.exit(f"picture: {name} is no topology" + (f", but a {kind}" if isinstance(kind, str) else ""))
+    try:
+        return list(picture(topology, words))
+    except (LookupError, TypeError, ValueError, AttributeError, RecursionError):
+        sys.exit(f"picture: {name} can't be drawn: 'mapchain stat --explain' says what is wrong with a topology")
+
+
 def main():
     parser = argparse.ArgumentParser(description="Draws a topology as an SVG picture on standard output.")
     parser.add_argument("file", nargs="?", help="the topology; without it, standard input")
@@ -161,9 +182,7 @@ def main():
     kind.add_argument("--degrees", action="store_true", help="coordinates are longitudes and latitudes")
     kind.add_argument("--projected", action="store_true", help="coordinates are those of a projection")
     words = parser.parse_args()
-    with open(words.file, encoding="utf-8") if words.file else sys.stdin as source:
-        topology = json.load(source)
-    print("\n".join(picture(topology, words)))
+    print("\n".join(drawing(words)))
 
 
 if __name__ == "__main__":

@@ -4,7 +4,7 @@ ghost use Rattle.command_words.specs.Asked.{Answers, layer_of, layers_of};
 ghost use Rattle.command_words.specs.Faults.{IsLayersFault};
 ghost use Rattle.command_words.specs.LayerWords.{IsSplit, equals_sign};
 
-use crate::naming::naming;
+use crate::naming::advice;
 use crate::words_fault::WordsFault;
 use std::alloc::Global;
 
@@ -32,7 +32,7 @@ pub(crate) fn names_and_paths<'a>(
         match name_and_path(word) {
             Some(split) => layers.push(split)?,
             None => {
-                let advice = naming(alloc, word, explains)?;
+                let advice = advice(alloc, words, layer, explains)?;
                 return Err(WordsFault::NoEquals { layer, advice });
             }
         }

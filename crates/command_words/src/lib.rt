@@ -8,6 +8,7 @@ mod file_usage;
 mod joining;
 mod layer_words;
 mod naming;
+mod refusing;
 mod request;
 mod usage;
 mod words_fault;

@@ -1,4 +1,4 @@
-// What a layer may be called whose word is a path alone.
+// How a layer is written whose word has no `=`.
 ghost use Rattle.std.specs.Prelude.{IfOk};
 ghost use Rattle.std.specs.String.{string_bytes};
 ghost use Rattle.command_words.specs.Faults.{IsAdvice};
@@ -40,35 +40,76 @@ fn is_number(word: &str) -> bool {
         && word.chars().all(|letter| letter.is_ascii_digit() || ".eE+-".contains(letter))
 }
 
-/// The text between single quotes of a shell, in which no letter but such a quote is special: it closes them, stands behind a backslash, and opens
-/// them anew.
-fn between_quotes(alloc: Global, text: &str) -> Result<String, AllocError> {
-    let mut written = String::new(alloc);
-    for letter in text.chars() {
+/// The word as it is given to a shell: as it is, or between single quotes, in which no letter but such a quote is special: it closes them, stands
+/// behind a backslash, and opens them anew.
+fn for_shell(alloc: Global, word: &str) -> Result<String, AllocError> {
+    if word.chars().all(is_bare) {
+        return String::from_str(alloc, word);
+    }
+    let mut written = String::from_str(alloc, "'")?;
+    for letter in word.chars() {
         if letter == '\'' {
             written.push_str("'\\''")?;
         } else {
             written.push(letter)?;
         }
     }
+    written.push('\'')?;
     Ok(written)
 }
 
-/// How the layer of a word is named that has no `=`, as a line, where that is asked and its path suggests a name.
-pub(crate) fn naming(alloc: Global, word: &str, is_asked: bool) -> Result<String, AllocError>
+/// A line with this word for a shell, where a terminal shows all of it.
+fn line(alloc: Global, lead: &str, word: &str) -> Result<String, AllocError> {
+    if !word.chars().all(is_shown) {
+        return Ok(String::new(alloc));
+    }
+    let word = for_shell(alloc, word)?;
+    format!(in alloc; "  {lead}: {word}\n")
+}
+
+/// How the layer of this path is named, as a line, where the path suggests a name.
+fn naming(alloc: Global, path: &str) -> Result<String, AllocError> {
+    let name = suggested_name(path);
+    if name.is_empty() || is_number(path) {
+        return Ok(String::new(alloc));
+    }
+    let word = format!(in alloc; "{name}={path}")?;
+    line(alloc, "name it", word.as_str())
+}
+
+/// The word that was meant, if blanks beside an `=` have cut it. This word, which has no `=`, stands between those before and after it.
+fn uncut(
+    alloc: Global,
+    before: &[&str],
+    word: &str,
+    after: &[&str],
+) -> Result<Option<String>, AllocError> {
+    let whole = match (before, after) {
+        (_, [sign, path, ..]) if *sign == "=" => format!(in alloc; "{word}={path}")?,
+        (_, [path, ..]) if path.starts_with("=") => format!(in alloc; "{word}{path}")?,
+        ([.., name], _) if name.ends_with("=") => format!(in alloc; "{name}{word}")?,
+        _ => return Ok(None),
+    };
+    Ok(Some(whole))
+}
+
+/// What to write in the place of the word of this number, which has no `=`, as a line, where that is asked and the words suggest it.
+pub(crate) fn advice(
+    alloc: Global,
+    words: &[&str],
+    layer: usize,
+    is_asked: bool,
+) -> Result<String, AllocError>
     ensures { IfOk result (λ t. IsAdvice is_asked (string_bytes t)) }
 {
     if !is_asked {
         return Ok(String::new(alloc));
     }
-    let name = suggested_name(word);
-    if name.is_empty() || is_number(word) || !word.chars().all(is_shown) {
+    let Some((before, [word, after @ ..])) = words.split_at_checked(layer) else {
         return Ok(String::new(alloc));
+    };
+    match uncut(alloc, before, word, after)? {
+        Some(whole) => line(alloc, "write it as one word", whole.as_str()),
+        None => naming(alloc, word),
     }
-    if word.chars().all(is_bare) {
-        return format!(in alloc; "  name it: {name}={word}\n");
-    }
-    let name = between_quotes(alloc, name)?;
-    let word = between_quotes(alloc, word)?;
-    format!(in alloc; "  name it: '{name}={word}'\n")
 }

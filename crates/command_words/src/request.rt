@@ -5,9 +5,8 @@ ghost use Rattle.clap.specs.Kinds.{HasKind, Kinds};
 ghost use Rattle.clap.specs.Simple.{subcommand_of, subcommand_rows_of};
 ghost use Rattle.clap.specs.Values.{kind_of};
 ghost use Rattle.clap.specs.Walk.{Row, Text};
-ghost use Rattle.clap.specs.declared.error.Error.{Error as ClapError};
 ghost use Rattle.clap.specs.declared.error.kind.ErrorKind.TheVariants.{OutOfMemory};
-ghost use Rattle.command_words.specs.declared.words_fault.WordsFault.TheVariants.{GridRange, Memory, Refused};
+ghost use Rattle.command_words.specs.declared.words_fault.WordsFault.TheVariants.{GridRange, Memory};
 ghost use Rattle.command_words.specs.Asked as spec;
 ghost use Rattle.command_words.specs.Asked.{Answers, area_in, asked, asked_in, build_in, crossings_in, entries_of, exact_in, grid_in};
 ghost use Rattle.command_words.specs.Asked.{Ordered, detail, detail_of, explains_in, keep_in, keep_shapes_in, kinds_of, order_of, ordered};
@@ -19,9 +18,10 @@ ghost use Rattle.command_words.specs.Written.{IsWritable, written};
 
 use crate::file_usage::{CROSSINGS, FILE, GEO, OBJECT, SIMPLIFY, STAT};
 use crate::layer_words::names_and_paths;
+use crate::refusing::refusal;
 use crate::usage::{
     AREA, BUILD, EXACT, EXPLAIN, GRID, KEEP, KEEP_SHAPES, LAYERS, NO_CROSSINGS, OUTPUT, QUIET,
-    REPORT, RING_AREA, program, telling_program,
+    REPORT, RING_AREA, program,
 };
 use crate::words_fault::WordsFault;
 use clap::error::ErrorKind;
@@ -280,18 +280,6 @@ fn request_in<'a>(
         return Ok(Some(Request::Stat { crossings, path }));
     }
     Ok(None)
-}
-
-/// What is said of refused words, by the command line in which a share can't stand beside an area.
-fn refusal(alloc: Global, words: &[String]) -> Result<WordsFault, AllocError>
-    ensures { IfOk result (λ f. (f ≡ Memory) ⊎ ((e : ClapError) × (f ≡ Refused e))) }
-{
-    let mut program = telling_program(alloc)?;
-    let error = match program.try_get_matches_from_mut(words) {
-        Ok(_) => program.error(ErrorKind::MissingSubcommand, "a command is missing")?,
-        Err(error) => error,
-    };
-    Ok(WordsFault::refused(error))
 }
 
 /// Whether this kind of error prints help.

@@ -8,7 +8,7 @@ ghost use Rattle.command_words.specs.CommandLine.{IsApp, IsRule, area_rule, bare
 ghost use Rattle.command_words.specs.CommandLine.{explain_rule, keep_rule, keep_shapes_rule, layers_rule, no_crossings_rule, output_rule, program_app, quiet_rule, report_rule, ring_area_rule};
 
 use crate::commands::{Help, command};
-use crate::file_usage::{geo, simplify, stat};
+use crate::file_usage::{GEO, SIMPLIFY, STAT, geo, simplify, stat};
 use clap::builder::ValueParser;
 use clap::{Arg, ArgAction, Command, value_parser};
 use std::alloc::{AllocError, Global};
@@ -171,8 +171,9 @@ const OUTPUT_HELP: &str = "Write the output to a file in place of standard outpu
 const OUTPUT_LONG_HELP: &str =
     "Write the output to FILE in place of standard output. It goes to a new file beside
 FILE, which takes its name when it is whole and on the disk. Until then FILE stays
-as it was, whatever fails, so FILE may be an input, too. A device, as /dev/null, or a
-pipe is written itself";
+as it was, whatever fails, so FILE may be an input, too. But a device, as /dev/null, and
+a pipe are written themselves, and so is the file that a standard stream goes to, by a
+link as /dev/stdout: what these took stays there, whatever fails";
 
 const REPORT_HELP: &str = "Write a report of the run to a file, as a JSON object";
 
@@ -180,7 +181,7 @@ const REPORT_LONG_HELP: &str =
     "Write a report of the run to FILE when the run ends, whether it is done or not, as a
 JSON object: the exit status, the fault, the counts, how many features lost all of their
 geometry, and all lines of '--explain', for which a file that is refused is read once
-more. docs/FORMATS.md describes it. A file of this name is replaced";
+more. docs/FORMATS.md describes it. FILE is replaced, or written itself, as by '-o'";
 
 const EXPLAIN_HELP: &str = "Explain in words what is wrong, or what was left out";
 
@@ -248,6 +249,21 @@ fn program_with<'a>(
     let program = with_command(program, simplify(alloc, simplify_keep));
     let program = with_command(program, geo(alloc));
     with_command(program, stat(alloc))
+}
+
+/// The command of this name, as it is called, if there is one.
+pub(crate) fn command_named<'a>(
+    alloc: Global,
+    name: &str,
+) -> Result<Option<Command<'a>>, AllocError> {
+    let command = match name {
+        BUILD => build(alloc, keep(alloc))?.bin_name("mapchain build")?,
+        SIMPLIFY => simplify(alloc, keep(alloc))?.bin_name("mapchain simplify")?,
+        GEO => geo(alloc)?.bin_name("mapchain geo")?,
+        STAT => stat(alloc)?.bin_name("mapchain stat")?,
+        _ => return Ok(None),
+    };
+    Ok(Some(command))
 }
 
 /// The command line of the program. It takes a share beside an area, which `build_request` and `simplify_request` refuse.

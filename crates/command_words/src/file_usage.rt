@@ -2,9 +2,9 @@
 ghost use Rattle.std.specs.Prelude.{IfOk};
 ghost use Rattle.command_words.specs.CommandLine.{IsApp, IsRule, crossings_rule, file_rule, geo_app, keep_rule, object_rule, simplify_app, stat_app};
 
-use crate::commands::{Help, command};
+use crate::commands::{Help, command, flag};
 use crate::usage::{quiet, with_argument, with_common, with_reducing};
-use clap::{Arg, ArgAction, Command};
+use clap::{Arg, Command};
 use std::alloc::{AllocError, Global};
 
 /// The command that simplifies.
@@ -140,11 +140,7 @@ pub(crate) fn geo<'a>(alloc: Global) -> Result<Command<'a>, AllocError>
 fn crossings<'a>(alloc: Global) -> Arg<'a>
     ensures { IsRule result crossings_rule }
 {
-    Arg::new(alloc, CROSSINGS)
-        .long("crossings")
-        .action(ArgAction::SetTrue)
-        .help(CROSSINGS_HELP)
-        .long_help(CROSSINGS_LONG_HELP)
+    flag(alloc, CROSSINGS, CROSSINGS_HELP, CROSSINGS_LONG_HELP)
 }
 
 /// The command line of `stat`.

@@ -7,10 +7,10 @@ ghost use Rattle.command_words.specs.CommandLine as spec;
 ghost use Rattle.command_words.specs.CommandLine.{IsApp, IsRule, area_rule, bare_app, build_app, exact_rule, grid_rule};
 ghost use Rattle.command_words.specs.CommandLine.{explain_rule, keep_rule, keep_shapes_rule, layers_rule, no_crossings_rule, output_rule, program_app, quiet_rule, report_rule, ring_area_rule};
 
-use crate::commands::{Help, command};
+use crate::commands::{Help, command, flag, option_with};
 use crate::file_usage::{GEO, SIMPLIFY, STAT, geo, simplify, stat};
 use clap::builder::ValueParser;
-use clap::{Arg, ArgAction, Command, value_parser};
+use clap::{Arg, Command, value_parser};
 use std::alloc::{AllocError, Global};
 
 /// The command that builds a topology.
@@ -291,101 +291,68 @@ fn numbers_of_cells<'a>() -> ValueParser<'a>
 fn grid<'a>(alloc: Global) -> Arg<'a>
     ensures { IsRule result grid_rule }
 {
-    Arg::new(alloc, GRID)
-        .long("grid")
-        .value_name("N")
-        .value_parser(numbers_of_cells())
-        .help(GRID_HELP)
-        .long_help(GRID_LONG_HELP)
+    option_with(alloc, GRID, "N", GRID_HELP, GRID_LONG_HELP).value_parser(numbers_of_cells())
 }
 
 /// The option that removes points from lines. It takes any text: which areas there are isn't judged here.
 fn area<'a>(alloc: Global) -> Arg<'a>
     ensures { IsRule result area_rule }
 {
-    Arg::new(alloc, AREA)
-        .long("min-area")
-        .value_name("A")
-        .help(AREA_HELP)
-        .long_help(AREA_LONG_HELP)
+    option_with(alloc, AREA, "A", AREA_HELP, AREA_LONG_HELP)
 }
 
 /// The option that keeps a share of the points. It takes any text, as that of the area does.
 fn keep<'a>(alloc: Global) -> Arg<'a>
     ensures { IsRule result keep_rule }
 {
-    Arg::new(alloc, KEEP)
-        .long("keep")
-        .value_name("P/Q")
-        .help(KEEP_HELP)
-        .long_help(KEEP_LONG_HELP)
+    option_with(alloc, KEEP, "P/Q", KEEP_HELP, KEEP_LONG_HELP)
 }
 
 /// The option that leaves out small rings. It takes any text, as that of the area does.
 fn ring_area<'a>(alloc: Global) -> Arg<'a>
     ensures { IsRule result ring_area_rule }
 {
-    Arg::new(alloc, RING_AREA)
-        .long("min-ring-area")
-        .value_name("B")
-        .help(RING_AREA_HELP)
-        .long_help(RING_AREA_LONG_HELP)
+    option_with(alloc, RING_AREA, "B", RING_AREA_HELP, RING_AREA_LONG_HELP)
 }
 
 /// The option that keeps lines from crossing.
 fn no_crossings<'a>(alloc: Global) -> Arg<'a>
     ensures { IsRule result no_crossings_rule }
 {
-    Arg::new(alloc, NO_CROSSINGS)
-        .long("no-crossings")
-        .action(ArgAction::SetTrue)
-        .help(NO_CROSSINGS_HELP)
-        .long_help(NO_CROSSINGS_LONG_HELP)
+    flag(
+        alloc,
+        NO_CROSSINGS,
+        NO_CROSSINGS_HELP,
+        NO_CROSSINGS_LONG_HELP,
+    )
 }
 
 /// The option that keeps shapes.
 fn keep_shapes<'a>(alloc: Global) -> Arg<'a>
     ensures { IsRule result keep_shapes_rule }
 {
-    Arg::new(alloc, KEEP_SHAPES)
-        .long("keep-shapes")
-        .action(ArgAction::SetTrue)
-        .help(KEEP_SHAPES_HELP)
-        .long_help(KEEP_SHAPES_LONG_HELP)
+    flag(alloc, KEEP_SHAPES, KEEP_SHAPES_HELP, KEEP_SHAPES_LONG_HELP)
 }
 
 /// The option that names the file for the output.
 fn output<'a>(alloc: Global) -> Arg<'a>
     ensures { IsRule result output_rule }
 {
-    Arg::new(alloc, OUTPUT)
-        .short('o')
-        .long("output")
-        .value_name("FILE")
-        .help(OUTPUT_HELP)
-        .long_help(OUTPUT_LONG_HELP)
+    option_with(alloc, OUTPUT, "FILE", OUTPUT_HELP, OUTPUT_LONG_HELP).short('o')
 }
 
 /// The option that names the file for a report of the run.
 fn report<'a>(alloc: Global) -> Arg<'a>
     ensures { IsRule result report_rule }
 {
-    Arg::new(alloc, REPORT)
-        .long("report")
-        .value_name("FILE")
-        .help(REPORT_HELP)
-        .long_help(REPORT_LONG_HELP)
+    option_with(alloc, REPORT, "FILE", REPORT_HELP, REPORT_LONG_HELP)
 }
 
 /// The option that explains the run in words.
 fn explain<'a>(alloc: Global) -> Arg<'a>
     ensures { IsRule result explain_rule }
 {
-    Arg::new(alloc, EXPLAIN)
-        .long("explain")
-        .action(ArgAction::SetTrue)
-        .help(EXPLAIN_HELP)
-        .long_help(EXPLAIN_LONG_HELP)
+    flag(alloc, EXPLAIN, EXPLAIN_HELP, EXPLAIN_LONG_HELP)
 }
 
 /// A command with the options that each command has.
@@ -419,23 +386,14 @@ pub(crate) fn with_reducing<'a>(
 pub(crate) fn quiet<'a>(alloc: Global) -> Arg<'a>
     ensures { IsRule result quiet_rule }
 {
-    Arg::new(alloc, QUIET)
-        .short('q')
-        .long("quiet")
-        .action(ArgAction::SetTrue)
-        .help(QUIET_HELP)
-        .long_help(QUIET_LONG_HELP)
+    flag(alloc, QUIET, QUIET_HELP, QUIET_LONG_HELP).short('q')
 }
 
 /// The option of `build` that refuses coordinates that would have to be rounded.
 fn exact<'a>(alloc: Global) -> Arg<'a>
     ensures { IsRule result exact_rule }
 {
-    Arg::new(alloc, EXACT)
-        .long("exact")
-        .action(ArgAction::SetTrue)
-        .help(EXACT_HELP)
-        .long_help(EXACT_LONG_HELP)
+    flag(alloc, EXACT, EXACT_HELP, EXACT_LONG_HELP)
 }
 
 /// The layer words of `build`.

@@ -5,7 +5,7 @@ ghost use Rattle.std.specs.String.{string_bytes};
 use crate::system_errors::failure_of;
 use mapchain_cli::WriteFailure;
 use std::fs::{File, FileType, Metadata, Permissions};
-use std::io::{ErrorKind, Write};
+use std::io::{ErrorKind, Stderr, Stdout, Write};
 use std::os::unix::fs::{FileTypeExt, MetadataExt, OpenOptionsExt, PermissionsExt};
 use std::{fs, io};
 
@@ -26,13 +26,6 @@ const STANDARD_OUTPUT: &str = "/proc/self/fd/1";
 
 const STANDARD_ERROR: &str = "/proc/self/fd/2";
 
-/// A standard stream of this process.
-#[derive(Clone, Copy)]
-enum Stream {
-    Output,
-    Error,
-}
-
 /// What a target is.
 #[derive(Clone, Copy)]
 enum TargetKind {
@@ -42,8 +35,10 @@ enum TargetKind {
     File { mode: u32 },
     /// A device that takes bytes one after another, as `/dev/null` or a pipe.
     Device,
-    /// The file that a standard stream goes to.
-    Stream(Stream),
+    /// The file that standard output goes to.
+    Output,
+    /// The file that standard error goes to.
+    Error,
 }
 
 /// The file that is to be replaced, the name that a first one is to have, or a device or a standard stream that is to be written.
@@ -56,21 +51,26 @@ pub(crate) struct Target {
     kind: TargetKind,
 }
 
+/// A new file, which is removed where it is dropped, unless it has taken the place of another.
+struct NewFile {
+    rt: HostRuntime,
+    file: File,
+    path: String,
+}
+
 /// Where bytes are put.
 #[derive(Drop)]
 enum Destination {
-    /// A new file, or a device.
-    File(File),
-    Stream(Stream),
+    New(NewFile),
+    Device(File),
+    Output(Stdout),
+    Error(Stderr),
 }
 
-/// What is written for a target: a new file beside it, which is removed where it is dropped, unless it has taken the target's place; or a
-/// device or a standard stream.
+/// What is written for a target: a new file beside it, or a device or a standard stream.
+#[derive(Drop)]
 pub(crate) struct PartFile {
-    rt: HostRuntime,
     destination: Destination,
-    /// The path of the new file.
-    path: Option<String>,
     /// Why a write or a flush failed last, if one did.
     failure: Option<WriteFailure>,
 }
@@ -85,13 +85,13 @@ fn is_stream(rt: &HostRuntime, stream: &str, file: &Metadata) -> bool {
     fs::metadata(rt, stream).is_ok_and(|own| own.dev() == file.dev() && own.ino() == file.ino())
 }
 
-/// The standard stream that goes to the file that has this metadata, if one does.
-fn stream_to(rt: &HostRuntime, file: &Metadata) -> Option<Stream> {
+/// Which standard stream goes to the file that has this metadata, if one does.
+fn stream_to(rt: &HostRuntime, file: &Metadata) -> Option<TargetKind> {
     if is_stream(rt, STANDARD_OUTPUT, file) {
-        return Some(Stream::Output);
+        return Some(TargetKind::Output);
     }
     if is_stream(rt, STANDARD_ERROR, file) {
-        return Some(Stream::Error);
+        return Some(TargetKind::Error);
     }
     None
 }
@@ -105,7 +105,7 @@ fn linked_file(
     mode: u32,
 ) -> io::Result<(String, TargetKind)> {
     if let Some(stream) = stream_to(rt, file) {
-        return Ok((link, TargetKind::Stream(stream)));
+        return Ok((link, stream));
     }
     let path = fs::canonicalize(rt, link.as_str())?.into_string();
     Ok((path, TargetKind::File { mode }))
@@ -168,89 +168,94 @@ impl Target {
     }
 }
 
-/// Makes a new file beside this path, under the first name that isn't taken. The number is how many were.
-fn create_beside(rt: &HostRuntime, name: &str, mode: u32) -> io::Result<(File, String, u32)> {
-    let mut options = File::options();
-    options.write(true).create_new(true).mode(mode);
-    for taken in 0..MAX_TRIES {
-        let path = format!(in rt.alloc(); "{name}.{taken}.part")?;
-        match options.open(rt, path.as_str()) {
-            Ok(file) => return Ok((file, path, taken)),
-            Err(error) if error.kind() == ErrorKind::AlreadyExists => {}
-            Err(error) => return Err(error),
+impl NewFile {
+    /// A new file beside this path, with these permissions, under the first name that isn't taken. The number is how many were.
+    fn beside(rt: &HostRuntime, name: &str, mode: u32) -> io::Result<(NewFile, u32)> {
+        let own_rt = rt.clone()?;
+        let mut options = File::options();
+        options.write(true).create_new(true).mode(mode);
+        for taken in 0..MAX_TRIES {
+            let path = format!(in rt.alloc(); "{name}.{taken}.part")?;
+            match options.open(rt, path.as_str()) {
+                Ok(file) => {
+                    let new = NewFile {
+                        rt: own_rt,
+                        file,
+                        path,
+                    };
+                    return Ok((new, taken));
+                }
+                Err(error) if error.kind() == ErrorKind::AlreadyExists => {}
+                Err(error) => return Err(error),
+            }
+        }
+        Err(io::Error::from(ErrorKind::AlreadyExists))
+    }
+
+    /// Takes the place of the file of this path, once all of it is on the disk. On an error that file is as it was, and the new one is removed.
+    fn replace(self, path: &str) -> io::Result<()> {
+        self.file.sync_all()?;
+        fs::rename(&self.rt, self.path.as_str(), path)?;
+        // Nothing is left to remove.
+        let NewFile {
+            rt: _,
+            file: _,
+            path: _,
+        } = self;
+        Ok(())
+    }
+}
+
+impl Drop for NewFile {
+    fn drop(self) {
+        let NewFile { rt, file: _, path } = self;
+        let _ = fs::remove_file(&rt, path.as_str());
+    }
+}
+
+impl Destination {
+    /// What is to be written for a target, and how many new files of other runs stand beside that. A regular file is replaced by a new
+    /// one with its permissions; where it was named by a symbolic link, the link stays. A device is opened as it is, and a standard stream is open.
+    fn of(rt: &HostRuntime, target: &Target) -> io::Result<(Destination, u32)> {
+        let path = target.path.as_str();
+        match target.kind {
+            TargetKind::New => {
+                let (new, others) = NewFile::beside(rt, path, NEW_FILE)?;
+                Ok((Destination::New(new), others))
+            }
+            TargetKind::File { mode } => {
+                let (new, others) = NewFile::beside(rt, path, OWNER_ONLY)?;
+                new.file.set_permissions(Permissions::from_mode(mode))?;
+                Ok((Destination::New(new), others))
+            }
+            TargetKind::Device => {
+                let device = File::options().write(true).open(rt, path)?;
+                Ok((Destination::Device(device), 0))
+            }
+            TargetKind::Output => Ok((Destination::Output(rt.stdout()), 0)),
+            TargetKind::Error => Ok((Destination::Error(rt.stderr()), 0)),
         }
     }
-    Err(io::Error::from(ErrorKind::AlreadyExists))
 }
 
 impl PartFile {
-    /// What is to be written for a target, and how many new files of other runs stand beside that. A regular file is replaced by a new
-    /// one with its permissions; where it was named by a symbolic link, the link stays. A device is opened as it is, and a standard stream is open.
+    /// What is to be written for a target, and how many new files of other runs stand beside that.
     pub(crate) fn of(rt: &HostRuntime, target: &Target) -> io::Result<(PartFile, u32)> {
-        match target.kind {
-            TargetKind::New => PartFile::beside(rt, target, NEW_FILE),
-            TargetKind::File { mode } => {
-                let (part, others) = PartFile::beside(rt, target, OWNER_ONLY)?;
-                if let Destination::File(file) = &part.destination {
-                    file.set_permissions(Permissions::from_mode(mode))?;
-                }
-                Ok((part, others))
-            }
-            TargetKind::Device => Ok((PartFile::device(rt, target)?, 0)),
-            TargetKind::Stream(stream) => Ok((PartFile::stream(rt, stream)?, 0)),
-        }
-    }
-
-    /// A new file beside a target, with these permissions, and how many names were taken.
-    fn beside(rt: &HostRuntime, target: &Target, mode: u32) -> io::Result<(PartFile, u32)> {
-        let part_rt = rt.clone()?;
-        let (file, path, taken) = create_beside(rt, target.path.as_str(), mode)?;
+        let (destination, others) = Destination::of(rt, target)?;
         let part = PartFile {
-            rt: part_rt,
-            destination: Destination::File(file),
-            path: Some(path),
+            destination,
             failure: None,
         };
-        Ok((part, taken))
+        Ok((part, others))
     }
 
-    /// A device.
-    fn device(rt: &HostRuntime, target: &Target) -> io::Result<PartFile> {
-        let part_rt = rt.clone()?;
-        let file = File::options().write(true).open(rt, target.path.as_str())?;
-        Ok(PartFile {
-            rt: part_rt,
-            destination: Destination::File(file),
-            path: None,
-            failure: None,
-        })
-    }
-
-    /// A standard stream.
-    fn stream(rt: &HostRuntime, stream: Stream) -> io::Result<PartFile> {
-        Ok(PartFile {
-            rt: rt.clone()?,
-            destination: Destination::Stream(stream),
-            path: None,
-            failure: None,
-        })
-    }
-
-    /// Takes the place of the target, once all of the file is on the disk. On an error the target is as it was, and the new file is
-    /// removed. A device or a standard stream has taken all of it already.
+    /// Takes the place of the target, once all of it is on the disk. On an error the target is as it was. A device or a standard stream has
+    /// taken all of it already.
     pub(crate) fn replace(self, target: &Target) -> io::Result<()> {
-        if let (Some(path), Destination::File(file)) = (&self.path, &self.destination) {
-            file.sync_all()?;
-            fs::rename(&self.rt, path.as_str(), target.path.as_str())?;
+        match self.destination {
+            Destination::New(new) => new.replace(target.path.as_str()),
+            Destination::Device(_) | Destination::Output(_) | Destination::Error(_) => Ok(()),
         }
-        // Nothing is left to remove.
-        let PartFile {
-            rt: _,
-            destination: _,
-            path: _,
-            failure: _,
-        } = self;
-        Ok(())
     }
 
     /// Why a write or a flush failed last, if one did.
@@ -259,26 +264,13 @@ impl PartFile {
     }
 }
 
-impl Drop for PartFile {
-    fn drop(self) {
-        let PartFile {
-            rt,
-            destination: _,
-            path,
-            failure: _,
-        } = self;
-        if let Some(path) = path {
-            let _ = fs::remove_file(&rt, path.as_str());
-        }
-    }
-}
-
 impl Write for PartFile {
     fn write(&mut self, buf: &[u8]) -> io::Result<usize> {
         let taken = match &mut self.destination {
-            Destination::File(file) => file.write(buf),
-            Destination::Stream(Stream::Output) => self.rt.stdout().write(buf),
-            Destination::Stream(Stream::Error) => self.rt.stderr().write(buf),
+            Destination::New(new) => new.file.write(buf),
+            Destination::Device(device) => device.write(buf),
+            Destination::Output(stream) => stream.write(buf),
+            Destination::Error(stream) => stream.write(buf),
         };
         if let Err(error) = &taken {
             self.failure = Some(failure_of(error));
@@ -288,9 +280,10 @@ impl Write for PartFile {
 
     fn flush(&mut self) -> io::Result<()> {
         let flushed = match &mut self.destination {
-            Destination::File(file) => file.flush(),
-            Destination::Stream(Stream::Output) => self.rt.stdout().flush(),
-            Destination::Stream(Stream::Error) => self.rt.stderr().flush(),
+            Destination::New(new) => new.file.flush(),
+            Destination::Device(device) => device.flush(),
+            Destination::Output(stream) => stream.flush(),
+            Destination::Error(stream) => stream.flush(),
         };
         if let Err(error) = &flushed {
             self.failure = Some(failure_of(error));

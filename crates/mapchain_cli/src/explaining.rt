@@ -27,12 +27,32 @@ fn read_again<F: Files>(alloc: Global, path: &str, files: &mut F) -> Option<Vec<
     read_all(alloc, &mut source, MAX_INPUT).ok()
 }
 
-/// Why a file couldn't be opened or read.
-fn explain_unread<F: Files>(alloc: Global, path: &str, files: &mut F) -> Result<String, AllocError>
+/// What a path was to be by which there is no file, as a line, if it shows that.
+fn path_tip(path: &str, is_layer: bool) -> &'static str {
+    if path == "-" {
+        return "  standard input has the path /dev/stdin\n";
+    }
+    if !is_layer && path.contains("=") {
+        return "  the path stands alone here, with no name and = before it\n";
+    }
+    ""
+}
+
+/// Why a file couldn't be opened or read: that of a layer, or that of a topology.
+fn explain_unread<F: Files>(
+    alloc: Global,
+    path: &str,
+    is_layer: bool,
+    files: &mut F,
+) -> Result<String, AllocError>
     ensures { OnlyReads (used (F.state files.old) (F.state files.new)) }
 {
     let kind = files.look(path);
-    unopened(alloc, path, kind)
+    let mut text = unopened(alloc, path, kind)?;
+    if kind == FileKind::Missing {
+        text.push_str(path_tip(path, is_layer))?;
+    }
+    Ok(text)
 }
 
 /// Both texts as one, if there was memory for each of them and is for that.
@@ -80,8 +100,11 @@ fn explain_layer<F: Files>(
             ..
         }
     ) {
+        if path.is_empty() {
+            return format!(in alloc; "  layer {layer} needs a path behind its =\n");
+        }
         let refused = layer_fault(alloc, layer, name, path, exact, None, fault);
-        return joined(refused, explain_unread(alloc, path, files));
+        return joined(refused, explain_unread(alloc, path, true, files));
     }
     let bytes = read_again(alloc, path, files);
     layer_fault(alloc, layer, name, path, exact, bytes.as_deref(), fault)
@@ -97,8 +120,11 @@ fn explain_file<F: Files>(
     ensures { OnlyReads (used (F.state files.old) (F.state files.new)) }
 {
     if matches!(fault, FileFault::Read(ReadFault::Read)) {
+        if path.is_empty() {
+            return String::from_str(alloc, "  the path of the file is empty\n");
+        }
         let refused = topology_fault(alloc, path, None, fault);
-        return joined(refused, explain_unread(alloc, path, files));
+        return joined(refused, explain_unread(alloc, path, false, files));
     }
     let bytes = read_again(alloc, path, files);
     topology_fault(alloc, path, bytes.as_deref(), fault)

@@ -437,7 +437,10 @@ def try_parts_beside_reports():
             expect("a report beside a part", f"run.json.0.part{words}", json.load(file)["explanation"][-1])
         write("old.0.part", b"a part", 0o600)
         ended = plain(["build", "--explain", "-o", "old", "--report", "old", "a=line"])
-        expect("a part beside both", (0, b"", said + f"  old.0.part{words}\n".encode()), ended)
+        refused = "error: F4 NoReport\n  old: it has taken the output of this run\n"
+        expect("a part beside both", (3, b"", said + f"  old.0.part{words}\n{refused}".encode()), ended)
+        with open("old", "rb") as file:
+            expect("an output where the report was to go, too", output, file.read())
 
 
 # ---- runs that are refused
@@ -674,7 +677,7 @@ PARTS = (
     (try_unreported, 4),
     (try_too_many_open, 1),
     (try_parts_of_others, 1055),
-    (try_parts_beside_reports, 3),
+    (try_parts_beside_reports, 4),
     (try_refused, 1140),
     (try_full_disks, 1084),
     (try_while_it_runs, 21),

@@ -393,7 +393,10 @@ def fail(words, number, ended):
 
 
 def without_column(text):
-    """The same with the byte of a fault in place of its line and column: that of a file that can't be read once more."""
+    """The same with the byte of a fault in place of its line and column, and without where what isn't ended begins: that of a file that can't be read
+    once more."""
+    begins = r"the array begins at line \d+, column \d+ \(byte \d+\)"
+    text = re.sub(rf'  {begins}\n|,"{begins}"', "", text)
     return re.sub(r"line \d+, column \d+ \((byte \d+)\)", r"\1", text)
 
 

@@ -337,6 +337,7 @@ FILES = (
     ("slanting slivers", MILLION // 10, lambda n: topology("", slivers(n)), UNCROSSED, 0),
     ("a comb", MILLION // 10, lambda n: topology("", listed(f"[{i // 2},{(i + 1) // 2 % 2 * 1000}]" for i in range(n))), UNCROSSED, 0),
     ("positions on one line", MILLION // 10, lambda n: topology("", listed(f"[{i},{3 * i}]" for i in range(n))), UNCROSSED, 0),
+    ("arcs of one ring that stays", MILLION // 10, lambda n: one_ring(n), "simplify --keep-shapes --min-area 1000000000000 file", 0),
     ("lines from one position, counted", MILLION // 10, lambda n: topology("", star(n)), "stat --crossings file", 0),
     ("lines with a short end, counted", MILLION // 10, lambda n: topology("", spokes(n, lambda i: MILLION)), "stat --crossings file", 0),
     ("the same, long and short", MILLION // 25, lambda n: topology("", spokes(n, lambda i: 1000 + i * 7919 % MILLION)), "stat --crossings file", 0),
@@ -355,6 +356,12 @@ def star(n):
 
 def slivers(n):
     return ",".join(f"[[0,{3 * i}],[{n},{n + 3 * i + 1}],[{2 * n},{2 * n + 3 * i}]]" for i in range(n))
+
+
+def one_ring(n):
+    """A polygon of arcs that each begin and end at its first position."""
+    object = '"a":{"type":"Polygon","arcs":[%s]}' % listed(map(str, range(n)))
+    return topology(object, ",".join(f"[[0,0],[{i + 1},1],[{i + 1},2],[0,0]]" for i in range(n)))
 
 
 def spokes(n, length):
@@ -641,7 +648,7 @@ PARTS = (
     (try_depths, 80, 80),
     (try_outputs, 31, 31),
     (try_inputs, 14, 14),
-    (try_sizes, 342, 114),
+    (try_sizes, 348, 116),
     (try_nested, 90, 90),
     (try_chosen, 41, 34),
 )

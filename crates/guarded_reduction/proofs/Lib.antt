@@ -29,6 +29,7 @@ pub mod Searches
 pub mod Short
 pub mod Showing
 pub mod Starts
+pub mod Sums
 pub mod Standing
 pub mod Trees
 pub mod Unlinking

@@ -1,15 +1,14 @@
 -- Which rings an arc's moves are counted in.
 use Rattle.std.proofs.Common.{◌≡◌, ◌≢◌, ℕ, zero, suc, ℤ, ◌+◌, ◌-◌, ◌<◌, ◌≤◌, ◌==◌, Bool, true, false, not, ◌||◌, ◌&&◌, nat_le, List, [], ◌∷◌, get_or, length, length-append, map, replicate, slice_index, slice_index_or, slice_set, length-set, get_or-set_same, get_or-set_other, refl, ap, sym, ◌∙◌, subst, ◌⊎◌, inl, inr, arith}
-use Rattle.std.specs.List.{AllByRecursion, Contains, list_all}
-use Rattle.std.proofs.lemmas.Bool.{and_parts, both_ways, cases_Bool, cases_lt, false_from_ne_true, or_cases, or_parts, eqb-true}
+use Rattle.std.specs.List.{AllByRecursion, list_all}
+use Rattle.std.proofs.lemmas.Bool.{and_parts, both_ways, cases_Bool, cases_lt, or_cases, or_parts, eqb-true}
 use Rattle.std.proofs.lemmas.Bool.Decides.{nat_tests}
 use Rattle.std.proofs.lemmas.List.{get_or_append_left, get_or-append_right, get_or-replicate, length-map, length-replicate, set-get_or, nil_from_length}
-use Rattle.effective_area.proofs.HeapLaws.{contains_cases, contains_here, contains_later}
 use Rattle.geometry.specs.Joins.{AreInRange, Meet, arc_at, number_of}
 use Rattle.geometry.specs.Points.{Point}
 use Rattle.guarded_meaning.specs.Guards.{is_long, uses}
 use Rattle.guarded_reduction.specs.Linking.{Linked}
-use Rattle.guarded_reduction.specs.Moves.{AreUsers, Counted, IsReady, counted_without, keeps_all, lost_at, moves, moves_without, owner_at, owners_of, ring_at, ring_moves, stays, users_at}
+use Rattle.guarded_reduction.specs.Moves.{AreUsers, Counted, IsReady, counted_without, keeps_all, lost_at, moves, moves_without, owner_at, owners_of, ring_at, ring_moves, stays}
 use Rattle.guarded_reduction.proofs.Moves.{long_is}
 use Rattle.guarded_reduction.proofs.Users.{read}
 
@@ -71,24 +70,6 @@ each_stays ms [] j l h = absurd (omega (arith, l))
 each_stays ms (refs ∷ rings) zero l h = h.0
 each_stays ms (refs ∷ rings) (suc j) l h = each_stays ms rings j (omega (arith, l)) h.1
 
--- where each listed ring stays, each element of the list passes
-listed_passes : (p : ℕ → Bool) (js : List ℕ) (j : ℕ) → Contains js j → list_all p js ≡ true → p j ≡ true
-listed_passes p [] j m h = absurd (omega (arith, m.1))
-listed_passes p (i ∷ js) j m h = on (contains_cases i js j m) (λ k. listed_passes p js j k (and_parts (p i) (list_all p js) h).1)
-  where
-    on : (j ≡ i) ⊎ Contains js j → (Contains js j → p j ≡ true) → p j ≡ true
-    on (inl e) f = ap p e ∙ (and_parts (p i) (list_all p js) h).0
-    on (inr k) f = f k
-
--- where not all of a list pass, one fails
-one_of : (p : ℕ → Bool) (js : List ℕ) → list_all p js ≡ false → (j : ℕ) × Contains js j × (p j ≡ false)
-one_of p [] h = absurd (both_ways true h refl)
-one_of p (i ∷ js) h = on (p i) refl (one_of p js)
-  where
-    on : (b : Bool) → p i ≡ b → (list_all p js ≡ false → (j : ℕ) × Contains js j × (p j ≡ false)) → (j : ℕ) × Contains (i ∷ js) j × (p j ≡ false)
-    on false e f = (i, contains_here i js, e)
-    on true e f = let r = f (sym (ap (λ b. b && list_all p js) e) ∙ h) in (r.0, contains_later i js r.0 r.1, r.2)
-
 abbrev pub counted_of : List (List ℤ) → List ℕ → List ℕ → List (List ℕ) → Counted
 counted_of rings os ms us = record { rings = rings; owners = os; moves = ms; users = us }
 
@@ -110,6 +91,13 @@ is_read s z g arc ms lost left ready h a m l n =
     let w = ready.owner z h in
     let m_is : ms ≡ slice_index g.moves (owner_at g z) = read g.moves arc ms (omega (arith, w, a_is)) m ∙ ap (slice_index g.moves) a_is in
     record { within = w; arc = a_is; moves = m_is; left = omega (arith, n, m_is, l) }
+
+-- all that use the arc stay
+pub keeps_is : (s : Linked) (z : ℕ) (g : Counted) (k left : ℕ) → k ≡ owner_at g z → left ≡ slice_index g.moves (owner_at g z) - lost_at s z → list_all (λ refs. not (uses k refs) || stays (slice_set g.moves k left) refs) g.rings ≡ keeps_all s z g
+unfolding keeps_all
+keeps_is s z g k left k_is left_is =
+    ap (λ i. list_all (λ refs. not (uses i refs) || stays (slice_set g.moves i left) refs) g.rings) k_is
+    ∙ ap (λ n. list_all (λ refs. not (uses (owner_at g z) refs) || stays (slice_set g.moves (owner_at g z) n) refs) g.rings) left_is
 
 module _ (s : Linked) (z : ℕ) (g : Counted) (ready : IsReady g) (within : owner_at g z < length g.moves) where
   abbrev arc : ℕ
@@ -136,32 +124,6 @@ module _ (s : Linked) (z : ℕ) (g : Counted) (ready : IsReady g) (within : owne
   pub keeps_by_one : 3 ≤ after → keeps_all s z g ≡ true
   unfolding keeps_all
   keeps_by_one e = all_pass (asks arc new) g.rings [] (λ j l. passes_by (uses arc (ring_at g.rings j)) (stays new (ring_at g.rings j)) (stays_by_one g.moves arc after (ring_at g.rings j) within e))
-
-  -- each of the arc's rings stays
-  pub keeps_by_all : list_all (λ j. stays new (ring_at g.rings j)) (users_at g.users arc) ≡ true → keeps_all s z g ≡ true
-  unfolding keeps_all
-  keeps_by_all h = all_pass (asks arc new) g.rings [] (λ j l. passes_by (uses arc (ring_at g.rings j)) (stays new (ring_at g.rings j))
-      (λ u. listed_passes (λ i. stays new (ring_at g.rings i)) (users_at g.users arc) j (ready.users.listed arc j (omega (arith, within, ready.many)) l u) h))
-
-  -- one of them doesn't
-  pub keeps_not : list_all (λ j. stays new (ring_at g.rings j)) (users_at g.users arc) ≡ false → keeps_all s z g ≡ false
-  unfolding keeps_all
-  keeps_not h = let r = one_of (λ j. stays new (ring_at g.rings j)) (users_at g.users arc) h in by r.0 (ready.users.ring arc r.0 r.1) r.2
-    where
-      by : (j : ℕ) → j < length g.rings → stays new (ring_at g.rings j) ≡ false → list_all (asks arc new) g.rings ≡ false
-      by j l f = false_from_ne_true (list_all (asks arc new) g.rings) (λ all. on j l f (cases_Bool (uses arc (ring_at g.rings j))) (each_passes (asks arc new) g.rings [] j l all))
-        where
-          on : (j : ℕ) → j < length g.rings → stays new (ring_at g.rings j) ≡ false → (uses arc (ring_at g.rings j) ≡ true) ⊎ (uses arc (ring_at g.rings j) ≡ false) → asks arc new (ring_at g.rings j) ≡ true → ⊥
-          on j l f (inl u) a = both_ways (stays new (ring_at g.rings j)) f (sym (ap (λ b. not b || stays new (ring_at g.rings j)) u) ∙ a)
-          on j l f (inr u) a = both_ways (stays new (ring_at g.rings j)) f (still_stays g.moves arc after (ring_at g.rings j) u ∙ was j l)
-
-  -- so it is up to these
-  pub keeps_by_users : list_all (λ j. stays new (ring_at g.rings j)) (users_at g.users arc) ≡ keeps_all s z g
-  keeps_by_users = on (list_all (λ j. stays new (ring_at g.rings j)) (users_at g.users arc)) refl
-    where
-      on : (b : Bool) → list_all (λ j. stays new (ring_at g.rings j)) (users_at g.users arc) ≡ b → list_all (λ j. stays new (ring_at g.rings j)) (users_at g.users arc) ≡ keeps_all s z g
-      on true e = e ∙ sym (keeps_by_all e)
-      on false e = e ∙ sym (keeps_not e)
 
   -- what is counted without the place is as it has to be
   pub still_ready : keeps_all s z g ≡ true → IsReady (counted_without s z g)

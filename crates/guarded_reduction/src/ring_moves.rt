@@ -1,8 +1,8 @@
 // How often arcs and rings move on, and which rings use which arcs.
-ghost use Rattle.std.specs.Prelude.{◌≡◌, ℕ, ◌<◌, ◌≤◌, ◌++◌, [], IfOk, OnOk, length, map, replicate, slice_set};
-ghost use Rattle.std.specs.List.{AllByRecursion, Contains, list_all};
+ghost use Rattle.std.specs.Prelude.{◌≡◌, ℕ, ◌-◌, ◌*◌, ◌<◌, ◌≤◌, ◌++◌, [], IfOk, OnOk, ◌==◌, length, map, replicate, slice_index, slice_index_or, if◌then◌else◌};
+ghost use Rattle.std.specs.List.{AllByRecursion, Contains};
 ghost use Rattle.geometry.specs.Joins.{AreInRange};
-ghost use Rattle.guarded_reduction.specs.Moves.{AddsUser, AreUsers, moves as moves_in, owners_of as owners_in, ring_at, stays, steps};
+ghost use Rattle.guarded_reduction.specs.Moves.{AddsUser, AreUsers, capped as capped_in, moves as moves_in, owners_of as owners_in, ring_moves, steps, times};
 
 use geometry::{ArcRef, Position, is_same};
 use owned_values::{Items, Memory};
@@ -98,43 +98,71 @@ pub fn users_of(alloc: Global, n: usize, rings: &[Items<ArcRef>]) -> Result<Vec<
     Ok(users)
 }
 
-/// A ring moves on often enough to stay, where its arcs move on so often, and the one of this number as often as is left to it.
-#[tactic(auto, using(crate::proofs::Users::stays_is))]
-fn ring_stays(moves: &[usize], refs: &[ArcRef], number: usize, left: usize) -> bool
-    requires number { number < length moves.now }
-    requires in_range { AreInRange (length moves.now) refs.now }
-    ensures { result ≡ stays (slice_set moves.now number left) refs.now }
+/// So often an arc counts that moves on so often, as three moves are enough for a ring.
+pub fn capped(moves: usize) -> usize
+    ensures { result ≡ capped_in moves }
 {
-    let mut missing = LEAST_MOVES;
-    'refs: for arc in refs {
-        let i = arc.index();
-        let more = if i == number { left } else { moves[i] };
-        missing = missing.saturating_sub(more);
-        if missing == 0 {
-            return true;
-        }
+    if moves >= LEAST_MOVES {
+        LEAST_MOVES
+    } else {
+        moves
     }
-    false
 }
 
-/// Each of the rings of these numbers stays.
-#[tactic(auto, using(crate::proofs::Users::listed_within))]
-pub fn all_stay(
-    rings: &[Items<ArcRef>],
-    moves: &[usize],
-    users: &[usize],
-    number: usize,
-    left: usize,
-) -> bool
-    requires number { number < length moves.now }
-    requires in_range { AllByRecursion (AreInRange (length moves.now)) rings.now }
-    requires users { (j : ℕ) → Contains users.now j → j < length rings.now }
-    ensures { result ≡ list_all (λ j. stays (slice_set moves.now number left) (ring_at rings.now j)) users.now }
+/// How often a ring moves on, where no arc counts for more than three moves.
+fn sum_of(moves: &[usize], refs: &[ArcRef]) -> u128
+    requires in_range { AreInRange (length moves.now) refs.now }
+    ensures { result ≡ ring_moves (map capped_in moves.now) refs.now }
+{
+    let mut sum = 0;
+    'refs: for arc in refs {
+        sum += capped(moves[arc.index()]) as u128;
+    }
+    sum
+}
+
+/// How often each ring moves on, where no arc counts for more than three moves.
+#[tactic(auto, using(owned_values::proofs::Lists::mapped_more, owned_values::proofs::Lists::mapped_all))]
+pub fn sums_of(alloc: Global, moves: &[usize], rings: &[Items<ArcRef>]) -> Result<Vec<u128>, Memory>
+    requires { AllByRecursion (AreInRange (length moves.now)) rings.now }
+    ensures { IfOk result (λ sums. sums.items ≡ map (ring_moves (map capped_in moves.now)) rings.now) }
+{
+    let mut sums = Vec::with_capacity(alloc, rings.len())?;
+    'rings: for ring in rings {
+        sums.push(sum_of(moves, ring.as_slice()))?;
+    }
+    Ok(sums)
+}
+
+/// How often a ring moves on, where so many moves are left to one of these rings.
+pub fn left_to(sums: &[u128], ring: usize, other: usize, left: u128) -> u128
+    requires { ring < length sums.now }
+    ensures { result ≡ (if ring == other then left else slice_index sums.now ring) }
+{
+    if ring == other { left } else { sums[ring] }
+}
+
+/// Each of these rings loses so many moves as often as its number stands in the list.
+pub fn lose(sums: &mut Vec<u128>, users: &[usize], lost: u128)
+    requires { (j : ℕ) → Contains users.now j → j < length sums.old.items }
+    ensures many { length sums.new.items ≡ length sums.old.items }
+    ensures each { (j : ℕ) → slice_index_or sums.new.items j 0 ≡ slice_index_or sums.old.items j 0 - times j users.now * lost }
 {
     'users: for user in users {
-        if !ring_stays(moves, rings[*user].as_slice(), number, left) {
-            return false;
-        }
+        sums[*user] = sums[*user].saturating_sub(lost);
     }
-    true
+}
+
+/// Each of these rings loses, as often as its number stands in the list, what an arc counts for less that moved on so often before and now moves on
+/// so often.
+pub fn lose_moves(sums: &mut Vec<u128>, users: &[usize], before: usize, left: usize)
+    requires users { (j : ℕ) → Contains users.now j → j < length sums.old.items }
+    requires left { left ≤ before }
+    ensures many { length sums.new.items ≡ length sums.old.items }
+    ensures each { (j : ℕ) → slice_index_or sums.new.items j 0 ≡ slice_index_or sums.old.items j 0 - times j users.now * (capped_in before - capped_in left) }
+{
+    let lost = capped(before).saturating_sub(capped(left));
+    if lost > 0 {
+        lose(sums, users, lost as u128);
+    }
 }

@@ -3,8 +3,11 @@ use Rattle.std.proofs.lemmas.List.{length-map}
 use Rattle.geometry.specs.Joins.{number_of}
 use Rattle.owned_values.proofs.Elements.{all_at}
 use Rattle.guarded_reduction.specs.Moves.{AddsUser}
-use Rattle.guarded_reduction.proofs.Users.{adds_one}
+use Rattle.guarded_reduction.proofs.Users.{adds_one, nothing_added}
 use Rattle.guarded_reduction.proofs.ring_moves.put_users.Goals as goal
+
+pub refs-init : goal.refs-init
+refs-init c = nothing_added c.args.ring (map (λ u. u.items) c.args.users.now.items)
 
 pub refs-preserved : goal.refs-preserved
 refs-preserved c =

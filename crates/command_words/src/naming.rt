@@ -20,9 +20,9 @@ fn last_part(path: &str) -> &str {
     last
 }
 
-/// The name that a path suggests: its last part, up to the first point in it.
+/// The name that a path suggests: its last part, up to the first point in it, without dashes before it, with which it would be an option.
 fn suggested_name(path: &str) -> &str {
-    let last = last_part(path);
+    let last = last_part(path).trim_start_matches('-');
     match last.split_once('.') {
         Some((name, _)) => name,
         None => last,

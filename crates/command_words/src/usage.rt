@@ -53,7 +53,7 @@ pub(crate) const EXPLAIN: &str = "explain";
 pub(crate) const QUIET: &str = "quiet";
 
 /// The version of the program.
-const VERSION: &str = "1.7.0";
+const VERSION: &str = "1.7.1";
 
 const PROGRAM_HELP: Help = Help {
     about: "Build TopoJSON topologies from GeoJSON files, simplify them, and decode them again",
@@ -181,7 +181,8 @@ const REPORT_LONG_HELP: &str =
     "Write a report of the run to FILE when the run ends, whether it is done or not, as a
 JSON object: the exit status, the fault, the counts, how many features lost all of their
 geometry, and all lines of '--explain', for which a file that is refused is read once
-more. docs/FORMATS.md describes it. FILE is replaced, or written itself, as by '-o'";
+more. docs/FORMATS.md describes it. FILE is replaced, or written itself, as by '-o', and
+left as it is where it is the FILE of '-o'";
 
 const EXPLAIN_HELP: &str = "Explain in words what is wrong, or what was left out";
 

@@ -51,7 +51,7 @@ fn advice(form: FileForm) -> &'static str {
             "  the file is KML: make GeoJSON of it, as by ogr2ogr -f GeoJSON out.json in.kml\n"
         }
         FileForm::Markup => "  the file is HTML or XML, and no JSON\n",
-        FileForm::Blank => "  the file is empty\n",
+        FileForm::Blank => "  the file is empty, or all white space\n",
         FileForm::Other => "",
     }
 }

@@ -111,7 +111,9 @@ fn inner_words(fault: TopoFault) -> &'static str {
         TopoFault::GridNumber => {
             "a number isn't whole or is too far from zero, and there is a transform"
         }
-        TopoFault::Range => "a number is beyond 3*10^8",
+        TopoFault::Range => {
+            "a number is beyond 3*10^8, or a coordinate that the transform makes of one"
+        }
         TopoFault::NotTopology => "",
         TopoFault::Memory => "",
     }

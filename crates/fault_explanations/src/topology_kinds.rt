@@ -169,18 +169,11 @@ impl Walk {
                 let values = self.enter_array(members, Member::Coordinates)?;
                 self.cells(values)?;
             }
-            CoordinatesType::LineString => {
-                let value = self.enter_member(members, Member::Arcs)?;
-                self.indexes(value)?;
-            }
-            CoordinatesType::MultiLineString | CoordinatesType::Polygon => {
-                let value = self.enter_member(members, Member::Arcs)?;
-                self.index_lists(value)?;
-            }
-            CoordinatesType::MultiPolygon => {
-                let value = self.enter_member(members, Member::Arcs)?;
-                self.index_polygons(value)?;
-            }
+            CoordinatesType::LineString => self.indexes(members, 1)?,
+            CoordinatesType::MultiLineString | CoordinatesType::Polygon => self.indexes(
+                members, 2,
+            )?,
+            CoordinatesType::MultiPolygon => self.indexes(members, 3)?,
         }
         self.leave();
         Ok(())
@@ -211,31 +204,20 @@ impl Walk {
         }
     }
 
-    /// Looks at the arc indexes of a line or a ring.
-    fn indexes(&mut self, value: &Json) -> Result<(), GeoFaultKind> {
-        for (number, index) in self.elements(value)?.iter().enumerate() {
-            self.enter(Step::Element(number))?;
-            self.index(index)?;
-            self.leave();
-        }
-        Ok(())
+    /// Looks at the arc indexes of a geometry, which stand in this many arrays, one in the other.
+    fn indexes(&mut self, members: &[(OwnText, Json)], arrays: u32) -> Result<(), GeoFaultKind> {
+        let value = self.enter_member(members, Member::Arcs)?;
+        self.indexes_in(value, arrays)
     }
 
-    /// Looks at the arc indexes of several lines or rings.
-    fn index_lists(&mut self, value: &Json) -> Result<(), GeoFaultKind> {
-        for (number, list) in self.elements(value)?.iter().enumerate() {
-            self.enter(Step::Element(number))?;
-            self.indexes(list)?;
-            self.leave();
+    /// Looks at the arc indexes in this value, which stand in this many arrays, one in the other.
+    fn indexes_in(&mut self, value: &Json, arrays: u32) -> Result<(), GeoFaultKind> {
+        if arrays == 0 {
+            return self.index(value);
         }
-        Ok(())
-    }
-
-    /// Looks at the arc indexes of several polygons.
-    fn index_polygons(&mut self, value: &Json) -> Result<(), GeoFaultKind> {
-        for (number, lists) in self.elements(value)?.iter().enumerate() {
+        for (number, inner) in self.elements(value)?.iter().enumerate() {
             self.enter(Step::Element(number))?;
-            self.index_lists(lists)?;
+            self.indexes_in(inner, arrays - 1)?;
             self.leave();
         }
         Ok(())

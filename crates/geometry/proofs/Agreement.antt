@@ -1,5 +1,5 @@
 -- What is said of the lines and rings of a shape alone.
-use Rattle.std.proofs.Common.{arith, rules, ◌≡◌, Bool, true, false, List, [], ◌∷◌, ◌++◌, map, Option, Some, refl, ap, subst}
+use Rattle.std.proofs.Common.{arith, rules, ◌≡◌, Bool, true, List, [], ◌∷◌, map, Option, Some, refl, ap, subst}
 use Rattle.std.specs.List.{AllByRecursion}
 pub use Rattle.owned_values.proofs.Elements.{all_left, all_right, all_of_map}
 use Rattle.owned_values.proofs.Lists.{some_agree}

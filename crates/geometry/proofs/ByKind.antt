@@ -1,5 +1,5 @@
 -- The equations of a definition over the kinds of a geometry.
-use Rattle.std.proofs.Common.{◌≡◌, Bool, List, map, sym, ap, ◌∙◌}
+use Rattle.std.proofs.Common.{◌≡◌, List, map, sym, ap, ◌∙◌}
 use Rattle.std.proofs.lemmas.List.Folds.{list_all-map}
 use Rattle.std.specs.List.{list_all}
 use Rattle.geometry.specs.declared.shape.Geometry.{Geometry, fold-Geometry, fold-roll-Geometry}
@@ -7,7 +7,6 @@ use Rattle.geometry.specs.declared.shape.Geometry.TheOpen.{Geometry-F}
 use Rattle.geometry.specs.declared.shape.Geometry.TheVariants as g
 use Rattle.geometry.specs.Shapes.{Shape, proper_step, is_proper}
 use Rattle.geometry.specs.Places.{points_step, shape_points}
-use Rattle.geometry.specs.Points.{Point}
 
 -- at each kind it is the step, with what is given for the shapes of a group in their place
 pub record AtKinds {P L R A : Type 0} (f : Geometry P L R → A) (step : Geometry-F P L R A → A) : Type 0 where

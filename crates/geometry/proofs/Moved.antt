@@ -1,5 +1,5 @@
 -- Geometries whose positions are replaced: the equations by kind, loops that replace each element, and rings, which stay rings.
-use Rattle.std.proofs.Common.{◌≡◌, ℕ, suc, zero, ◌+◌, ◌-◌, ◌<◌, ◌≤◌, Bool, true, false, ◌&&◌, List, [], ◌∷◌, ◌++◌, map, length, take, drop, get_or, set, slice_get, Option, None, Some, refl, sym, ap, ◌∙◌, arith, add-one}
+use Rattle.std.proofs.Common.{◌≡◌, ℕ, suc, zero, ◌+◌, ◌-◌, ◌<◌, ◌≤◌, true, List, [], ◌∷◌, ◌++◌, map, length, take, drop, get_or, set, slice_get, Option, refl, sym, ap, ◌∙◌, arith, add-one}
 use Rattle.std.proofs.lemmas.Bool.{and_parts}
 use Rattle.std.proofs.lemmas.List.{length-map}
 use Rattle.std.proofs.Math.Seq.{take-append_seam}
@@ -8,8 +8,6 @@ use Rattle.std.specs.Option.{option_map}
 use Rattle.std.specs.Prelude.{nat_le}
 use Rattle.geometry.specs.Points.{Point}
 use Rattle.geometry.specs.Rings.{same, both_same, is_closed, is_ring}
-use Rattle.geometry.specs.Moving.{moved_step, moved}
-use Rattle.geometry.proofs.ByKind.{AtKinds, at_kinds}
 use Rattle.geometry.proofs.Points.{same_self, same_is}
 
 -- ---- loops

@@ -1,9 +1,10 @@
 -- The sum over a ring's positions, carried.
-use Rattle.std.proofs.Common.{◌≡◌, ℕ, zero, suc, ◌+◌, ◌*◌, ◌<◌, ◌≤◌, ℤ, pos, ◌+ℤ◌, ◌-ℤ◌, ◌*ℤ◌, List, [], ◌∷◌, Option, None, Some, drop, length, get_or, FitsSigned, to_z, of_z, refl, ap, ◌∙◌, arith}
-use Rattle.std.proofs.lemmas.List.{drop_all}
+use Rattle.std.proofs.Common.{◌≡◌, ℕ, ◌+◌, ◌*◌, ◌<◌, ◌≤◌, ℤ, pos, ◌+ℤ◌, ◌-ℤ◌, ◌*ℤ◌, List, [], ◌∷◌, ◌++◌, Option, None, Some, drop, length, reverse, get_or, FitsSigned, to_z, of_z, refl, ap, ◌∙◌, arith}
+use Rattle.std.proofs.lemmas.List.{drop_all, reverse-append}
 use Rattle.std.proofs.lemmas.Int.{ints, to_z-of_z, fits_signed_from_abs}
 use Rattle.std.specs.Prelude.{unsigned_abs}
 use Rattle.geometry.specs.Areas.{turn, shoelace, turn_after, sum_after, most_turned}
+use Rattle.geometry.specs.Joins.{last_of}
 use Rattle.geometry.specs.Points.{Point}
 use Rattle.owned_values.proofs.Lists.{drop_here}
 use Rattle.geometry.specs.Units.{position_limit, area_limit}
@@ -67,3 +68,36 @@ pub sum_ends : (last : Option Point) (ps : List Point) (i : ℕ) (s all : ℤ) �
 sum_ends last ps i s all le e =
     let none : sum_after last (drop i ps) ≡ pos 0 = ap (sum_after last) (drop_all i ps le) ∙ none_after last in
     omega (arith, ints, none, e)
+
+-- ---- lines
+
+last_end : {X : Type 0} (xs : List X) (x : X) → last_of (xs ++ (x ∷ [])) ≡ Some x
+last_end [] x = refl
+last_end (y ∷ []) x = refl
+last_end (y ∷ (z ∷ xs)) x = last_end (z ∷ xs) x
+
+-- a line goes on after its end
+pub sum_over : (ps following : List Point) (end : Point) → last_of ps ≡ Some end → shoelace (ps ++ following) ≡ shoelace ps +ℤ sum_after (Some end) following
+unfolding shoelace
+sum_over [] following end e = grind arith
+sum_over (p ∷ []) following end e =
+    let same : p ≡ end = grind arith in
+    let here : shoelace (p ∷ following) ≡ shoelace (end ∷ following) = ap (λ q. shoelace (q ∷ following)) same in
+    omega (arith, ints, here)
+sum_over (p ∷ (q ∷ ps)) following end e = let rest = sum_over (q ∷ ps) following end e in omega (arith, ints, rest)
+
+turned : (p q : Point) → turn q p ≡ pos 0 -ℤ turn p q
+turned p q = omega (arith, ints)
+
+-- the other way round each part turns over
+pub sum_back : (ps : List Point) → shoelace (reverse ps) ≡ pos 0 -ℤ shoelace ps
+unfolding shoelace
+sum_back [] = refl
+sum_back (p ∷ []) = refl
+sum_back (p ∷ (q ∷ ps)) =
+    let parts : reverse (p ∷ (q ∷ ps)) ≡ reverse (q ∷ ps) ++ (p ∷ []) = reverse-append (p ∷ []) (q ∷ ps) in
+    let end : last_of (reverse (q ∷ ps)) ≡ Some q = ap last_of (reverse-append (q ∷ []) ps) ∙ last_end (reverse ps) q in
+    let over : shoelace (reverse (q ∷ ps) ++ (p ∷ [])) ≡ shoelace (reverse (q ∷ ps)) +ℤ (turn q p +ℤ pos 0) = sum_over (reverse (q ∷ ps)) (p ∷ []) q end in
+    let rest = sum_back (q ∷ ps) in
+    let t = turned p q in
+    ap shoelace parts ∙ omega (arith, ints, over, rest, t)

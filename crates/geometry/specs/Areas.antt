@@ -1,5 +1,5 @@
 -- Signed products of positions, the triangle between three of them, and the area of a ring.
-use Rattle.std.specs.Prelude.{ℕ, ◌*◌, ◌^◌, ℤ, pos, ◌+ℤ◌, ◌-ℤ◌, ◌*ℤ◌, unsigned_abs, List, [], ◌∷◌, Option, None, Some}
+use Rattle.std.specs.Prelude.{ℕ, ◌*◌, ◌^◌, ℤ, pos, ◌+ℤ◌, ◌-ℤ◌, ◌*ℤ◌, unsigned_abs, Bool, List, [], ◌∷◌, Option, None, Some, if◌then◌else◌}
 use Rattle.geometry.specs.Points.{Point}
 use Rattle.geometry.specs.Units.{position_limit}
 
@@ -48,6 +48,14 @@ passed s p = record { last = Some p; sum = s.sum +ℤ turn_after s.last p }
 abbrev pub sum_after : Option Point → List Point → ℤ
 sum_after None ps = shoelace ps
 sum_after (Some q) ps = shoelace (q ∷ ps)
+
+-- what a line adds, in one direction or the other
+abbrev pub sum_along : Bool → ℤ → ℤ
+sum_along reversed n = if reversed then pos 0 -ℤ n else n
+
+-- a line is passed that adds so much, and ends there
+abbrev pub passed_along : Bool → Passed → ℤ → Point → Passed
+passed_along reversed s n end = record { last = Some end; sum = s.sum +ℤ sum_along reversed n }
 
 -- the most that one of them adds
 abbrev pub most_turned : ℕ

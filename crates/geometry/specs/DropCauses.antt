@@ -1,6 +1,5 @@
 -- Which lines and rings of shapes are left out, where they stand, and why.
 use Rattle.std.specs.Prelude.{ℕ, suc, Bool, true, false, List, [], ◌∷◌, ◌++◌, map, Option, None, Some}
-use Rattle.geometry.specs.declared.address.Address.{Address}
 use Rattle.geometry.specs.declared.address.Cause.{Cause}
 use Rattle.geometry.specs.declared.address.Cause.TheVariants.{Outer}
 use Rattle.geometry.specs.declared.address.Dropped.{Dropped}

@@ -63,6 +63,31 @@ fn with_turn(last: Option<Position>, position: Position, whole: i128, rest: i128
     }
 }
 
+/// Two sums in one, each of so many times what it is carried by and a rest.
+fn with_sum(whole: i128, rest: i128, more_whole: i128, more_rest: i128) -> (i128, i128)
+    requires sums { unsigned_abs (whole *ℤ pos area_limit +ℤ rest) + unsigned_abs (more_whole *ℤ pos area_limit +ℤ more_rest) ≤ sum_limit }
+    requires rest { unsigned_abs rest < area_limit }
+    requires more_rest { unsigned_abs more_rest < area_limit }
+    ensures value { result.0 *ℤ pos area_limit +ℤ result.1 ≡ (whole *ℤ pos area_limit +ℤ rest) +ℤ (more_whole *ℤ pos area_limit +ℤ more_rest) }
+    ensures rest { unsigned_abs result.1 < area_limit }
+{
+    carried(whole + more_whole, rest + more_rest)
+}
+
+/// The opposite of a sum of so many times what it is carried by and a rest, where the line that it is of is reversed.
+fn along(reversed: bool, whole: i128, rest: i128) -> (i128, i128)
+    requires sum { unsigned_abs (whole *ℤ pos area_limit +ℤ rest) ≤ sum_limit }
+    requires rest { unsigned_abs rest < area_limit }
+    ensures value { result.0 *ℤ pos area_limit +ℤ result.1 ≡ spec.sum_along reversed (whole *ℤ pos area_limit +ℤ rest) }
+    ensures rest { unsigned_abs result.1 < area_limit }
+{
+    if reversed {
+        (-whole, -rest)
+    } else {
+        (whole, rest)
+    }
+}
+
 /// Whether a sum is closer to zero than the limit.
 fn is_closer(whole: i128, rest: i128, limit: u128) -> bool
     requires rest { unsigned_abs rest < area_limit }
@@ -132,6 +157,28 @@ impl RingSum {
         let (whole, rest) = with_turn(self.last, position, self.whole, self.rest);
         *self = RingSum {
             last: Some(position),
+            whole,
+            rest,
+        };
+    }
+
+    /// The last position that was passed, if one was.
+    pub fn last(&self) -> Option<Position>
+        ensures { result ≡ self.now.last }
+    {
+        self.last
+    }
+
+    /// Passes a line at once that begins where the ring is, or begins the ring. The positions of the line add up to this sum where they are passed by
+    /// themselves, or where it is reversed, and it ends at this position.
+    pub fn pass_line(&mut self, line: &RingSum, reversed: bool, end: Position)
+        requires { unsigned_abs self.old.sum + unsigned_abs line.now.sum ≤ sum_limit }
+        ensures { self.new ≡ spec.passed_along reversed self.old line.now.sum end }
+    {
+        let (more_whole, more_rest) = along(reversed, line.whole, line.rest);
+        let (whole, rest) = with_sum(self.whole, self.rest, more_whole, more_rest);
+        *self = RingSum {
+            last: Some(end),
             whole,
             rest,
         };

@@ -1,7 +1,8 @@
 -- Lines and rings whose positions are passed one after the other: until there are enough of them, or to sum up the area of a ring.
-use Rattle.std.specs.Prelude.{◌≡◌, ℕ, ◌-◌, ◌*◌, ◌^◌, ℤ, ◌+ℤ◌, Bool, List, ◌++◌, Option, None, Some, length, reverse, if◌then◌else◌}
-use Rattle.geometry.specs.Areas.{Passed, sum_after, most_turned}
+use Rattle.std.specs.Prelude.{◌≡◌, ℕ, ◌-◌, ◌*◌, ◌^◌, ◌≤◌, ◌==◌, ℤ, ◌+ℤ◌, unsigned_abs, Bool, ◌&&◌, List, [], ◌∷◌, ◌++◌, Option, None, Some, length, reverse, if◌then◌else◌}
+use Rattle.geometry.specs.Areas.{Passed, shoelace, sum_after, most_turned}
 use Rattle.geometry.specs.Points.{Point}
+use Rattle.geometry.specs.Rings.{same}
 use Rattle.junctions.specs.Cleaning.{clean, clean_from}
 
 -- the last position that was passed, and how many are still missing
@@ -41,6 +42,21 @@ Sums = PassesBy sum_with
 -- the most that the positions of an arc add to the sum
 abbrev pub most_of_arc : ℕ
 most_of_arc = 2 ^ 64 * most_turned
+
+-- this is what a line adds up to, and no more than an arc adds
+abbrev pub is_sum : List Point → Passed → Type 0
+is_sum ps s = (s.sum ≡ shoelace ps) × (unsigned_abs s.sum ≤ most_of_arc)
+
+-- these are the sums of the first arcs
+abbrev pub AreSums : List (List Point) → List Passed → Type 0
+AreSums arcs [] = Unit {0}
+AreSums [] (s ∷ sums) = ⊥
+AreSums (arc ∷ arcs) (s ∷ sums) = is_sum arc s × AreSums arcs sums
+
+-- a line that begins at p, or is without that where one is left out, begins a ring of which nothing was passed, or goes on at the last that was
+abbrev pub goes_on : Option Point → Point → ℕ → Bool
+goes_on None p from = from == 0
+goes_on (Some q) p from = from == 1 && same q p
 
 -- an arc in one direction or the other
 abbrev pub directed : Bool → List Point → List Point

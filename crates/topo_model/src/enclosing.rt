@@ -1,16 +1,30 @@
 // How much rings enclose that are rebuilt of their arcs.
-ghost use Rattle.std.specs.Prelude.{◌≡◌, ◌+◌, ◌≤◌, drop, map, nat_lt, unsigned_abs};
+ghost use Rattle.std.specs.Prelude.{◌≡◌, ◌+◌, ◌≤◌, ◌<◌, IfOk, drop, get_or, length, map, nat_lt, unsigned_abs};
 ghost use Rattle.std.specs.List.{AllByRecursion};
-ghost use Rattle.topo_model.specs.Passing.{directed, most_of_arc, Sums};
+ghost use Rattle.topo_model.specs.Passing.{directed, goes_on, is_sum, most_of_arc, Sums};
 ghost use Rattle.geometry.specs.Areas.{shoelace, sum_limit, twice_ring_area};
 ghost use Rattle.geometry.specs.Joins.{arc_at, stitched};
 ghost use Rattle.geometry.specs.Points.{IsPosition};
 ghost use Rattle.geometry.specs.Units.{threshold_limit};
 
 use geojson_types::Position;
-use geometry::RingSum;
+use geometry::{RingSum, is_same};
 use json_value::Items;
+use owned_values::Memory;
+use std::alloc::Global;
+use std::marker::Model;
 use topojson_types::{ArcRef, Cell};
+
+/// The position with this number of an arc in one direction or the other.
+fn position_at(arc: &[Cell], reversed: bool, k: usize) -> Position
+    requires places { AllByRecursion IsPosition arc.now }
+    requires within { k < length arc.now }
+    ensures { result ≡ get_or (directed reversed arc.now) k result }
+{
+    let i = if reversed { arc.len() - 1 - k } else { k };
+    let cell = arc[i];
+    Position::at(cell.x(), cell.y())
+}
 
 /// Passes the positions of an arc in one direction or the other, from this one on.
 fn pass_arc(sum: &mut RingSum, arc: &[Cell], reversed: bool, from: usize)
@@ -20,50 +34,141 @@ fn pass_arc(sum: &mut RingSum, arc: &[Cell], reversed: bool, from: usize)
     ensures bound { unsigned_abs sum.new.sum ≤ unsigned_abs sum.old.sum + most_of_arc }
 {
     'cells: for k in from..arc.len() {
-        let i = if reversed { arc.len() - 1 - k } else { k };
-        let cell = arc[i];
-        sum.pass(Position::at(cell.x(), cell.y()));
+        sum.pass(position_at(arc, reversed, k));
     }
 }
 
-/// Passes those of the arc that an index names.
-fn pass_ref(sum: &mut RingSum, index: ArcRef, arcs: &[Items<Cell>], from: usize)
-    requires places { AllByRecursion (λ arc. AllByRecursion IsPosition arc) arcs.now }
-    requires sum { unsigned_abs sum.old.sum + most_of_arc ≤ sum_limit }
-    ensures sums { Sums (drop from (arc_at arcs.now index)) sum.old sum.new }
-    ensures bound { unsigned_abs sum.new.sum ≤ unsigned_abs sum.old.sum + most_of_arc }
-{
-    if let Some(arc) = arcs.get(index.index()) {
-        pass_arc(sum, arc.as_slice(), index.reversed(), from);
-    }
-}
-
-/// What the positions of a ring that is rebuilt of the arcs with these indexes add up to.
-pub fn ring_sum(refs: &[ArcRef], arcs: &[Items<Cell>]) -> RingSum
-    requires { AllByRecursion (λ arc. AllByRecursion IsPosition arc) arcs.now }
-    ensures { result.sum ≡ shoelace (stitched (map (arc_at arcs.now) refs.now)) }
+/// What the positions of an arc add up to.
+fn sum_of(arc: &[Cell]) -> RingSum
+    requires { AllByRecursion IsPosition arc.now }
+    ensures { is_sum arc.now result }
 {
     let mut sum = RingSum::new();
-    let Some((first, later)) = refs.split_first() else {
-        return sum;
-    };
-    pass_ref(&mut sum, *first, arcs, 0);
-    'later: for index in later {
-        pass_ref(&mut sum, *index, arcs, 1);
-    }
+    pass_arc(&mut sum, arc, false, 0);
     sum
 }
 
-/// Whether twice the area of a ring that is rebuilt of the arcs with these indexes is under the limit. Nothing is under zero, so then
-/// no position is looked at.
-pub fn is_ring_under(refs: &[ArcRef], arcs: &[Items<Cell>], limit: u128) -> bool
-    requires places { AllByRecursion (λ arc. AllByRecursion IsPosition arc) arcs.now }
-    requires limit { limit ≤ threshold_limit }
-    ensures { result ≡ nat_lt (twice_ring_area (stitched (map (arc_at arcs.now) refs.now))) limit }
+/// Whether a line goes on where the ring is, which is without its first position, or begins the ring.
+fn is_next(sum: &RingSum, first: Position, from: usize) -> bool
+    ensures { result ≡ goes_on sum.now.last first from }
 {
-    if limit == 0 {
-        return false;
+    match sum.last() {
+        None => from == 0,
+        Some(last) => from == 1 && is_same(last, first),
     }
-    let sum = ring_sum(refs, arcs);
-    sum.is_under(limit)
+}
+
+/// The same as `pass_arc`, of an arc whose positions add up to this: at once, where it goes on where the ring is, or begins it.
+fn pass_summed(sum: &mut RingSum, arc: &[Cell], line: &RingSum, reversed: bool, from: usize)
+    requires places { AllByRecursion IsPosition arc.now }
+    requires sum { unsigned_abs sum.old.sum + most_of_arc ≤ sum_limit }
+    requires line { is_sum arc.now line.now }
+    ensures sums { Sums (drop from (directed reversed arc.now)) sum.old sum.new }
+    ensures bound { unsigned_abs sum.new.sum ≤ unsigned_abs sum.old.sum + most_of_arc }
+{
+    if arc.is_empty() {
+        return;
+    }
+    if !is_next(sum, position_at(arc, reversed, 0), from) {
+        pass_arc(sum, arc, reversed, from);
+        return;
+    }
+    let end = position_at(arc, reversed, arc.len() - 1);
+    sum.pass_line(line, reversed, end);
+}
+
+/// Arcs, with what the positions of each add up to, or of none. With that a ring takes a step for each of its arcs, however long they are.
+#[derive(Drop)]
+pub struct SummedArcs<'a> {
+    arcs: &'a [Items<Cell>],
+    sums: Vec<RingSum>,
+}
+
+impl<'a> Model for SummedArcs<'a> {
+    ghost use Rattle.std.specs.Prelude.{List};
+    ghost use Rattle.std.specs.List.{AllByRecursion};
+    ghost use Rattle.geometry.specs.Points.{IsPosition, Point};
+    ghost use Rattle.topo_model.specs.Passing.{AreSums};
+
+    ghost Value = { List (List Point) };
+
+    ghost view = { λ s. s.arcs.now };
+
+    ghost invariant = { λ s. AllByRecursion (λ arc. AllByRecursion IsPosition arc) s.arcs.now × AreSums s.arcs.now s.sums.items };
+}
+
+impl<'a> SummedArcs<'a> {
+    /// These arcs, of which none is summed up.
+    pub fn unsummed(alloc: Global, arcs: &'a [Items<Cell>]) -> SummedArcs<'a>
+        requires { AllByRecursion (λ arc. AllByRecursion IsPosition arc) arcs.now }
+        ensures { result ≡ arcs.now }
+    {
+        SummedArcs {
+            arcs,
+            sums: Vec::new(alloc),
+        }
+    }
+
+    /// These arcs, each of which is summed up.
+    pub fn of(alloc: Global, arcs: &'a [Items<Cell>]) -> Result<SummedArcs<'a>, Memory>
+        requires { AllByRecursion (λ arc. AllByRecursion IsPosition arc) arcs.now }
+        ensures { IfOk result (λ s. s ≡ arcs.now) }
+    {
+        let mut sums = Vec::with_capacity(alloc, arcs.len())?;
+        'arcs: for arc in arcs {
+            sums.push(sum_of(arc.as_slice()))?;
+        }
+        Ok(SummedArcs { arcs, sums })
+    }
+
+    /// The arcs.
+    pub fn arcs(&self) -> &'a [Items<Cell>]
+        ensures { result.now ≡ self.now }
+    {
+        self.arcs
+    }
+
+    /// Passes those of the arc that an index names.
+    fn pass_ref(&self, sum: &mut RingSum, index: ArcRef, from: usize)
+        requires { unsigned_abs sum.old.sum + most_of_arc ≤ sum_limit }
+        ensures sums { Sums (drop from (arc_at self.now index)) sum.old sum.new }
+        ensures bound { unsigned_abs sum.new.sum ≤ unsigned_abs sum.old.sum + most_of_arc }
+    {
+        let number = index.index();
+        let Some(arc) = self.arcs.get(number) else {
+            return;
+        };
+        match self.sums.get(number) {
+            Some(line) => pass_summed(sum, arc.as_slice(), line, index.reversed(), from),
+            None => pass_arc(sum, arc.as_slice(), index.reversed(), from),
+        }
+    }
+
+    /// What the positions of a ring that is rebuilt of the arcs with these indexes add up to.
+    pub fn ring_sum(&self, refs: &[ArcRef]) -> RingSum
+        ensures { result.sum ≡ shoelace (stitched (map (arc_at self.now) refs.now)) }
+    {
+        let mut sum = RingSum::new();
+        let Some((first, later)) = refs.split_first() else {
+            return sum;
+        };
+        self.pass_ref(&mut sum, *first, 0);
+        'later: for index in later {
+            self.pass_ref(&mut sum, *index, 1);
+        }
+        sum
+    }
+
+    /// Whether twice the area of a ring that is rebuilt of the arcs with these indexes is under the limit. Nothing is under zero, so then
+    /// no position is looked at.
+    pub fn is_ring_under(&self, refs: &[ArcRef], limit: u128) -> bool
+        requires { limit ≤ threshold_limit }
+        ensures { result ≡ nat_lt (twice_ring_area (stitched (map (arc_at self.now) refs.now))) limit }
+    {
+        if limit == 0 {
+            return false;
+        }
+        let sum = self.ring_sum(refs);
+        sum.is_under(limit)
+    }
 }

@@ -10,7 +10,7 @@ ghost use Rattle.build_meaning.specs.Simplified.{objects_pruned};
 ghost use Rattle.byte_ends.specs.Ends.{saturated};
 ghost use Rattle.geometry.specs.Joins.{AreInRange};
 ghost use Rattle.geometry.specs.Lists.{map_some};
-ghost use Rattle.geometry.specs.Points.{Point};
+ghost use Rattle.geometry.specs.Points.{IsPosition, Point};
 ghost use Rattle.geometry.specs.Units.{threshold_limit};
 ghost use Rattle.topojson_types.specs.declared.object.TopoObject.{TopoObject as Object};
 ghost use Rattle.topojson_types.specs.Decoding.{placed_arcs as all_placed};
@@ -37,6 +37,25 @@ use owned_values::Memory;
 use std::alloc::Global;
 use topojson_types::{Cell, TopoObject, Topology, Transform};
 
+/// Leaves out the lines and rings of the objects that are small where they are rebuilt of these arcs, and twice the area of a ring may not be
+/// under the limit, but no ring to which the way of its feature leads. They are, in reading order, what comes back.
+fn leave_out_rebuilt(
+    alloc: Global,
+    objects: &mut [(OwnText, TopoObject)],
+    arcs: &[Items<Cell>],
+    ring_limit: u128,
+    ways: &[Option<Vec<usize>>],
+) -> Result<Vec<Dropped>, Memory>
+    requires places { AllByRecursion (λ arc. AllByRecursion IsPosition arc) arcs.now }
+    requires limit { ring_limit ≤ threshold_limit }
+    ensures objects { OnOk result (objects.new ≡ large_along ring_limit arcs.now (map (map_some (λ v. v.items)) ways.now) objects.old) }
+    ensures dropped { IfOk result (λ dropped. dropped.items
+        ≡ objects_drops (record { arcs = arcs.now; limit = ring_limit }) 0 (map (map_some (λ v. v.items)) ways.now) objects.old) }
+{
+    let rebuilding = Rebuilding::of(alloc, arcs, ring_limit)?;
+    leave_out_small(alloc, objects, &rebuilding, ways)
+}
+
 /// Leaves out the lines and rings of the objects that are small where the positions of the arcs are those that their cells stand for, and
 /// twice the area of a ring may not be under the limit, but no ring to which the way of its feature leads. They are, in reading order, what
 /// comes back.
@@ -56,10 +75,10 @@ fn leave_out_dropped(
         ≡ objects_drops (record { arcs = all_placed (option_copied transform.entry) arcs.now; limit = ring_limit }) 0 (map (map_some (λ v. v.items)) ways.now) objects.old) }
 {
     match transform {
-        None => leave_out_small(alloc, objects, &Rebuilding::of(arcs, ring_limit), ways),
+        None => leave_out_rebuilt(alloc, objects, arcs, ring_limit, ways),
         Some(_) => {
             let placed = placed_arcs(alloc, arcs, transform)?;
-            leave_out_small(alloc, objects, &Rebuilding::of(&placed, ring_limit), ways)
+            leave_out_rebuilt(alloc, objects, &placed, ring_limit, ways)
         }
     }
 }

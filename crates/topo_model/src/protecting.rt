@@ -12,6 +12,7 @@ ghost use Rattle.topojson_types.specs.Topologies.{object_features};
 ghost use Rattle.topojson_types.specs.Validity.{IsPlace};
 ghost use Rattle.topo_model.specs.Ways.{way_of, ways_of};
 
+use crate::enclosing::SummedArcs;
 use crate::placing::placed_arcs;
 use crate::searching::{Found, protected_ring};
 use build_meaning::protected_rings_can_stay;
@@ -77,12 +78,11 @@ impl Protecting {
 /// Adds what is found for a feature.
 fn add_feature(
     alloc: Global,
-    arcs: &[Items<Cell>],
+    arcs: &SummedArcs<'_>,
     way: &mut Vec<usize>,
     feature: &TopoFeature,
     found: &mut Protecting,
 ) -> Result<(), Memory>
-    requires { AllByRecursion (λ arc. AllByRecursion IsPosition arc) arcs.now }
     ensures ways { OnOk result (found.new.ways ≡ found.old.ways ++ map (way_of (greatest_ring arcs.now)) (feature.now ∷ [])) }
     ensures rings { OnOk result (found.new.rings ≡ found.old.rings ++ some_of (protected_of (greatest_ring arcs.now)) (feature.now ∷ [])) }
 {
@@ -94,12 +94,11 @@ fn add_feature(
 /// Adds what is found for features.
 fn add_features(
     alloc: Global,
-    arcs: &[Items<Cell>],
+    arcs: &SummedArcs<'_>,
     way: &mut Vec<usize>,
     features: &[TopoFeature],
     found: &mut Protecting,
 ) -> Result<(), Memory>
-    requires { AllByRecursion (λ arc. AllByRecursion IsPosition arc) arcs.now }
     ensures ways { OnOk result (found.new.ways ≡ found.old.ways ++ map (way_of (greatest_ring arcs.now)) features.now) }
     ensures rings { OnOk result (found.new.rings ≡ found.old.rings ++ some_of (protected_of (greatest_ring arcs.now)) features.now) }
 {
@@ -112,12 +111,11 @@ fn add_features(
 /// Adds what is found for the features of an object.
 fn add_object(
     alloc: Global,
-    arcs: &[Items<Cell>],
+    arcs: &SummedArcs<'_>,
     way: &mut Vec<usize>,
     object: &TopoObject,
     found: &mut Protecting,
 ) -> Result<(), Memory>
-    requires { AllByRecursion (λ arc. AllByRecursion IsPosition arc) arcs.now }
     ensures ways { OnOk result (found.new.ways ≡ found.old.ways ++ map (way_of (greatest_ring arcs.now)) (object_features object.now)) }
     ensures rings { OnOk result (found.new.rings ≡ found.old.rings ++ some_of (protected_of (greatest_ring arcs.now)) (object_features object.now)) }
 {
@@ -127,15 +125,12 @@ fn add_object(
     }
 }
 
-/// For each feature of all objects, in reading order, the way to the polygon whose outer ring is protected, if one is, and the arc indexes of
-/// these rings: of the outer rings that have four positions or more where they are rebuilt of these arcs, with equal neighbours as one, in
-/// each feature the first of those that enclose most. Each ring is looked at once.
-pub fn protected_rings(
+/// What is found for the features of all objects, with each arc summed up.
+fn rings_of_summed(
     alloc: Global,
     objects: &[(OwnText, TopoObject)],
-    arcs: &[Items<Cell>],
+    arcs: &SummedArcs<'_>,
 ) -> Result<(Vec<Option<Vec<usize>>>, Vec<Items<ArcRef>>), Memory>
-    requires { AllByRecursion (λ arc. AllByRecursion IsPosition arc) arcs.now }
     ensures ways { IfOk result (λ r. map (map_some (λ w. w.items)) r.0.items ≡ ways_of (greatest_ring arcs.now) objects.now) }
     ensures rings { IfOk result (λ r. r.1.items ≡ all_protected (greatest_ring arcs.now) objects.now) }
 {
@@ -145,6 +140,22 @@ pub fn protected_rings(
         add_object(alloc, arcs, &mut way, &object.1, &mut found)?;
     }
     Ok(found.into_parts())
+}
+
+/// For each feature of all objects, in reading order, the way to the polygon whose outer ring is protected, if one is, and the arc indexes of
+/// these rings: of the outer rings that have four positions or more where they are rebuilt of these arcs, with equal neighbours as one, in
+/// each feature the first of those that enclose most. Each arc is summed up once, and each ring is looked at once.
+pub fn protected_rings(
+    alloc: Global,
+    objects: &[(OwnText, TopoObject)],
+    arcs: &[Items<Cell>],
+) -> Result<(Vec<Option<Vec<usize>>>, Vec<Items<ArcRef>>), Memory>
+    requires { AllByRecursion (λ arc. AllByRecursion IsPosition arc) arcs.now }
+    ensures ways { IfOk result (λ r. map (map_some (λ w. w.items)) r.0.items ≡ ways_of (greatest_ring arcs.now) objects.now) }
+    ensures rings { IfOk result (λ r. r.1.items ≡ all_protected (greatest_ring arcs.now) objects.now) }
+{
+    let summed = SummedArcs::of(alloc, arcs)?;
+    rings_of_summed(alloc, objects, &summed)
 }
 
 /// Those where the positions of the arcs are those that their cells stand for.

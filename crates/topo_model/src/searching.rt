@@ -1,14 +1,12 @@
 // The search for the protected ring of a feature: of its outer rings with four positions or more the first of those that enclose most.
 ghost use Rattle.std.specs.Prelude.{◌≡◌, ◌∷◌, ◌++◌, [], ℕ, IfOk, List, OnOk, map};
-ghost use Rattle.std.specs.List.{AllByRecursion};
 ghost use Rattle.geometry.specs.Lists.{map_some, then_some};
 ghost use Rattle.geometry.specs.Paths.{of_parts};
-ghost use Rattle.geometry.specs.Points.{IsPosition};
 ghost use Rattle.build_meaning.specs.OuterRings.{outer_ring, outer_rings};
 ghost use Rattle.build_meaning.specs.Protected.{greatest_ring};
 ghost use Rattle.topo_model.specs.Searching.{all_met, at_way, encloses_less as is_less, met};
 
-use crate::enclosing::ring_sum;
+use crate::enclosing::SummedArcs;
 use crate::rebuilding::is_short_rebuilt;
 use geojson_types::Geometry;
 use geometry::RingSum;
@@ -16,7 +14,7 @@ use json_value::Items;
 use owned_values::Memory;
 use std::alloc::Global;
 use std::marker::Model;
-use topojson_types::{ArcRef, Cell, TopoFeature, TopoShape};
+use topojson_types::{ArcRef, TopoFeature, TopoShape};
 
 /// A ring with the way to its polygon, and what its positions add up to.
 #[derive(Drop)]
@@ -69,18 +67,17 @@ fn encloses_less(best: &Option<Found>, sum: &RingSum) -> bool
 /// Meets one ring, at the end of this way. It is copied only where it is the best so far.
 fn meet_ring(
     alloc: Global,
-    arcs: &[Items<Cell>],
+    arcs: &SummedArcs<'_>,
     way: &[usize],
     refs: &[ArcRef],
     best: &mut Option<Found>,
 ) -> Result<(), Memory>
-    requires { AllByRecursion (λ arc. AllByRecursion IsPosition arc) arcs.now }
     ensures { OnOk result (best.new ≡ met arcs.now best.old (record { path = way.now; part = refs.now })) }
 {
-    if is_short_rebuilt(true, refs, arcs) {
+    if is_short_rebuilt(true, refs, arcs.arcs()) {
         return Ok(());
     }
-    let sum = ring_sum(refs, arcs);
+    let sum = arcs.ring_sum(refs);
     if encloses_less(best, &sum) {
         *best = Some(Found::at(alloc, way, refs, sum)?);
     }
@@ -90,12 +87,11 @@ fn meet_ring(
 /// Meets the outer ring of the polygon at the end of this way.
 fn meet_outer(
     alloc: Global,
-    arcs: &[Items<Cell>],
+    arcs: &SummedArcs<'_>,
     way: &[usize],
     rings: &[Items<ArcRef>],
     best: &mut Option<Found>,
 ) -> Result<(), Memory>
-    requires { AllByRecursion (λ arc. AllByRecursion IsPosition arc) arcs.now }
     ensures { OnOk result (best.new ≡ all_met arcs.now best.old (at_way way.now (outer_ring rings.now))) }
 {
     let Some(outer) = rings.first() else {
@@ -123,12 +119,11 @@ fn leave(way: &mut Vec<usize>)
 /// Meets the outer rings of the polygons at the end of this way.
 fn meet_areas(
     alloc: Global,
-    arcs: &[Items<Cell>],
+    arcs: &SummedArcs<'_>,
     way: &mut Vec<usize>,
     areas: &[Items<Items<ArcRef>>],
     best: &mut Option<Found>,
 ) -> Result<(), Memory>
-    requires { AllByRecursion (λ arc. AllByRecursion IsPosition arc) arcs.now }
     ensures way { OnOk result (way.new.items ≡ way.old.items) }
     ensures best { OnOk result (best.new ≡ all_met arcs.now best.old (at_way way.old.items (of_parts 0 (map outer_ring areas.now)))) }
 {
@@ -144,12 +139,11 @@ fn meet_areas(
 #[tactic(auto, using(crate::proofs::BestRing::rings_at))]
 fn meet_shape(
     alloc: Global,
-    arcs: &[Items<Cell>],
+    arcs: &SummedArcs<'_>,
     way: &mut Vec<usize>,
     shape: &TopoShape,
     best: &mut Option<Found>,
 ) -> Result<(), Memory>
-    requires { AllByRecursion (λ arc. AllByRecursion IsPosition arc) arcs.now }
     ensures way { OnOk result (way.new.items ≡ way.old.items) }
     ensures best { OnOk result (best.new ≡ all_met arcs.now best.old (at_way way.old.items (outer_rings shape.now))) }
 {
@@ -175,11 +169,10 @@ fn meet_shape(
 /// and no collection.
 pub fn protected_ring(
     alloc: Global,
-    arcs: &[Items<Cell>],
+    arcs: &SummedArcs<'_>,
     way: &mut Vec<usize>,
     feature: &TopoFeature,
 ) -> Result<Option<Found>, Memory>
-    requires { AllByRecursion (λ arc. AllByRecursion IsPosition arc) arcs.now }
     ensures { IfOk result (λ found. map_some (λ f. f.ring) found ≡ then_some (greatest_ring arcs.now) feature.now.shape) }
 {
     way.clear();

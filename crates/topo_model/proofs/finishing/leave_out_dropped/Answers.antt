@@ -2,7 +2,6 @@ use Rattle.std.proofs.Common.{◌≡◌, map, ap, sym, subst, ◌∙◌}
 use Rattle.std.specs.List.{AllByRecursion}
 use Rattle.std.specs.Option.{option_copied}
 use Rattle.std.proofs.lemmas.Result.{IfOk-weaker, on_ok_weaker}
-use Rattle.topo_model.specs.Rebuilding.{Rebuilding}
 use Rattle.geometry.specs.Points.{IsPosition}
 use Rattle.geometry.specs.Lists.{map_some}
 use Rattle.topo_model.specs.Along.{large_along}
@@ -11,26 +10,26 @@ use Rattle.topojson_types.specs.Decoding.{placed_arcs}
 use Rattle.topo_model.proofs.Result.{are_positions}
 use Rattle.topo_model.proofs.finishing.leave_out_dropped.Goals as goal
 
-pub of-requires-in-Some-clause-places : goal.of-requires-in-Some-clause-places
-of-requires-in-Some-clause-places c =
+pub leave_out_rebuilt-requires-in-Some-clause-places : goal.leave_out_rebuilt-requires-in-Some-clause-places
+leave_out_rebuilt-requires-in-Some-clause-places c =
     subst (AllByRecursion (λ a. AllByRecursion IsPosition a)) (sym (c.deref.ensures.value ∙ c.in_ok-placed-in-Some.ensures)) (are_positions (option_copied c.args.transform) c.args.arcs.now c.requires.places)
 
 pub returns-in-None-clause-objects : goal.returns-in-None-clause-objects
 returns-in-None-clause-objects c =
-    on_ok_weaker c.leave_out_small.result
-    (λ h. h ∙ ap (λ (o : Rebuilding). large_along o.limit o.arcs (map (map_some (λ v. v.items)) c.args.ways.now) c.args.objects.now) c.of.ensures
-    ∙ ap (λ t. large_along c.args.ring_limit (placed_arcs (option_copied t) c.args.arcs.now) (map (map_some (λ v. v.items)) c.args.ways.now) c.args.objects.now) (sym c.in-None.is)) c.leave_out_small.ensures.objects
+    on_ok_weaker c.leave_out_rebuilt.result
+    (λ h. h ∙ ap (λ t. large_along c.args.ring_limit (placed_arcs (option_copied t) c.args.arcs.now) (map (map_some (λ v. v.items)) c.args.ways.now) c.args.objects.now) (sym c.in-None.is))
+    c.leave_out_rebuilt.ensures.objects
 
 pub returns-in-None-clause-dropped : goal.returns-in-None-clause-dropped
 returns-in-None-clause-dropped c =
-    IfOk-weaker c.leave_out_small.result
-    (λ dropped. dropped.items ≡ objects_drops c.of.result 0 (map (map_some (λ v. v.items)) c.args.ways.now) c.args.objects.now)
+    IfOk-weaker c.leave_out_rebuilt.result
+    (λ dropped. dropped.items ≡ objects_drops (record { arcs = c.args.arcs.now; limit = c.args.ring_limit }) 0 (map (map_some (λ v. v.items)) c.args.ways.now) c.args.objects.now)
     (λ dropped. dropped.items ≡ objects_drops (record { arcs = placed_arcs (option_copied c.args.transform) c.args.arcs.now; limit = c.args.ring_limit }) 0 (map (map_some (λ v. v.items)) c.args.ways.now) c.args.objects.now)
-    (λ dropped h. h ∙ ap (λ (o : Rebuilding). objects_drops o 0 (map (map_some (λ v. v.items)) c.args.ways.now) c.args.objects.now) c.of.ensures
-    ∙ ap (λ t. objects_drops (record { arcs = placed_arcs (option_copied t) c.args.arcs.now; limit = c.args.ring_limit }) 0 (map (map_some (λ v. v.items)) c.args.ways.now) c.args.objects.now) (sym c.in-None.is)) c.leave_out_small.ensures.dropped
+    (λ dropped h. h ∙ ap (λ t. objects_drops (record { arcs = placed_arcs (option_copied t) c.args.arcs.now; limit = c.args.ring_limit }) 0 (map (map_some (λ v. v.items)) c.args.ways.now) c.args.objects.now) (sym c.in-None.is))
+    c.leave_out_rebuilt.ensures.dropped
 
 pub returns-in_ok-placed-in-Some-clause-objects : goal.returns-in_ok-placed-in-Some-clause-objects
 returns-in_ok-placed-in-Some-clause-objects c =
-    on_ok_weaker c.leave_out_small-in-Some.result
-    (λ h. h ∙ ap (λ (o : Rebuilding). large_along o.limit o.arcs (map (map_some (λ v. v.items)) c.args.ways.now) c.args.objects.now) c.of-in-Some.ensures
-    ∙ ap (λ arcs. large_along c.args.ring_limit arcs (map (map_some (λ v. v.items)) c.args.ways.now) c.args.objects.now) (c.deref.ensures.value ∙ c.in_ok-placed-in-Some.ensures)) c.leave_out_small-in-Some.ensures.objects
+    on_ok_weaker c.leave_out_rebuilt-in-Some.result
+    (λ h. h ∙ ap (λ arcs. large_along c.args.ring_limit arcs (map (map_some (λ v. v.items)) c.args.ways.now) c.args.objects.now) (c.deref.ensures.value ∙ c.in_ok-placed-in-Some.ensures))
+    c.leave_out_rebuilt-in-Some.ensures.objects

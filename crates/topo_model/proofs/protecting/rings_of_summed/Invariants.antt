@@ -1,7 +1,7 @@
 use Rattle.std.proofs.Common.{◌≡◌, ◌++◌, drop}
 use Rattle.build_meaning.specs.Protected.{greatest_ring, protected_rings}
 use Rattle.topo_model.specs.Ways.{ways_of}
-use Rattle.topo_model.proofs.protecting.protected_rings.Given as goal
+use Rattle.topo_model.proofs.protecting.rings_of_summed.Given as goal
 
 abbrev pub invariant-objects : goal.invariant-objects
 invariant-objects l =

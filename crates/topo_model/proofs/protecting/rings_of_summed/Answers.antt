@@ -1,6 +1,6 @@
 use Rattle.build_meaning.specs.Protected.{greatest_ring}
 use Rattle.topo_model.proofs.BestRing.{object_ways_more, object_rings_more}
-use Rattle.topo_model.proofs.protecting.protected_rings.Goals as goal
+use Rattle.topo_model.proofs.protecting.rings_of_summed.Goals as goal
 
 pub objects-preserved : goal.objects-preserved
 objects-preserved c = (

@@ -17,6 +17,7 @@ pub mod NotFree
 pub mod Noted
 pub mod Numbers
 pub mod Orders
+pub mod OtherEnd
 pub mod OtherSide
 pub mod Parting
 pub mod PartMembers

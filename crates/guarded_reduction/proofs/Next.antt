@@ -34,6 +34,7 @@ use Rattle.guarded_reduction.specs.Numbers.{HasPlace, left_arcs, number}
 use Rattle.guarded_reduction.specs.States.{HoldsByLink, IsHeld, IsNext, NoneNext, blocks}
 use Rattle.guarded_reduction.specs.Waiting.{Waiting}
 use Rattle.guarded_reduction.proofs.Numbers.{numbers_rise}
+use Rattle.guarded_reduction.proofs.OtherEnd.{end_blocks}
 use Rattle.guarded_reduction.proofs.Showing.{IsFound, IsShownCorner, found, own_from, own_place, own_to, shown_corner}
 use Rattle.guarded_reduction.proofs.Unlinking.{left_is, still_showing}
 
@@ -171,7 +172,7 @@ module _ (b : Bool) (rings : List (List ℤ)) (arcs : List (List Point)) (t : �
     where
       meets : (is_held_by (corner_in s (own d)) h.holder (point_at s.positions h.holder) ≡ true) ⊎ HoldsByLink s w (own d) h.holder → blocks s (own d) h.holder (point_at s.positions h.holder) ≡ true
       meets (inl k) = blocked_inside s.positions s.befores s.afters (corner_in s (own d)) h.holder (point_at s.positions h.holder) k
-      meets (inr k) = k.blocks
+      meets (inr k) = end_blocks s (corner_in s (own d)) h.holder k.end k.joins
 
   due_of : (d : ArcCorner) → there d → MayGo b rings t now d → IsDue t s (own d)
   due_of d m l =

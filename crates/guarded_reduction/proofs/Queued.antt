@@ -1,19 +1,17 @@
 -- The queue and the waits cover all corners under the threshold while corners are looked at and go.
-use Rattle.std.proofs.Common.{◌≡◌, ◌≢◌, ℕ, ◌<◌, ◌==◌, true, false, not, ◌&&◌, ◌||◌, List, ◌∷◌, length, slice_index, slice_index_or, slice_set, length-set, get_or-set_other, Bool, refl, ap, sym, ◌∙◌, subst, ◌⊎◌, inl, inr, arith}
+use Rattle.std.proofs.Common.{◌≡◌, ◌≢◌, ℕ, ◌<◌, true, false, List, ◌∷◌, length, slice_index, slice_index_or, slice_set, length-set, get_or-set_other, Bool, refl, ap, sym, ◌∙◌, subst, ◌⊎◌, inl, inr, arith}
 use Rattle.std.specs.BinaryHeap.{IsUpperBound}
 use Rattle.std.specs.List.{Contains}
 use Rattle.std.specs.List.Sorted.{IsPermutation}
 use Rattle.std.specs.Ordering.{is_lt}
 use Rattle.std.specs.declared.cmp.Reverse.{Reverse}
 use Rattle.std.proofs.lemmas.Bool.{both_ways, cases_eq}
+use Rattle.std.proofs.lemmas.List.{get_or_default}
 use Rattle.std.proofs.lemmas.List.Elements.{All-contains, All-from_recursion}
 use Rattle.std.proofs.lemmas.List.Sorted.{Contains-permutation, IsPermutation-sym}
-use Rattle.geometry.specs.Points.{Point}
-use Rattle.geometry.specs.Rings.{same}
 use Rattle.geometry.specs.Units.{area_limit}
 use Rattle.effective_area.proofs.HeapLaws.{contains_cases, contains_here, contains_later}
 use Rattle.guarded_reduction.specs.declared.query.Corner.{Corner}
-use Rattle.guarded_reduction.specs.Blocking.{is_blocked_by, is_joined_at, joins_ends, leads_on}
 use Rattle.guarded_reduction.specs.Indexes.{NoneMeets, is_left_at, point_at}
 use Rattle.guarded_reduction.specs.Tests.{is_held_by}
 use Rattle.guarded_reduction.proofs.Indexes.{left_before}
@@ -21,7 +19,7 @@ use Rattle.guarded_reduction.specs.declared.entry.Entry.{Entry}
 use Rattle.guarded_reduction.specs.Entries.{AreBelow, IsCurrent, IsDue, IsSound, entry_at, entry_in, turned, turned_cmp}
 use Rattle.guarded_reduction.specs.Linking.{Linked, IsChained, IsCorner, IsWhole, corner_in, fixed_at, fixed_to, is_fixed, unlinked}
 use Rattle.guarded_reduction.specs.Moves.{Counted, keeps_all}
-use Rattle.guarded_reduction.specs.States.{HoldsByLink, IsFixing, IsHeld, IsNext, IsQueued, Pushed, PushedAll, blocks}
+use Rattle.guarded_reduction.specs.States.{HoldsByLink, IsFixing, IsHeld, IsNext, IsOtherEnd, IsQueued, Pushed, PushedAll, blocks}
 use Rattle.guarded_reduction.specs.Waiting.{KeepsWaits, Waiting, WaitsOn}
 use Rattle.guarded_reduction.proofs.Unlinking.{same_at}
 
@@ -32,7 +30,7 @@ still_held s old new v k h = record { asked = h.asked; holder = h.holder; within
   where
     on : (is_held_by (corner_in s v) h.holder (point_at s.positions h.holder) ≡ true) ⊎ HoldsByLink s old v h.holder → (is_held_by (corner_in s v) h.holder (point_at s.positions h.holder) ≡ true) ⊎ HoldsByLink s new v h.holder
     on (inl e) = inl e
-    on (inr l) = inr (record { blocks = l.blocks; before = k.has (slice_index s.befores h.holder) v l.before; after = k.has (slice_index s.afters h.holder) v l.after })
+    on (inr l) = inr (record { end = l.end; joins = l.joins; waits = k.has l.end v l.waits })
 
 -- ---- an entry is taken off the queue
 
@@ -113,13 +111,6 @@ module _ (t : ℕ) (s : Linked) (items new : List (Reverse Entry)) (w : Waiting)
 
 -- ---- a corner goes
 
-blocked_same : (ps : List Point) (bs ks cs ds : List ℕ) (q : Corner) (h : ℕ) (p : Point) → slice_index_or cs h q.place ≡ slice_index_or bs h q.place → slice_index_or ds h q.place ≡ slice_index_or ks h q.place →
-    is_blocked_by ps cs ds q h p ≡ is_blocked_by ps bs ks q h p
-unfolding is_blocked_by joins_ends is_joined_at
-blocked_same ps bs ks cs ds q h p e f =
-    ap (λ x. is_held_by q h p || (not (same q.before q.after) && (same q.before p && (not (h == q.place) && (leads_on ps q.after q.place x || leads_on ps q.after q.place (slice_index_or ds h q.place)))))) e
-    ∙ ap (λ x. is_held_by q h p || (not (same q.before q.after) && (same q.before p && (not (h == q.place) && (leads_on ps q.after q.place (slice_index_or bs h q.place) || leads_on ps q.after q.place x))))) f
-
 module _ (t : ℕ) (s : Linked) (whole : IsWhole s) (chained : IsChained s) (z : ℕ) (corner : IsCorner s z) where
   abbrev next : Linked
   next = unlinked z s
@@ -171,12 +162,24 @@ module _ (t : ℕ) (s : Linked) (whole : IsWhole s) (chained : IsChained s) (z :
     held_or_woken : (w : Waiting) → IsHeld s w v → WaitsOn w z v ⊎ IsHeld next w v
     held_or_woken w h = on (cases_eq h.holder z)
       where
-        across : h.holder ≢ z → HoldsByLink s w v h.holder → (slice_index s.befores h.holder ≡ z) ⊎ (slice_index s.befores h.holder ≢ z) → (slice_index s.afters h.holder ≡ z) ⊎ (slice_index s.afters h.holder ≢ z) → WaitsOn w z v ⊎ IsHeld next w v
-        across n k (inl e) r = inl (subst (λ y. WaitsOn w y v) e k.before)
-        across n k (inr l) (inl e) = inl (subst (λ y. WaitsOn w y v) e k.after)
-        across n k (inr l) (inr r) =
-            let not_after : h.holder ≢ follower = λ e. l (ap (λ y. slice_index s.befores y) e ∙ (chained.after z corner.within corner.left corner.after).1) in
-            let not_before : h.holder ≢ prior = λ e. r (ap (λ y. slice_index s.afters y) e ∙ (chained.before z corner.within corner.left corner.before).1) in
+        before_read : slice_index_or s.befores h.holder v ≡ slice_index s.befores h.holder
+        before_read = get_or_default s.befores h.holder v 0 (omega (arith, h.within, whole.befores))
+
+        after_read : slice_index_or s.afters h.holder v ≡ slice_index s.afters h.holder
+        after_read = get_or_default s.afters h.holder v 0 (omega (arith, h.within, whole.afters))
+
+        beside : (y : ℕ) → y ≢ z → (slice_index_or s.befores h.holder v ≡ y) ⊎ (slice_index_or s.afters h.holder v ≡ y) → (slice_index_or next.befores h.holder v ≡ y) ⊎ (slice_index_or next.afters h.holder v ≡ y)
+        beside y o (inl e) =
+            let n : h.holder ≢ follower = λ q. o (sym e ∙ before_read ∙ ap (λ x. slice_index s.befores x) q ∙ (chained.after z corner.within corner.left corner.after).1) in
+            inl (before_same h.holder v n ∙ e)
+        beside y o (inr e) =
+            let n : h.holder ≢ prior = λ q. o (sym e ∙ after_read ∙ ap (λ x. slice_index s.afters x) q ∙ (chained.before z corner.within corner.left corner.before).1) in
+            inr (after_same h.holder v n ∙ e)
+
+        across : h.holder ≢ z → (k : HoldsByLink s w v h.holder) → (k.end ≡ z) ⊎ (k.end ≢ z) → WaitsOn w z v ⊎ IsHeld next w v
+        across n k (inl e) = inl (subst (λ y. WaitsOn w y v) e k.waits)
+        across n k (inr o) =
+            let j = subst (λ (q : Corner). IsOtherEnd s q h.holder k.end) (sym corner_same) k.joins in
             inr (record {
               asked = h.asked;
               holder = h.holder;
@@ -184,10 +187,9 @@ module _ (t : ℕ) (s : Linked) (whole : IsWhole s) (chained : IsChained s) (z :
               left = left_other h.holder n h.left;
               waits = h.waits;
               holds = inr (record {
-                blocks = ap (λ q. is_blocked_by s.positions next.befores next.afters q h.holder (point_at s.positions h.holder)) corner_same
-                    ∙ blocked_same s.positions s.befores s.afters next.befores next.afters (corner_in s v) h.holder (point_at s.positions h.holder) (before_same h.holder v not_after) (after_same h.holder v not_before) ∙ k.blocks;
-                before = subst (λ y. WaitsOn w y v) (sym (before_same h.holder 0 not_after)) k.before;
-                after = subst (λ y. WaitsOn w y v) (sym (after_same h.holder 0 not_before)) k.after;
+                end = k.end;
+                joins = record { apart = j.apart; at = j.at; other = j.other; leads = j.leads; beside = beside k.end o k.joins.beside };
+                waits = k.waits;
               });
             })
 
@@ -200,7 +202,7 @@ module _ (t : ℕ) (s : Linked) (whole : IsWhole s) (chained : IsChained s) (z :
           waits = h.waits;
           holds = inl (subst (λ (q : Corner). is_held_by q h.holder (point_at s.positions h.holder) ≡ true) (sym corner_same) k);
         })
-        by n (inr k) = across n k (cases_eq (slice_index s.befores h.holder) z) (cases_eq (slice_index s.afters h.holder) z)
+        by n (inr k) = across n k (cases_eq k.end z)
 
         on : (h.holder ≡ z) ⊎ (h.holder ≢ z) → WaitsOn w z v ⊎ IsHeld next w v
         on (inl e) = inl (subst (λ y. WaitsOn w y v) e h.waits)
@@ -299,7 +301,11 @@ still_held_fixed s fs w v h = record { asked = h.asked; holder = h.holder; withi
     on : (is_held_by (corner_in s v) h.holder (point_at s.positions h.holder) ≡ true) ⊎ HoldsByLink s w v h.holder →
         (is_held_by (corner_in (fixed_to fs s) v) h.holder (point_at s.positions h.holder) ≡ true) ⊎ HoldsByLink (fixed_to fs s) w v h.holder
     on (inl e) = inl e
-    on (inr l) = inr (record { blocks = l.blocks; before = l.before; after = l.after })
+    on (inr l) = inr (record {
+      end = l.end;
+      joins = record { apart = l.joins.apart; at = l.joins.at; other = l.joins.other; leads = l.joins.leads; beside = l.joins.beside };
+      waits = l.waits;
+    })
 
 -- the corner that would go next is done with when its place stays for good
 pub next_fixed : (t : ℕ) (s : Linked) (items : List (Reverse Entry)) (w : Waiting) (e : Entry) → is_fixed (fixed_at e.place s) e.place ≡ true → IsNext t s items w e → IsQueued t (fixed_at e.place s) items w

@@ -1,10 +1,12 @@
 -- What is kept true while corners go.
-use Rattle.std.specs.Prelude.{◌≡◌, ◌⊎◌, ℕ, ◌<◌, true, false, List, length, slice_index}
+use Rattle.std.specs.Prelude.{◌≡◌, ◌≢◌, ◌⊎◌, ℕ, ◌<◌, true, false, List, length, slice_index_or}
 use Rattle.std.specs.List.{Contains}
 use Rattle.std.specs.Ordering.{is_lt}
 use Rattle.std.specs.declared.cmp.Reverse.{Reverse}
+use Rattle.geometry.specs.Rings.{same}
 use Rattle.geometry.specs.Units.{area_limit}
-use Rattle.guarded_reduction.specs.Blocking.{is_blocked_by}
+use Rattle.guarded_reduction.specs.declared.query.Corner.{Corner}
+use Rattle.guarded_reduction.specs.Blocking.{is_blocked_by, leads_on}
 use Rattle.guarded_reduction.specs.Indexes.{NoneMeets, is_left_at, point_at}
 use Rattle.guarded_reduction.specs.Tests.{Test, is_held_by}
 use Rattle.guarded_reduction.specs.declared.entry.Entry.{Entry}
@@ -17,11 +19,20 @@ use Rattle.guarded_reduction.specs.Waiting.{Waiting, WaitsOn}
 abbrev pub blocks : Linked → ℕ → Test
 blocks s v = is_blocked_by s.positions s.befores s.afters (corner_in s v)
 
--- by a segment: the corner waits on the neighbours of the place too
+-- the segment from the holder leads to this neighbour of it: it joins the positions before and after the corner, which are two, and the corner's own
+-- place is no end of it
+pub record IsOtherEnd (s : Linked) (c : Corner) (holder end : ℕ) : Type 0 where
+  pub apart : same c.before c.after ≡ false
+  pub at : same c.before (point_at s.positions holder) ≡ true
+  pub other : holder ≢ c.place
+  pub leads : leads_on s.positions c.after c.place end ≡ true
+  pub beside : (slice_index_or s.befores holder c.place ≡ end) ⊎ (slice_index_or s.afters holder c.place ≡ end)
+
+-- by a segment: the corner waits on its other end too
 pub record HoldsByLink (s : Linked) (w : Waiting) (v holder : ℕ) : Type 0 where
-  pub blocks : blocks s v holder (point_at s.positions holder) ≡ true
-  pub before : WaitsOn w (slice_index s.befores holder) v
-  pub after : WaitsOn w (slice_index s.afters holder) v
+  pub end : ℕ
+  pub joins : IsOtherEnd s (corner_in s v) holder end
+  pub waits : WaitsOn w end v
 
 -- a place that is left keeps the corner from going without a crossing, and the corner waits on it
 pub record IsHeld (s : Linked) (w : Waiting) (v : ℕ) : Type 0 where

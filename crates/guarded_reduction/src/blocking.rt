@@ -38,7 +38,7 @@ pub fn number_or(numbers: &[usize], place: usize, otherwise: usize) -> usize
 
 /// The place is another than the one that is given, and at the second position.
 #[tactic(auto, unfolding(crate::specs::Blocking::leads_on))]
-fn leads(j: &Joined, place: usize) -> bool
+pub fn leads(j: &Joined, place: usize) -> bool
     ensures { result ≡ leads_on j.now.links.now.positions.now j.now.to j.now.place place }
 {
     let positions = j.links.positions;

@@ -2,8 +2,8 @@
 //! or where rings keep four positions, or both. It stands on `guarded_meaning`, whose definition it answers, and on `planar_predicates`, which
 //! decides where positions and boxes lie. The layer above uses `reduce_guarded`, and `weights_guarded` for a share of the
 //! positions. Corners are queued in rounds by their areas: those of a round are sorted once, and those that come later are put on a heap. One that
-//! is kept from going without a crossing waits on the place that keeps it, and is looked at again when that place goes; one with which a ring would
-//! become too short never goes, so its place stays for good.
+//! is kept from going without a crossing waits on the place in its triangle that keeps it, or on both ends of the segment that does, and is looked at
+//! again when one of these goes; one with which a ring would become too short never goes, so its place stays for good.
 //! What keeps a corner is found by an index over positions of which more and more go: it finds one that is left and meets a query, above all a
 //! `Blocked`, that is in a corner's triangle or begins a segment between the ends of its base. Places are looked for in the cells that the corner's box
 //! meets (`src/cell_lists.rt`), until too many lie there; then the index becomes a `PositionIndex`, whose places are halved, and the halves again, once

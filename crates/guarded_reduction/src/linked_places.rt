@@ -3,13 +3,13 @@ ghost use Rattle.std.specs.Prelude.{◌≡◌, ◌<◌, IfOk, true, false, lengt
 ghost use Rattle.std.specs.Option.{IfNone, IfSome};
 ghost use Rattle.geometry.specs.Units.{area_limit};
 ghost use Rattle.guarded_reduction.specs.Indexes.{Meets, NoneMeets, is_left_at, point_at};
-ghost use Rattle.guarded_reduction.specs.Blocking.{is_blocked_by};
+ghost use Rattle.guarded_reduction.specs.Blocking.{is_blocked_by, leads_on};
 ghost use Rattle.guarded_reduction.specs.Entries.{IsCurrent, IsDue, entry_at, entry_in};
 ghost use Rattle.guarded_reduction.specs.First.{first_linked};
 ghost use Rattle.guarded_reduction.specs.Linking.{IsCorner, IsWhole as IsWholeLinked, corner_in, fixed_at, is_fixed as is_fixed_in, unlinked};
 ghost use Rattle.guarded_reduction.specs.Moves.{lost_at};
 
-use crate::blocking::{Blocked, Links};
+use crate::blocking::{Blocked, Joined, Links, leads};
 use crate::entry::Entry;
 use crate::flattening::{afters_of, all_positions, befores_of};
 use crate::neighbours::{Neighbours, neighbours_of, set_after, set_before, side_by_side};
@@ -264,6 +264,23 @@ impl LinkedPlaces {
             links: &links,
         };
         self.is_left(place) && blocked.is_met_by(place, self.position(place))
+    }
+
+    /// A place is another than the corner's own, and at the position after it.
+    pub fn leads_on(&self, corner: &Corner, place: usize) -> bool
+        ensures { result ≡ leads_on self.now.positions corner.now.after corner.now.place place }
+    {
+        let links = Links {
+            positions: self.places.positions(),
+            neighbours: self.neighbours.as_slice(),
+        };
+        let base = Joined {
+            from: corner.before,
+            to: corner.after,
+            place: corner.place,
+            links: &links,
+        };
+        leads(&base, place)
     }
 
     /// How many moves fewer an arc makes when the corner at a place goes.

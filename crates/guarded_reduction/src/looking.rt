@@ -1,10 +1,12 @@
 // The corner that goes next.
-ghost use Rattle.std.specs.Prelude.{◌≡◌, ◌⊎◌, ◌<◌, IfOk, OnOk, length, true};
+ghost use Rattle.std.specs.Prelude.{◌≡◌, ◌⊎◌, ◌<◌, IfOk, OnOk, length, true, false};
 ghost use Rattle.std.specs.Option.{IfNone, IfSome};
-ghost use Rattle.guarded_reduction.specs.Indexes.{Meets};
+ghost use Rattle.guarded_reduction.specs.Blocking.{is_blocked_by};
+ghost use Rattle.guarded_reduction.specs.Indexes.{Meets, point_at};
 ghost use Rattle.guarded_reduction.specs.Linking.{IsChained};
 ghost use Rattle.guarded_reduction.specs.Moves.{counted_without, keeps_all};
-ghost use Rattle.guarded_reduction.specs.States.{IsFixing, IsHeld, IsNext, IsQueued, NoneNext, blocks};
+ghost use Rattle.guarded_reduction.specs.States.{IsFixing, IsHeld, IsNext, IsOtherEnd, IsQueued, NoneNext, blocks};
+ghost use Rattle.guarded_reduction.specs.Tests.{is_held_by};
 ghost use Rattle.guarded_reduction.specs.Waiting.{KeepsWaits};
 
 use crate::corner_queue::CornerQueue;
@@ -12,14 +14,28 @@ use crate::entry::Entry;
 use crate::holding::holder_of;
 use crate::kept_rings::KeptRings;
 use crate::linked_places::LinkedPlaces;
-use crate::query::Query;
+use crate::query::{Corner, Query};
 use crate::waiting_lists::WaitingLists;
 use owned_values::Memory;
 use std::alloc::Global;
 use std::cmp::Reverse;
 
-/// The corner at a place waits on what blocks it: on a place in its triangle alone, and where a segment blocks it, on that of its ends that was
-/// found, and on the neighbours of this one.
+/// The other end of the segment by which a place blocks a corner, in whose triangle it isn't.
+fn other_end(places: &LinkedPlaces, corner: &Corner, holder: usize) -> usize
+    requires blocks { Meets places.now.positions places.now.left (is_blocked_by places.now.positions places.now.befores places.now.afters corner.now) holder }
+    requires outside { is_held_by corner.now holder (point_at places.now.positions holder) ≡ false }
+    ensures within { result < length places.now.positions }
+    ensures end { IsOtherEnd places.now corner.now holder result }
+{
+    places.law();
+    let before = places.before(holder);
+    if places.leads_on(corner, before) {
+        return before;
+    }
+    places.after(holder)
+}
+
+/// The corner at a place waits on what blocks it: on a place in its triangle alone, and on both ends of a segment.
 fn wait_on(
     waiting: &mut WaitingLists,
     places: &LinkedPlaces,
@@ -38,8 +54,7 @@ fn wait_on(
     if corner.is_met_by(holder, places.position(holder)) {
         return Ok(());
     }
-    waiting.add(places.before(holder), place)?;
-    waiting.add(places.after(holder), place)
+    waiting.add(other_end(places, &corner, holder), place)
 }
 
 /// The corner that goes next, if its rings stay, and if there is one. Those that are blocked come to wait, each once.

@@ -1,12 +1,13 @@
 // Where lines meet badly, in words.
 use crate::building::decimal_of_units;
 use crate::owners::{Owner, owners_of};
+use crate::samples::front_of;
 use geojson_types::Position;
 use json_value::Items;
 use reports::features_in;
 use segment_crossings::Crossing;
 use std::alloc::{AllocError, Global};
-use topojson_decoder::{add_label, quoted};
+use topojson_decoder::add_label;
 use topojson_types::Topology;
 
 /// So many pairs of segments are named at most.
@@ -90,14 +91,14 @@ fn pair_after(arcs: &[Items<Position>], before: Pair, crossing: &Crossing) -> Op
     None
 }
 
-/// The object and the feature with this number over all objects, and what it is called.
+/// The front of the object's name and the feature with this number over all objects, and what it is called.
 fn feature_text(alloc: Global, topology: &Topology, number: u64) -> Result<String, AllocError> {
     let mut left = number;
     for object in topology.objects() {
         let features = features_in(&object.1);
         let count = features.len() as u64;
         if left < count {
-            let name = quoted(alloc, object.0.as_str())?;
+            let name = front_of(alloc, object.0.as_str())?;
             let mut text = format!(in alloc; "object {name}, feature {left}")?;
             if let Some(feature) = features.get(left as usize) {
                 add_label(alloc, &mut text, feature)?;

@@ -3,7 +3,7 @@ use crate::contents::{step_line, topology_lines};
 use crate::crossed::{MOST_ASKED, crossing_lines};
 use crate::inputs_read::InputLines;
 use crate::losses::{DropsLeft, add_losses};
-use crate::samples::samples_in;
+use crate::samples::{front_of, samples_in};
 use extraction::ExtractedLayer;
 use geojson_meaning::{Dropped, Position};
 use inputs::Watch;
@@ -11,7 +11,6 @@ use json_value::Items;
 use segment_crossings::Crossing;
 use std::alloc::{AllocError, Global};
 use std::mem;
-use topojson_decoder::quoted;
 use topojson_types::Topology;
 
 /// What is said of the inputs, and of what was made of them.
@@ -79,7 +78,7 @@ impl Seen {
     ) -> Result<(), AllocError> {
         let mut drops = DropsLeft::of(dropped);
         for (number, object) in topology.objects().iter().enumerate() {
-            let name = quoted(alloc, object.0.as_str())?;
+            let name = front_of(alloc, object.0.as_str())?;
             let place = format!(in alloc; "  object {name}, feature ")?;
             let lines = &mut self.lines;
             add_losses(alloc, lines, place.as_str(), number, &object.1, &mut drops)?;

@@ -13,7 +13,7 @@ const MOST_MEMBERS: usize = 10;
 const MOST_LETTERS: usize = 40;
 
 /// The front of a text as a JSON text, with dots after it where it isn't all.
-fn front_of(alloc: Global, text: &str) -> Result<String, AllocError> {
+pub(crate) fn front_of(alloc: Global, text: &str) -> Result<String, AllocError> {
     let mut front = String::new(alloc);
     for (number, letter) in text.chars().enumerate() {
         if number == MOST_LETTERS {

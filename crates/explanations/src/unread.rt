@@ -4,7 +4,7 @@ use geojson_meaning::{CoordinatesType, GeoJsonType, GeometryType, geojson_type};
 use json_cursor::{after_byte, string_at};
 use json_reading::{TOPOLOGY_DEPTH, skip};
 use std::alloc::{AllocError, Global};
-use topojson_decoder::{after_mark, next_member, rest_after};
+use topojson_decoder::{after_mark, leap, next_member, rest_after};
 
 /// What has members of its own in a layer (RFC 7946, section 1.4) or in a topology (TopoJSON 1.0, section 2), and the lists of such.
 #[derive(Clone, Copy, PartialEq, Eq)]
@@ -36,17 +36,24 @@ impl Part {
         }
     }
 
-    /// Whether its type says if a member of this name is read in it.
+    /// Whether its type has to be known at a member of this name: at the type itself in a geometry, and at any in a layer or an object, which
+    /// stand in no other.
     #[inline(always)]
     fn asks_type(self, name: MemberName) -> bool {
         match self {
             Part::Layer | Part::Object => true,
+            Part::Geometry | Part::ObjectFeature => matches!(name, MemberName::Type),
+            _ => false,
+        }
+    }
+
+    /// Whether it is a geometry, whose type says if a member of this name is read in it.
+    #[inline(always)]
+    fn hangs_on_type(self, name: MemberName) -> bool {
+        match self {
             Part::Geometry | Part::ObjectFeature => matches!(
                 name,
-                MemberName::Type
-                    | MemberName::Arcs
-                    | MemberName::Coordinates
-                    | MemberName::Geometries
+                MemberName::Arcs | MemberName::Coordinates | MemberName::Geometries
             ),
             _ => false,
         }
@@ -129,6 +136,37 @@ pub(crate) struct Unread<'a> {
     pub(crate) layer_crs: Option<&'a [u8]>,
 }
 
+/// The members of a geometry that come before its type, which says whether they are read.
+#[derive(Clone, Copy)]
+struct Early<'a> {
+    arcs: u64,
+    coordinates: u64,
+    geometries: u64,
+    /// What isn't read in the value of `geometries`, if it is that of a collection.
+    within: Unread<'a>,
+}
+
+impl<'a> Early<'a> {
+    /// None yet.
+    fn none(is_topology: bool) -> Early<'a> {
+        Early {
+            arcs: 0,
+            coordinates: 0,
+            geometries: 0,
+            within: Unread::none(is_topology),
+        }
+    }
+
+    /// With a member of this name, but for what is in it.
+    fn count(&mut self, name: MemberName) {
+        match name {
+            MemberName::Arcs => self.arcs = self.arcs.saturating_add(1),
+            MemberName::Coordinates => self.coordinates = self.coordinates.saturating_add(1),
+            _ => self.geometries = self.geometries.saturating_add(1),
+        }
+    }
+}
+
 impl<'a> Unread<'a> {
     /// Nothing counted yet.
     fn none(is_topology: bool) -> Unread<'a> {
@@ -176,6 +214,33 @@ impl<'a> Unread<'a> {
                 }
             }
             _ => self.others = self.others.saturating_add(1),
+        }
+    }
+
+    /// With what was counted in a value.
+    fn add(&mut self, counted: &Unread<'a>) {
+        self.bbox = self.bbox.saturating_add(counted.bbox);
+        self.crs = self.crs.saturating_add(counted.crs);
+        self.others = self.others.saturating_add(counted.others);
+    }
+
+    /// With so many members of this name of a geometry of this type, if they aren't read.
+    fn add_unread(&mut self, of_type: Option<GeoJsonType>, name: MemberName, count: u64) {
+        if matches!(self.geometry_member(of_type, name), Member::Unread) {
+            self.others = self.others.saturating_add(count);
+        }
+    }
+
+    /// With the members of a geometry that came before its type, which is this, if it has one.
+    fn add_early(&mut self, of_type: Option<GeoJsonType>, early: &Early<'a>) {
+        self.add_unread(of_type, MemberName::Arcs, early.arcs);
+        self.add_unread(of_type, MemberName::Coordinates, early.coordinates);
+        self.add_unread(of_type, MemberName::Geometries, early.geometries);
+        if matches!(
+            self.geometry_member(of_type, MemberName::Geometries),
+            Member::Holds(_)
+        ) {
+            self.add(&early.within);
         }
     }
 
@@ -245,11 +310,14 @@ impl<'a> Unread<'a> {
             (Some(element), Some(inside)) => {
                 self.pass_elements(alloc, element, depth_left - 1, skip(inside))
             }
-            _ => rest_after(alloc, bytes),
+            // (`rest_after` would look through all elements behind it for the name of a next member)
+            (None, Some(_)) => leap(bytes),
+            (_, None) => rest_after(alloc, bytes),
         }
     }
 
-    /// What follows the members of such a part. Where one of them hangs on its type, and comes first, that is looked for behind it.
+    /// What follows the members of such a part. The type of a layer or an object is looked for behind the first of them. Geometries stand in each
+    /// other: what hangs on the type of one and comes before it is counted once the type is known, so each is passed once, however deep it stands.
     #[cycle(passing)]
     fn pass_members(
         &mut self,
@@ -263,6 +331,7 @@ impl<'a> Unread<'a> {
         }
         let mut is_typed = false;
         let mut of_type = None;
+        let mut early = Early::none(self.is_topology);
         let mut rest = inside;
         for _ in 0..inside.len() {
             let (name, value) = named_member(alloc, rest)?;
@@ -270,10 +339,18 @@ impl<'a> Unread<'a> {
                 of_type = type_among(alloc, name, value)?;
                 is_typed = true;
             }
-            let after = self.pass_member(alloc, part, of_type, depth_left, name, value)?;
+            let after = if !is_typed && part.hangs_on_type(name) {
+                early.count(name);
+                early.within.pass_early(alloc, depth_left, name, value)?
+            } else {
+                self.pass_member(alloc, part, of_type, depth_left, name, value)?
+            };
             match next_member(after) {
                 Some(more) => rest = more,
-                None => return after_byte(b'}', skip(after)),
+                None => {
+                    self.add_early(of_type, &early);
+                    return after_byte(b'}', skip(after));
+                }
             }
         }
         None
@@ -295,6 +372,22 @@ impl<'a> Unread<'a> {
             Member::Holds(held) => return self.pass(alloc, held, depth_left, value),
             Member::Unread => self.count(part, name, value),
             Member::Read => {}
+        }
+        rest_after(alloc, value)
+    }
+
+    /// What follows the member of this name of a geometry whose type comes later. Here that is counted which isn't read in it if the geometry is
+    /// a collection.
+    #[cycle(passing)]
+    fn pass_early(
+        &mut self,
+        alloc: Global,
+        depth_left: u32,
+        name: MemberName,
+        value: &'a [u8],
+    ) -> Option<&'a [u8]> {
+        if matches!(name, MemberName::Geometries) {
+            return self.pass(alloc, Part::Geometries, depth_left, value);
         }
         rest_after(alloc, value)
     }

@@ -12,3 +12,6 @@ decreases-pass_member l = 3 * l.depth_left + 1
 
 abbrev pub decreases-pass_elements : goal.decreases-pass_elements
 decreases-pass_elements l = 3 * l.depth_left + 1
+
+abbrev pub decreases-pass_early : goal.decreases-pass_early
+decreases-pass_early l = 3 * l.depth_left + 1

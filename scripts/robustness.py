@@ -338,6 +338,8 @@ FILES = (
     ("a comb", MILLION // 10, lambda n: topology("", listed(f"[{i // 2},{(i + 1) // 2 % 2 * 1000}]" for i in range(n))), UNCROSSED, 0),
     ("positions on one line", MILLION // 10, lambda n: topology("", listed(f"[{i},{3 * i}]" for i in range(n))), UNCROSSED, 0),
     ("arcs of one ring that stays", MILLION // 10, lambda n: one_ring(n), "simplify --keep-shapes --min-area 1000000000000 file", 0),
+    ("rings along one arc", MILLION // 25, lambda n: rings_along(n), "simplify --keep-shapes --min-ring-area 1 file", 0),
+    ("roofs held by an arc that goes on", MILLION // 50, lambda n: held_roofs(n), "simplify --no-crossings --min-area 5000000 file", 0),
     ("lines from one position, counted", MILLION // 10, lambda n: topology("", star(n)), "stat --crossings file", 0),
     ("lines with a short end, counted", MILLION // 10, lambda n: topology("", spokes(n, lambda i: MILLION)), "stat --crossings file", 0),
     ("the same, long and short", MILLION // 25, lambda n: topology("", spokes(n, lambda i: 1000 + i * 7919 % MILLION)), "stat --crossings file", 0),
@@ -362,6 +364,22 @@ def one_ring(n):
     """A polygon of arcs that each begin and end at its first position."""
     object = '"a":{"type":"Polygon","arcs":[%s]}' % listed(map(str, range(n)))
     return topology(object, ",".join(f"[[0,0],[{i + 1},1],[{i + 1},2],[0,0]]" for i in range(n)))
+
+
+def rings_along(n):
+    """A polygon for each position of one arc, whose ring is that arc."""
+    arc = listed([f"[{i},{i * i % 7}]" for i in range(n)] + ["[0,0]"])
+    return topology('"a":{"type":"MultiPolygon","arcs":%s}' % listed(["[[0]]"] * n), arc)
+
+
+def held_roofs(n):
+    """Roofs over one base, which is a segment of an arc whose other positions go one after another, as each is held until the one before has gone."""
+    drop = [-MILLION - i * i / 1000 for i in range(n + 1)]
+    arc = listed(["[1000,0]", "[0,0]"] + [f"[{-i},{drop[i]:.6f}]" for i in range(1, n + 1)])
+    holders = [f"[[{-i},{drop[i] - 0.0003:.6f}],[{-i},{drop[i] - 0.0006:.6f}]]" for i in range(1, n + 1)]
+    shares = [(i + 1) / (n + 1) for i in range(n)]
+    roofs = [f"[[0,0],[{1000 * it:.6f},{4 * it * (1 - it):.9f}],[1000,0]]" for it in shares]
+    return topology("", ",".join([arc] + holders + roofs))
 
 
 def spokes(n, length):
@@ -477,6 +495,8 @@ NESTED = (
     ("lines of a topology, a faulty one first", 120, lambda d, n: nested_topology(nested(d, arc_lines(n, NO_ARC))), STAT, 1),
     ("lines of a layer", 60, lambda d, n: nested(d, layer_lines(n)), BUILD, 0),
     ("lines of a layer, types last", 60, lambda d, n: nested(d, layer_lines(n), *TYPE_LAST), BUILD, 0),
+    ("lines of a topology, types last, explained", 120, lambda d, n: nested_topology(nested(d, arc_lines(n), *TYPE_LAST)), SIMPLIFY + " --explain", 0),
+    ("lines of a layer, types last, explained", 60, lambda d, n: nested(d, layer_lines(n), *TYPE_LAST), BUILD + " --explain", 0),
     ("lines of a layer, a member last", 60, lambda d, n: nested(d, layer_lines(n), *MEMBER_LAST), BUILD, 0),
     ("lines of a layer, a faulty one first", 60, lambda d, n: nested(d, geometry("LineString", "[[0]]") + "," + layer_lines(n)), BUILD, 1),
 )
@@ -648,8 +668,8 @@ PARTS = (
     (try_depths, 80, 80),
     (try_outputs, 31, 31),
     (try_inputs, 14, 14),
-    (try_sizes, 348, 116),
-    (try_nested, 90, 90),
+    (try_sizes, 360, 120),
+    (try_nested, 108, 108),
     (try_chosen, 41, 34),
 )
 

@@ -2,7 +2,6 @@
 use Rattle.std.proofs.Common.{◌≡◌, true, ℤ, pos, inl, arith}
 use Rattle.guarded_meaning.proofs.Names.{and_from, Decides-int_eq, ints, cross, Point, is_between, is_on, in_triangle}
 use Rattle.guarded_meaning.proofs.Crosses.{cross_is}
-use Rattle.guarded_meaning.proofs.Step.{on_turned}
 use Rattle.guarded_meaning.proofs.Tests.{has_passes}
 
 between_last : (x y : ℤ) → is_between x y y ≡ true
@@ -14,6 +13,3 @@ on_last a c = and_from _ _ ((Decides-int_eq (cross a c c) (pos 0)).1 (omega (ari
 
 pub holds_after : (a p c : Point) → in_triangle a p c c ≡ true
 holds_after a p c = has_passes a p c c (inl (on_last a c))
-
-pub holds_before : (a p c : Point) → in_triangle a p c a ≡ true
-holds_before a p c = has_passes a p c a (inl (on_turned c a a (on_last c a)))

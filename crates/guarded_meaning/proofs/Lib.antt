@@ -1,25 +1,19 @@
 mod Rows
 pub mod Agendas
-pub mod Apart
 pub mod Box
 pub mod Counts
 pub mod Crosses
 pub mod Ends
 pub mod First
 pub mod Free
-pub mod Gaps
 pub mod Higher
 pub mod Interiors
 pub mod Kept
 pub mod Lists
-pub mod Masks
 pub mod Names
 pub mod Neighbours
 pub mod NoCrossings
-pub mod OneFirst
 pub mod Order
-pub mod Overlaps
-pub mod PartByPart
 pub mod Pasch
 pub mod Removal
 pub mod Rings

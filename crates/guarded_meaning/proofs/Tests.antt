@@ -1,13 +1,10 @@
 -- What the tests on positions decide, and what makes them pass.
-use Rattle.std.proofs.Common.{◌≡◌, ◌≢◌, Bool, true, false, not, ◌&&◌, ◌||◌, ℤ, pos, int_lt, int_le, ◌-ℤ◌, ◌*ℤ◌, ◌+ℤ◌, ◌<ℤ◌, ◌≤ℤ◌, ◌⊎◌, refl, ap, sym, ◌∙◌, arith}
+use Rattle.std.proofs.Common.{◌≡◌, ◌≢◌, Bool, true, false, not, ◌&&◌, ◌||◌, ℤ, pos, int_lt, ◌-ℤ◌, ◌*ℤ◌, ◌+ℤ◌, ◌<ℤ◌, ◌≤ℤ◌, ◌⊎◌, refl, ap, sym, ◌∙◌, arith}
 use Rattle.guarded_meaning.proofs.Names.{Decides-int_eq, ints, *ℤ_comm, zero-*ℤ, sub_times_sub, cross, Point, is_flat, is_between, is_on, none_right, none_left, in_triangle}
 use Rattle.guarded_meaning.proofs.Crosses.{turned, three_ways, three_ways_up, cross_is, cross_round}
 use Rattle.guarded_meaning.proofs.Signs.{on_sides}
 
 -- ---- numbers
-
-pub le_passes : (x y : ℤ) → (x ≤ℤ y) → int_le x y ≡ true
-le_passes x y h = sym (omega (arith, ints, h))
 
 pub lt_says : (x y : ℤ) → int_lt x y ≡ true → (x <ℤ y)
 lt_says x y h = omega (arith, ints, h)

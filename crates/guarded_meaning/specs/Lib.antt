@@ -6,7 +6,6 @@ pub mod Guards
 pub mod Laws
 pub mod Lists
 pub mod Origins
-pub mod Parts
 pub mod Segments
 pub mod Shares
 pub mod Triangles

@@ -1,6 +1,5 @@
 // Laws of the definitions. A function here does nothing: its contract is the law.
 ghost use Rattle.guarded_meaning.specs.Laws.{ArcsRise, BoxLaw, CountedByWeight, CrossingsNeverRise, EitherWay, FewerArcsLaw, HigherKeepsFewer, KeptByWeight, NoCrossingsLaw, NoneGoes, NoneStaysNone, RingsStay, ShareIsGreatest, ShareStays, SideLaw, StepLaw, ThinnedLaw, UnguardedIndexLaw, UnguardedLaw};
-ghost use Rattle.guarded_meaning.specs.Parts.{ApartEnough, GapsApart, GapsIndexLaw, GapsLaw, PartsLaw};
 
 /// What the segment in a corner's place meets badly, one of the two before it met badly.
 #[tactic(auto, using(crate::proofs::Step::step_law))]
@@ -114,34 +113,4 @@ pub fn share_is_greatest()
 #[tactic(auto, using(crate::proofs::Shares::share_stays))]
 pub fn share_stays()
     ensures { ShareStays }
-{}
-
-/// Where each part of the arcs stays apart from the others, it is reduced as if there were no others.
-#[tactic(auto, using(crate::proofs::PartByPart::parts_law))]
-pub fn parts_law()
-    ensures { PartsLaw }
-{}
-
-/// Where there are no more corners to go, any number of them keeps clear.
-#[tactic(auto, using(crate::proofs::Apart::apart_enough))]
-pub fn apart_enough()
-    ensures { ApartEnough }
-{}
-
-/// Where only some of the arcs have anything, what is left of these is what is left of them by themselves.
-#[tactic(auto, using(crate::proofs::Gaps::gaps_law))]
-pub fn gaps_law()
-    ensures { GapsLaw }
-{}
-
-/// So it is of the indexes that stay.
-#[tactic(auto, using(crate::proofs::Gaps::gaps_index_law))]
-pub fn gaps_index_law()
-    ensures { GapsIndexLaw }
-{}
-
-/// And these stay apart in their places, where they do by themselves.
-#[tactic(auto, using(crate::proofs::Gaps::gaps_apart))]
-pub fn gaps_apart()
-    ensures { GapsApart }
 {}

@@ -11,8 +11,8 @@ pub use agenda_laws::{
     none_ready, ready_law,
 };
 pub use laws::{
-    apart_enough, arcs_rise, box_law, counted_by_weight, crossings_never_rise, either_way,
-    fewer_arcs_law, gaps_apart, gaps_index_law, gaps_law, higher_keeps_fewer, kept_by_weight,
-    no_crossings_law, none_goes, none_stays_none, parts_law, rings_stay, share_is_greatest,
-    share_stays, side_law, step_law, thinned_law, unguarded_index_law, unguarded_law,
+    arcs_rise, box_law, counted_by_weight, crossings_never_rise, either_way, fewer_arcs_law,
+    higher_keeps_fewer, kept_by_weight, no_crossings_law, none_goes, none_stays_none, rings_stay,
+    share_is_greatest, share_stays, side_law, step_law, thinned_law, unguarded_index_law,
+    unguarded_law,
 };

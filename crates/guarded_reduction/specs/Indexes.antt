@@ -4,7 +4,7 @@ use Rattle.geometry.specs.Points.{Point}
 use Rattle.planar_predicates.specs.declared.extent.Extent.{Extent}
 use Rattle.guarded_reduction.specs.declared.box_tree.BoxTree.{BoxTree}
 use Rattle.planar_predicates.specs.Extents.{HoldsPoint}
-use Rattle.guarded_reduction.specs.Tests.{Test, is_listed}
+use Rattle.guarded_reduction.specs.Tests.{Test}
 use Rattle.guarded_reduction.specs.Trees.{extent_at, Under}
 
 abbrev pub origin : Point
@@ -27,10 +27,6 @@ pub record Meets (ps : List Point) (bs : List Bool) (test : Test) (z : ℕ) : Ty
 -- no place that is left meets the test
 pub record NoneMeets (ps : List Point) (bs : List Bool) (test : Test) : Type 0 where
   pub fails : (z : ℕ) → z < length ps → is_left_at bs z ≡ true → test z (point_at ps z) ≡ false
-
--- of the places on a list none that is left meets the test
-pub record NoneMeetsOf (ps : List Point) (bs : List Bool) (test : Test) (zs : List ℕ) : Type 0 where
-  pub fails : (z : ℕ) → is_listed zs z ≡ true → z < length ps → is_left_at bs z ≡ true → test z (point_at ps z) ≡ false
 
 -- ---- the index
 

@@ -1,4 +1,3 @@
-pub mod Beside
 pub mod Blocking
 pub mod Cells
 pub mod Entries
@@ -8,15 +7,12 @@ pub mod Keeping
 pub mod Laws
 pub mod Linking
 pub mod Moves
-pub mod Noted
 pub mod SideBySide
 pub mod Numbers
 pub mod Orders
-pub mod Parts
 pub mod Placed
 pub mod PlacedLists
 pub mod Queues
-pub mod Short
 pub mod Shown
 pub mod States
 pub mod Tests

@@ -1,5 +1,5 @@
 // What joins two positions, and what keeps a corner from going.
-ghost use Rattle.std.specs.Prelude.{◌≡◌, slice_index_or};
+ghost use Rattle.std.specs.Prelude.{◌≡◌};
 ghost use Rattle.guarded_reduction.specs.Blocking.{is_blocked_by, is_joined_at, joins_ends, leads_on};
 ghost use Rattle.guarded_reduction.specs.SideBySide.{afters_in, befores_in};
 
@@ -23,17 +23,6 @@ pub struct Joined<'a> {
     pub to: Position,
     pub place: usize,
     pub links: &'a Links<'a>,
-}
-
-/// The number at a place, or another where there is none.
-pub fn number_or(numbers: &[usize], place: usize, otherwise: usize) -> usize
-    ensures { result ≡ slice_index_or numbers.now place otherwise }
-{
-    if place < numbers.len() {
-        numbers[place]
-    } else {
-        otherwise
-    }
 }
 
 /// The place is another than the one that is given, and at the second position.

@@ -1,9 +1,8 @@
 // The index by cells.
-ghost use Rattle.std.specs.Prelude.{◌≡◌, ◌<◌, ◌^◌, length, false, true, IfOk};
+ghost use Rattle.std.specs.Prelude.{◌≡◌, ◌<◌, ◌^◌, length, IfOk};
 ghost use Rattle.std.specs.Option.{IfNone, IfSome};
 ghost use Rattle.guarded_reduction.specs.Shown.{all_left, without_place};
-ghost use Rattle.guarded_reduction.specs.Indexes.{Meets, NoneMeets, NoneMeetsOf, is_left_at};
-ghost use Rattle.guarded_reduction.specs.Tests.{unlisted};
+ghost use Rattle.guarded_reduction.specs.Indexes.{Meets, NoneMeets, is_left_at};
 
 use crate::cell_lists::{CellLists, cell_lists_of};
 use crate::index::PositionIndex;
@@ -77,20 +76,6 @@ impl CellIndex {
         ensures none { IfNone result (NoneMeets self.now.positions self.now.left (Q.test query.now)) }
     {
         self.cells.find(query)
-    }
-
-    /// Lists the places that are left and meet the test of the query. The answer is no where the list has no room for them.
-    pub fn note<Q: Query>(&self, query: &Q, places: &mut Vec<usize>) -> bool
-        ensures { result ≡ true → NoneMeets self.now.positions self.now.left (unlisted (Q.test query.now) places.new.items) }
-    {
-        self.cells.note(query, places)
-    }
-
-    /// One of these places is left and meets the test of the query, unless the answer is no.
-    pub fn has_met<Q: Query>(&self, places: &[usize], query: &Q) -> bool
-        ensures { result ≡ false → NoneMeetsOf self.now.positions self.now.left (Q.test query.now) places.now }
-    {
-        self.cells.has_met(places, query)
     }
 
     /// The same places in an index of boxes.

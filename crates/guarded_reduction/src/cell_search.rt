@@ -1,9 +1,9 @@
 // The search through the lists of cells.
-ghost use Rattle.std.specs.Prelude.{◌≡◌, ◌&&◌, ◌<◌, ◌≤◌, length, false, true};
+ghost use Rattle.std.specs.Prelude.{◌≡◌, ◌<◌, length};
 ghost use Rattle.std.specs.Option.{IfNone, IfSome};
 ghost use Rattle.guarded_reduction.specs.Cells.{AreCells, AreCellsOf, IsGrid, NoneMeetsInRow, NoneMeetsOn};
-ghost use Rattle.guarded_reduction.specs.Indexes.{Meets, NoneMeets, NoneMeetsOf, is_left_at, point_at};
-ghost use Rattle.guarded_reduction.specs.Tests.{IsLonger, Reaches, is_listed, unlisted};
+ghost use Rattle.guarded_reduction.specs.Indexes.{Meets, NoneMeets};
+ghost use Rattle.guarded_reduction.specs.Tests.{Reaches};
 
 use crate::cell_lists::{CellLists, Grid, cell_along, list_of};
 use crate::query::Query;
@@ -123,108 +123,6 @@ fn find_within<Q: Query>(
     None
 }
 
-/// Lists a place, if it is left and meets the test. The answer is no where the list has no room for it.
-#[tactic(auto, using(crate::proofs::Near::longer_by, crate::proofs::Near::now_listed))]
-fn note<Q: Query>(
-    cells: &CellLists,
-    place: usize,
-    within: &Extent,
-    query: &Q,
-    places: &mut Vec<usize>,
-) -> bool
-    requires present { length cells.now.present.items ≡ length cells.now.positions.items }
-    requires place { place < length cells.now.positions.items }
-    requires reach { Reaches within.now (Q.test query.now) }
-    ensures longer { IsLonger places.old.items places.new.items }
-    ensures listed { result ≡ true → (is_left_at cells.now.present.items place && unlisted (Q.test query.now) places.new.items place (point_at cells.now.positions.items place)) ≡ false }
-{
-    if !is_met_at(&cells.positions, &cells.present, place, within, query) {
-        return true;
-    }
-    if places.len() >= places.capacity() {
-        return false;
-    }
-    places.push_reserved(place);
-    true
-}
-
-/// Lists the places of one of the lists that are left and meet the test. The answer is no where there is no room for them.
-fn note_list<Q: Query>(
-    cells: &CellLists,
-    grid: &Grid,
-    list: usize,
-    within: &Extent,
-    query: &Q,
-    places: &mut Vec<usize>,
-) -> bool
-    requires present { length cells.now.present.items ≡ length cells.now.positions.items }
-    requires grid { IsGrid cells.now.positions.items grid.now }
-    requires list { list < length grid.now.firsts.items }
-    requires reach { Reaches within.now (Q.test query.now) }
-    ensures longer { IsLonger places.old.items places.new.items }
-    ensures listed { result ≡ true → NoneMeetsOn cells.now.positions.items cells.now.present.items grid.now (unlisted (Q.test query.now) places.new.items) list 0 }
-{
-    let mut number = grid.firsts[list];
-    'places: while number > 0 {
-        let place = number as usize - 1;
-        if !note(cells, place, within, query, places) {
-            return false;
-        }
-        number = grid.nexts[place];
-    }
-    true
-}
-
-/// The same of the cells of a row, from one column on until before another.
-fn note_row<Q: Query>(
-    cells: &CellLists,
-    grid: &Grid,
-    row: u64,
-    low: u64,
-    high: u64,
-    within: &Extent,
-    query: &Q,
-    places: &mut Vec<usize>,
-) -> bool
-    requires present { length cells.now.present.items ≡ length cells.now.positions.items }
-    requires grid { IsGrid cells.now.positions.items grid.now }
-    requires reach { Reaches within.now (Q.test query.now) }
-    ensures longer { IsLonger places.old.items places.new.items }
-    ensures listed { result ≡ true → NoneMeetsInRow cells.now.positions.items cells.now.present.items grid.now (unlisted (Q.test query.now) places.new.items) row low high }
-{
-    'columns: for column in low..high {
-        let list = list_of(column, row, grid.mask);
-        if !note_list(cells, grid, list, within, query, places) {
-            return false;
-        }
-    }
-    true
-}
-
-/// The same of all places, where those that meet the test lie in this box.
-fn note_within<Q: Query>(
-    cells: &CellLists,
-    grid: &Grid,
-    within: &Extent,
-    query: &Q,
-    places: &mut Vec<usize>,
-) -> bool
-    requires present { length cells.now.present.items ≡ length cells.now.positions.items }
-    requires grid { IsGrid cells.now.positions.items grid.now }
-    requires reach { Reaches within.now (Q.test query.now) }
-    ensures { result ≡ true → NoneMeets cells.now.positions.items cells.now.present.items (unlisted (Q.test query.now) places.new.items) }
-{
-    let range = cells_of(grid, within);
-    'rows: for row in range.low_row..range.high_row {
-        if !note_row(
-            cells, grid, row, range.low, range.high, within, query, places,
-        ) {
-            return false;
-        }
-    }
-    true
-}
-
 /// How many places a list has, or more than so many.
 #[tactic(auto, using(crate::proofs::Cells::first_is_on, crate::proofs::Cells::next_is_on))]
 fn count_on_list(positions: &[Position], grid: &Grid, list: usize, most: usize) -> usize
@@ -281,16 +179,6 @@ fn are_few_within(positions: &[Position], grid: &Grid, within: &Extent, most: us
     true
 }
 
-/// There is such a place, and it is left and meets the test.
-fn is_met_in<Q: Query>(cells: &CellLists, place: usize, within: &Extent, query: &Q) -> bool
-    requires present { length cells.now.present.items ≡ length cells.now.positions.items }
-    requires reach { Reaches within.now (Q.test query.now) }
-    ensures { result ≡ false → place < length cells.now.positions.items → is_left_at cells.now.present.items place ≡ true → Q.test query.now place (point_at cells.now.positions.items place) ≡ false }
-{
-    place < cells.positions.len()
-        && is_met_at(&cells.positions, &cells.present, place, within, query)
-}
-
 impl CellLists {
     /// The lists by which a box is looked through: those by small cells, if it meets few of them.
     fn grid_for(&self, within: &Extent) -> &Grid
@@ -312,29 +200,6 @@ impl CellLists {
     {
         let within = query.reach();
         find_within(self, self.grid_for(&within), &within, query)
-    }
-
-    /// Lists the places that are left and meet the test. The answer is no where the list has no room for them.
-    pub fn note<Q: Query>(&self, query: &Q, places: &mut Vec<usize>) -> bool
-        requires { AreCells self.now }
-        ensures { result ≡ true → NoneMeets self.now.positions.items self.now.present.items (unlisted (Q.test query.now) places.new.items) }
-    {
-        let within = query.reach();
-        note_within(self, self.grid_for(&within), &within, query, places)
-    }
-
-    /// One of these places is left and meets the test, unless the answer is no.
-    pub fn has_met<Q: Query>(&self, places: &[usize], query: &Q) -> bool
-        requires { AreCells self.now }
-        ensures { result ≡ false → NoneMeetsOf self.now.positions.items self.now.present.items (Q.test query.now) places.now }
-    {
-        let within = query.reach();
-        'places: for k in 0..places.len() {
-            if is_met_in(self, places[k], &within, query) {
-                return true;
-            }
-        }
-        false
     }
 
     /// A box is looked through in no more than so many cells, whose lists have no more than so many places.

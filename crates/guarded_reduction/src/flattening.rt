@@ -1,7 +1,6 @@
 // The positions of arcs, one arc after another, and the neighbours of each.
-ghost use Rattle.std.specs.Prelude.{◌≡◌, ◌+◌, ◌++◌, ◌-◌, ◌<◌, ◌≤◌, ◌^◌, IfOk, OnOk, length};
+ghost use Rattle.std.specs.Prelude.{◌≡◌, ◌++◌, ◌<◌, ◌^◌, IfOk, OnOk, length};
 ghost use Rattle.geometry.specs.Lists.{joined};
-ghost use Rattle.guarded_reduction.specs.Beside.{partner_index};
 ghost use Rattle.guarded_reduction.specs.First.{after_index, arc_links, before_index, links_of};
 
 use geometry::Position;
@@ -70,43 +69,6 @@ pub fn afters_of(alloc: Global, arcs: &[Items<Position>]) -> Result<Vec<usize>, 
     let mut all = Vec::new(alloc);
     'arcs: for arc in arcs {
         put_afters(&mut all, arc.len())?;
-    }
-    Ok(all)
-}
-
-/// Of the place of this index in an arc of n places the other end, where it is an end, else the place itself.
-fn other_end(place: usize, i: usize, n: usize) -> Result<usize, Memory>
-    requires index { i < n }
-    requires place { i ≤ place }
-    ensures { IfOk result (λ p. p ≡ (place - i) + partner_index n i) }
-{
-    if i == 0 {
-        return place.checked_add(n - 1).ok_or(Memory);
-    }
-    Ok(if n - i == 1 { place - i } else { place })
-}
-
-/// Puts the partner of each of an arc's places after the others.
-#[tactic(auto, using(crate::proofs::Flattened::one_more_link, crate::proofs::Flattened::so_many))]
-fn put_partners(partners: &mut Vec<usize>, n: usize) -> Result<(), Memory>
-    ensures { OnOk result (partners.new.items ≡ partners.old.items ++ arc_links partner_index (length partners.old.items) n) }
-{
-    for i in 0..n {
-        let place = partners.len();
-        let partner = other_end(place, i, n)?;
-        partners.push(partner)?;
-    }
-    Ok(())
-}
-
-/// Of each place that is an end of its arc the place of the other end, of each other the place itself.
-#[tactic(auto, using(crate::proofs::Flattened::all_linked, crate::proofs::Flattened::links_more))]
-pub fn partners_of(alloc: Global, arcs: &[Items<Position>]) -> Result<Vec<usize>, Memory>
-    ensures { IfOk result (λ all. all.items ≡ links_of partner_index 0 arcs.now) }
-{
-    let mut all = Vec::new(alloc);
-    'arcs: for arc in arcs {
-        put_partners(&mut all, arc.len())?;
     }
     Ok(all)
 }

@@ -10,14 +10,9 @@
 //! for all (`planar_predicates/src/halving.rt`), and one path of a tree of boxes is gone up for each place that goes. `holding` asks it from the side of the
 //! corner where fewer places lie. `free_law` and `blocked_law` tie it to the guard. Rings are asked by how often their arcs move on from a position
 //! to another (`src/kept_rings.rt`). Each look is a search of the index and a step of the queue; how many there are, and how many cells or boxes each goes
-//! through, is not promised. Where no crossing may be made and no ring has to stay, the arcs are reduced in parts (`src/parts.rt`), each by
-//! itself: first each arc, then those together whose corners meet each other (`src/joins.rt`), until no part meets another. `OtherArcs` is shown each
-//! corner that goes, and notes which arcs of other parts it meets; `WholeArcs` has the cells of all places, of which none goes, for that. Of a short
-//! arc all corners are looked at for each that goes, without an index or a queue (`src/short_arc.rt`); where many are under the threshold, the places of
-//! other arcs in its box are listed once, and each of its corners is looked at beside these alone.
+//! through, is not promised.
 #![tactic(auto)]
 
-mod beside;
 mod blocking;
 mod box_tree;
 mod cell_index;
@@ -29,19 +24,12 @@ mod entry;
 mod flattening;
 mod holding;
 mod index;
-mod joins;
 mod kept_rings;
 mod laws;
 mod linked_places;
 mod looking;
-mod meetings;
-mod members;
 mod neighbours;
-mod noted_areas;
 mod ordering;
-mod other_arcs;
-mod part;
-mod parts;
 mod pushing;
 mod query;
 mod reducing;
@@ -49,12 +37,9 @@ mod refitting;
 mod ring_moves;
 mod rounds;
 mod searching;
-mod short_arc;
 mod shown_places;
-mod surroundings;
 mod waiting_lists;
 mod weighing;
-mod whole_arcs;
 
 pub use blocking::{Blocked, Joined, Links};
 pub use index::PositionIndex;

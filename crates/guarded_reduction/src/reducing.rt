@@ -1,35 +1,30 @@
 // The reduction.
-ghost use Rattle.std.specs.Prelude.{◌≡◌, ◌+◌, ◌≤◌, [], IfOk, OnOk, true, length, map};
+ghost use Rattle.std.specs.Prelude.{◌≡◌, ◌+◌, ◌≤◌, IfOk, OnOk, true, length, map};
 ghost use Rattle.std.specs.List.{AllByRecursion};
-ghost use Rattle.elimination_meaning.specs.Elimination.{numbered};
 ghost use Rattle.geometry.specs.Joins.{AreInRange, Meet, arc_at};
 ghost use Rattle.geometry.specs.Lists.{joined};
 ghost use Rattle.guarded_meaning.specs.Elimination.{reduce_arcs, remaining_arcs};
 ghost use Rattle.guarded_meaning.specs.Guards.{guarded_by, is_long};
-ghost use Rattle.guarded_meaning.specs.Parts.{StaysApart, unmarked};
 ghost use Rattle.guarded_reduction.specs.First.{first_linked};
 ghost use Rattle.guarded_reduction.specs.Numbers.{all_kept_indexes, kept_indexes, left_arcs};
 
 use crate::corner_queue::CornerQueue;
 use crate::kept_rings::KeptRings;
 use crate::linked_places::LinkedPlaces;
-use crate::parts::reduce_by_parts;
 use crate::pushing::take_out;
 use crate::rounds::{begin_round, next_in_rounds, next_threshold};
-use crate::surroundings::{Nothing, Surroundings};
 use crate::waiting_lists::WaitingLists;
 use geometry::{ArcRef, Position};
 use owned_values::{Items, Memory};
 use std::alloc::Global;
 
-/// The places go that are reduced at a threshold. What lies beside the arcs is shown the corners that go.
-fn reduce_places<S: Surroundings>(
+/// The places go that are reduced at a threshold.
+fn reduce_places(
     alloc: Global,
     arcs: &[Items<Position>],
     rings: &[Items<ArcRef>],
     threshold: u128,
     places: &mut LinkedPlaces,
-    beside: &mut S,
 ) -> Result<(), Memory>
     requires in_range { AllByRecursion (AreInRange (length arcs.now)) rings.now }
     requires meet { AllByRecursion (λ refs. Meet (map (arc_at arcs.now) refs)) rings.now }
@@ -37,10 +32,6 @@ fn reduce_places<S: Surroundings>(
     requires first { places.old ≡ first_linked places.old.no_crossings arcs.now }
     ensures positions { OnOk result (length places.new.positions ≡ length (joined arcs.now)) }
     ensures left { OnOk result (left_arcs arcs.now places.new.left ≡ remaining_arcs (guarded_by places.old.no_crossings rings.now) threshold arcs.now) }
-    ensures whole { S.whole beside.new ≡ S.whole beside.old }
-    ensures marks { S.marks beside.new ≡ S.marks beside.old }
-    ensures apart { OnOk result (S.are_clear beside.new ≡ true → places.old.no_crossings ≡ true → rings.now ≡ []
-        → StaysApart (unmarked (S.marks beside.old) (S.whole beside.old)) threshold (length (joined arcs.now)) (map (numbered 0) arcs.now)) }
 {
     let mut kept = KeptRings::of(alloc, arcs, rings)?;
     let n = places.len();
@@ -62,34 +53,27 @@ fn reduce_places<S: Surroundings>(
         let Some(entry) = next else {
             return Ok(());
         };
-        let stretch = entry.after.wrapping_sub(entry.before);
-        beside.show(&places.corner(entry.place), stretch)?;
         take_out(&mut queue, places, &waiting, round, entry)?;
     }
     Ok(())
 }
 
-/// The places that stay. What lies beside the arcs is shown the corners that go.
-fn reduced_places<S: Surroundings>(
+/// The places that stay.
+fn reduced_places(
     alloc: Global,
     arcs: &[Items<Position>],
     no_crossings: bool,
     rings: &[Items<ArcRef>],
     threshold: u128,
-    beside: &mut S,
 ) -> Result<LinkedPlaces, Memory>
     requires in_range { AllByRecursion (AreInRange (length arcs.now)) rings.now }
     requires meet { AllByRecursion (λ refs. Meet (map (arc_at arcs.now) refs)) rings.now }
     requires long { AllByRecursion (λ refs. is_long arcs.now refs ≡ true) rings.now }
     ensures positions { IfOk result (λ s. length s.positions ≡ length (joined arcs.now)) }
     ensures left { IfOk result (λ s. left_arcs arcs.now s.left ≡ remaining_arcs (guarded_by no_crossings rings.now) threshold arcs.now) }
-    ensures whole { S.whole beside.new ≡ S.whole beside.old }
-    ensures marks { S.marks beside.new ≡ S.marks beside.old }
-    ensures apart { IfOk result (λ _. S.are_clear beside.new ≡ true → no_crossings ≡ true → rings.now ≡ []
-        → StaysApart (unmarked (S.marks beside.old) (S.whole beside.old)) threshold (length (joined arcs.now)) (map (numbered 0) arcs.now)) }
 {
     let mut places = LinkedPlaces::of(alloc, arcs, no_crossings)?;
-    reduce_places(alloc, arcs, rings, threshold, &mut places, beside)?;
+    reduce_places(alloc, arcs, rings, threshold, &mut places)?;
     Ok(places)
 }
 
@@ -135,28 +119,6 @@ fn all_kept(
     Ok(all)
 }
 
-/// Of each arc the numbers of the positions that stay. What lies beside the arcs is shown the corners that go.
-pub fn reduce_beside<S: Surroundings>(
-    alloc: Global,
-    arcs: &[Items<Position>],
-    no_crossings: bool,
-    rings: &[Items<ArcRef>],
-    threshold: u128,
-    beside: &mut S,
-) -> Result<Vec<Vec<usize>>, Memory>
-    requires in_range { AllByRecursion (AreInRange (length arcs.now)) rings.now }
-    requires meet { AllByRecursion (λ refs. Meet (map (arc_at arcs.now) refs)) rings.now }
-    requires long { AllByRecursion (λ refs. is_long arcs.now refs ≡ true) rings.now }
-    ensures kept { IfOk result (λ kept. map (λ k. k.items) kept.items ≡ reduce_arcs (guarded_by no_crossings rings.now) threshold arcs.now) }
-    ensures whole { S.whole beside.new ≡ S.whole beside.old }
-    ensures marks { S.marks beside.new ≡ S.marks beside.old }
-    ensures apart { IfOk result (λ _. S.are_clear beside.new ≡ true → no_crossings ≡ true → rings.now ≡ []
-        → StaysApart (unmarked (S.marks beside.old) (S.whole beside.old)) threshold (length (joined arcs.now)) (map (numbered 0) arcs.now)) }
-{
-    let places = reduced_places(alloc, arcs, no_crossings, rings, threshold, beside)?;
-    all_kept(alloc, &places, arcs)
-}
-
 /// Of each arc the numbers of the positions that stay, where all arcs are reduced at once, no corner goes that would make a crossing, where crossings
 /// are to be avoided, and none that would leave one of these rings fewer than four positions, with equal neighbours as one. The rings are given
 /// by their arc indexes; they have four positions or more before. Corners go while they are under the threshold: twice the area of the triangle.
@@ -172,10 +134,6 @@ pub fn reduce_guarded(
     requires long { AllByRecursion (λ refs. is_long arcs.now refs ≡ true) rings.now }
     ensures { IfOk result (λ kept. map (λ k. k.items) kept.items ≡ reduce_arcs (guarded_by no_crossings rings.now) threshold arcs.now) }
 {
-    if no_crossings && rings.is_empty() {
-        if let Some(kept) = reduce_by_parts(alloc, arcs, threshold)? {
-            return Ok(kept);
-        }
-    }
-    reduce_beside(alloc, arcs, no_crossings, rings, threshold, &mut Nothing)
+    let places = reduced_places(alloc, arcs, no_crossings, rings, threshold)?;
+    all_kept(alloc, &places, arcs)
 }

@@ -1,42 +1,37 @@
-use Rattle.std.proofs.Common.{◌≡◌, ◌+◌, ◌-◌, suc, ap, sym, subst, ◌∙◌, refl, arith}
+use Rattle.std.proofs.Common.{◌≡◌, ◌+◌, ◌-◌, suc, ap, sym, subst, ◌∙◌, arith}
 use Rattle.guarded_meaning.specs.Elimination.{eliminate_arcs, remaining_arcs}
 use Rattle.guarded_meaning.specs.Guards.{guarded_by}
-use Rattle.guarded_meaning.specs.Parts.{unmarked}
 use Rattle.guarded_reduction.specs.Keeping.{IsKeeping}
 use Rattle.guarded_reduction.specs.Linking.{IsShowing, Linked, unlinked}
 use Rattle.guarded_reduction.specs.Numbers.{left_arcs}
 use Rattle.guarded_reduction.proofs.Keeping.{IsGoing, first_keeping, fixed_still, going, owners_at}
 use Rattle.guarded_reduction.proofs.Next.{goes_next, no_step, none_next, one_step, showing_next}
-use Rattle.guarded_reduction.proofs.Parting.{GoesOnApart, KeepsClear, begins_apart, clear_same, more_apart, none_apart, one_apart, same_guard}
 use Rattle.guarded_reduction.proofs.Showing.{chained}
 use Rattle.guarded_reduction.proofs.Starts.{begins, first_showing}
 use Rattle.guarded_reduction.proofs.reducing.reduce_places.Goals as goal
 
 pub corners-init : goal.corners-init
-corners-init g c = record {
+corners-init c = record {
   queued = c.in_ok-begin_round.ensures.queued;
   round = c.next_threshold-round.ensures.within;
   showing = subst (IsShowing c.args.arcs.now) (sym c.requires.first) (first_showing c.args.places.now.no_crossings c.args.arcs.now);
   flag = ap (λ (s : Linked). s.no_crossings) c.requires.first;
   keeping = first_keeping c.args.places.now.no_crossings c.args.arcs.now c.args.rings.now c.args.places.now c.in_ok-kept.kept c.requires.first c.in_ok-kept.ensures.rings c.in_ok-kept.ensures.counted c.requires.meet;
   rest = begins (guarded_by c.args.places.now.no_crossings c.args.rings.now) c.args.threshold c.args.places.now.no_crossings c.args.arcs.now c.args.places.now c.len-n.result c.requires.first c.len-n.ensures;
-  whole = refl;
-  marks = refl;
-  apart = λ clear asked none. begins_apart (unmarked (g.S.Surroundings.marks c.args.beside.now) (g.S.Surroundings.whole c.args.beside.now)) c.args.threshold c.args.places.now.no_crossings c.args.arcs.now c.args.places.now c.len-n.result c.requires.first c.len-n.ensures;
 }
 
 pub next_in_rounds-requires-clause-chained : goal.next_in_rounds-requires-clause-chained
-next_in_rounds-requires-clause-chained g c = chained c.args.arcs.now c.corners.places c.corners.invariant.showing
+next_in_rounds-requires-clause-chained c = chained c.args.arcs.now c.corners.places c.corners.invariant.showing
 
 pub next_in_rounds-requires-clause-owners : goal.next_in_rounds-requires-clause-owners
-next_in_rounds-requires-clause-owners g c = owners_at c.args.arcs.now c.args.rings.now c.corners.places c.corners.kept c.corners.invariant.showing c.corners.invariant.keeping
+next_in_rounds-requires-clause-owners c = owners_at c.args.arcs.now c.args.rings.now c.corners.places c.corners.kept c.corners.invariant.showing c.corners.invariant.keeping
 
 pub take_out-requires-clause-chained : goal.take_out-requires-clause-chained
-take_out-requires-clause-chained g c = chained c.args.arcs.now c.next_in_rounds.new.places
+take_out-requires-clause-chained c = chained c.args.arcs.now c.next_in_rounds.new.places
     (fixed_still c.args.arcs.now c.args.rings.now c.corners.places c.corners.invariant.showing c.corners.kept c.corners.invariant.keeping c.next_in_rounds.new.places c.in_ok-next.ensures.fixing).showing
 
 pub corners-preserved : goal.corners-preserved
-corners-preserved g c =
+corners-preserved c =
     let arcs = c.args.arcs.now in
     let rings = c.args.rings.now in
     let b = c.args.places.now.no_crossings in
@@ -58,22 +53,10 @@ corners-preserved g c =
           (left_arcs arcs (unlinked c.in-Some.entry.place s).left) (remaining_arcs (guarded_by b rings) c.args.threshold arcs) steps
           (goes_next b rings arcs c.next_in_rounds.new.round s f.showing (f.flag ∙ c.corners.invariant.flag) f.keeping.fixed c.next_in_rounds.new.queue c.next_in_rounds.new.waiting c.in-Some.entry n on.stay c.args.threshold c.in_ok-next.ensures.round c.law.ensures)
           (ap (λ bs. eliminate_arcs (guarded_by b rings) (c.len-n.result - c.corners._step) c.args.threshold (left_arcs arcs bs)) f.left ∙ c.corners.invariant.rest);
-      whole = c.show.ensures.whole ∙ c.corners.invariant.whole;
-      marks = c.show.ensures.marks ∙ c.corners.invariant.marks;
-      apart = λ clear asked none.
-          let marks = g.S.Surroundings.marks c.args.beside.now in
-          let whole = g.S.Surroundings.whole c.args.beside.now in
-          let others = unmarked marks whole in
-          let keeps = clear_same marks (g.S.Surroundings.marks c.corners.beside) whole (g.S.Surroundings.whole c.corners.beside) c.corner.result c.corners.invariant.marks c.corners.invariant.whole (c.show.ensures.clear clear) in
-          subst (λ (x : Linked). GoesOnApart others c.args.threshold (c.len-n.result - (c.corners._step + 1)) arcs (left_arcs arcs x.left)) (sym c.in_ok-take_out.ensures.places)
-          (more_apart others c.args.threshold (c.len-n.result - c.corners._step) (c.len-n.result - (c.corners._step + 1)) arcs (left_arcs arcs s.left) (left_arcs arcs (unlinked c.in-Some.entry.place s).left) steps
-          (one_apart b rings arcs c.next_in_rounds.new.round s f.showing (f.flag ∙ c.corners.invariant.flag) f.keeping.fixed c.next_in_rounds.new.queue c.next_in_rounds.new.waiting c.in-Some.entry n on.stay c.law.ensures c.args.threshold c.in_ok-next.ensures.round
-          asked none others (c.len-n.result - (c.corners._step + 1)) (subst (KeepsClear others) c.corner.ensures keeps))
-          (subst (λ bs. GoesOnApart others c.args.threshold (c.len-n.result - c.corners._step) arcs (left_arcs arcs bs)) (sym f.left) (c.corners.invariant.apart (c.show.ensures.before clear) asked none)));
     }
 
 pub returns-in_default-clause-left : goal.returns-in_default-clause-left
-returns-in_default-clause-left g c =
+returns-in_default-clause-left c =
     let arcs = c.args.arcs.now in
     let rings = c.args.rings.now in
     let b = c.args.places.now.no_crossings in
@@ -83,16 +66,3 @@ returns-in_default-clause-left g c =
     no_step (guarded_by b rings) (c.len-n.result - c.corners._step) c.args.threshold (left_arcs arcs s.left) (remaining_arcs (guarded_by b rings) c.args.threshold arcs)
     (none_next b rings arcs c.args.threshold s f.showing (f.flag ∙ c.corners.invariant.flag) f.keeping.fixed c.next_in_rounds.new.waiting n)
     (ap (λ bs. eliminate_arcs (guarded_by b rings) (c.len-n.result - c.corners._step) c.args.threshold (left_arcs arcs bs)) f.left ∙ c.corners.invariant.rest)
-
-pub returns-in_default-clause-apart : goal.returns-in_default-clause-apart
-returns-in_default-clause-apart g c = λ clear asked none.
-    let arcs = c.args.arcs.now in
-    let rings = c.args.rings.now in
-    let b = c.args.places.now.no_crossings in
-    let s = c.next_in_rounds.new.places in
-    let others = unmarked (g.S.Surroundings.marks c.args.beside.now) (g.S.Surroundings.whole c.args.beside.now) in
-    let n = rw c.in_default.is at c.in_ok-next.ensures.none in
-    let f = fixed_still arcs rings c.corners.places c.corners.invariant.showing c.corners.kept c.corners.invariant.keeping s c.in_ok-next.ensures.fixing in
-    subst (λ bs. GoesOnApart others c.args.threshold (c.len-n.result - c.corners._step) arcs (left_arcs arcs bs)) (sym f.left) (c.corners.invariant.apart clear asked none)
-    (none_apart others c.args.threshold (c.len-n.result - c.corners._step) (left_arcs arcs s.left)
-    (same_guard b rings c.args.threshold (left_arcs arcs s.left) asked none (none_next b rings arcs c.args.threshold s f.showing (f.flag ∙ c.corners.invariant.flag) f.keeping.fixed c.next_in_rounds.new.waiting n)))

@@ -2,9 +2,9 @@ use Rattle.std.proofs.Common.{ap, map, ◌∙◌}
 use Rattle.std.proofs.lemmas.Result.{IfOk-weaker}
 use Rattle.guarded_meaning.specs.Elimination.{reduce_arcs}
 use Rattle.guarded_reduction.proofs.KeptIndexes.{left_indexes}
-use Rattle.guarded_reduction.proofs.reducing.reduce_beside.Goals as goal
+use Rattle.guarded_reduction.proofs.reducing.reduce_guarded.Goals as goal
 
-pub returns-clause-kept : goal.returns-clause-kept
+pub returns : goal.returns
 unfolding reduce_arcs
-returns-clause-kept g c =
+returns c =
     IfOk-weaker c.all_kept.result _ _ (λ kept h. h ∙ left_indexes c.in_ok-places.places.left c.args.arcs.now ∙ ap (map (map (λ v. v.index))) c.in_ok-places.ensures.left) c.all_kept.ensures

@@ -1,5 +1,4 @@
 mod Rows
-pub mod Agendas
 pub mod Box
 pub mod Counts
 pub mod Crosses
@@ -7,6 +6,7 @@ pub mod Ends
 pub mod First
 pub mod Free
 pub mod Higher
+pub mod Holders
 pub mod Interiors
 pub mod Kept
 pub mod Lists

@@ -1,5 +1,5 @@
 -- The names that several proofs of this crate cite, passed on from one place.
-pub use Rattle.std.proofs.lemmas.Bool.{false_from_ne_true, and_parts, or_cases, or_parts, not-true, or_right, both_ways, and_from, and_left, and_right, cases_lt, ltb-true, lt-ltb, le-ltb, or_from, ne_eqb, or_left, and_cases, cases_Bool, not-false, not_from_true, not_from_false, true≢false, le-leb, leb-true}
+pub use Rattle.std.proofs.lemmas.Bool.{false_from_ne_true, and_parts, or_cases, or_parts, not-true, or_right, both_ways, and_from, and_left, and_right, cases_lt, ltb-true, lt-ltb, le-ltb, or_from, ne_eqb, or_left, and_cases, not-false, not_from_true, not_from_false, true≢false, le-leb, leb-true}
 pub use Rattle.std.proofs.lemmas.Bool.Decides.{nat_tests, Decides-int_eq}
 pub use Rattle.std.proofs.lemmas.Int.{ints}
 pub use Rattle.std.proofs.lemmas.List.{map-append, length-append, length-map}
@@ -28,7 +28,7 @@ pub use Rattle.elimination_meaning.specs.Elimination.{Vertex, numbered, without,
 unfoldable pub use Rattle.elimination_meaning.specs.Elimination.{is_before, reduced, reduce}
 pub use Rattle.elimination_meaning.specs.Sublists.{Sublist, none, keep, skip}
 pub use Rattle.elimination_meaning.specs.Weights.{is_kept_at}
-pub use Rattle.guarded_meaning.specs.AgendaLaws.{NextLaw, NoNextLaw, FreeOrHeld, HeldIsNotFree, HolderStays, NeverAgain, CoverLaw, ReadyLaw, NoneReady}
+pub use Rattle.guarded_meaning.specs.NextLaws.{NextLaw, NoNextLaw, FreeOrHeld, HeldIsNotFree, HolderStays, NeverAgain}
 pub use Rattle.guarded_meaning.specs.Arcs.{ArcCorner, all_corners, without_at, left_by, points_of, HasOwnIndexes, arc_corner_at, arc_corners_from, arc_corners, Place, place_at, places, is_place_of, Neighbours, segment_of, all_neighbours, is_pair_of, neighbours_at, neighbours_from, neighbours, arc_segments, segments, crossings}
 pub use Rattle.guarded_meaning.specs.Elimination.{earlier, first_corner, Guard, arc_corner_cmp, goes, next_corner, next_arcs, eliminate_arcs, remaining_arcs}
 unfoldable pub use Rattle.guarded_meaning.specs.Elimination.{goes_before, reduced_arcs, reduce_arcs}

@@ -1,10 +1,10 @@
-pub mod AgendaLaws
-pub mod Agendas
 pub mod Arcs
 pub mod Elimination
 pub mod Guards
+pub mod Holders
 pub mod Laws
 pub mod Lists
+pub mod NextLaws
 pub mod Origins
 pub mod Segments
 pub mod Shares

@@ -5,12 +5,12 @@ use Rattle.std.proofs.lemmas.Bool.Decides.{nat_tests}
 use Rattle.geometry.specs.Points.{Point}
 use Rattle.geometry.specs.Rings.{same}
 use Rattle.elimination_meaning.specs.Elimination.{Vertex}
-use Rattle.guarded_meaning.specs.Agendas.{Holder, Inside, Across, IsLeft, Holds}
+use Rattle.guarded_meaning.specs.Holders.{Holder, Inside, Across, IsLeft, Holds}
 use Rattle.guarded_meaning.specs.Arcs.{ArcCorner}
 use Rattle.guarded_meaning.specs.Guards.{is_free}
 use Rattle.guarded_meaning.specs.Segments.{segment, same_ends}
 use Rattle.guarded_meaning.specs.Triangles.{is_clear}
-use Rattle.guarded_meaning.proofs.Agendas.{free_or_held}
+use Rattle.guarded_meaning.proofs.Holders.{free_or_held}
 use Rattle.guarded_reduction.specs.declared.query.Corner.{Corner}
 use Rattle.guarded_reduction.specs.Indexes.{NoneMeets, point_at}
 use Rattle.guarded_reduction.specs.Blocking.{is_blocked_by, is_joined_at, joins_ends, leads_on}

@@ -12,7 +12,7 @@ use Rattle.geometry.specs.Points.{Point}
 use Rattle.guarded_meaning.specs.Arcs.{ArcCorner, all_corners, arc_corners, HasOwnIndexes, left_by, points_of, without_at}
 use Rattle.guarded_meaning.specs.Guards.{is_long, keeps_rings, uses}
 use Rattle.guarded_meaning.specs.Lists.{EachTo, HasEndsOf, IsThinned, last_after}
-use Rattle.guarded_meaning.proofs.Agendas.{never_again}
+use Rattle.guarded_meaning.proofs.Holders.{never_again}
 use Rattle.guarded_meaning.proofs.Kept.{points_numbered}
 use Rattle.guarded_meaning.proofs.Removal.{IsTaken, all_taken, in_next_arc, later_arcs}
 use Rattle.guarded_meaning.proofs.Thinned.{IsSound, each_map, each_same, sound_step}

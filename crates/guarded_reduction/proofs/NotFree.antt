@@ -7,12 +7,12 @@ use Rattle.geometry.specs.Points.{Point}
 use Rattle.geometry.specs.Rings.{same}
 use Rattle.geometry.proofs.Points.{same_is}
 use Rattle.elimination_meaning.specs.Elimination.{Vertex}
-use Rattle.guarded_meaning.specs.Agendas.{Inside, Across}
+use Rattle.guarded_meaning.specs.Holders.{Inside, Across}
 use Rattle.guarded_meaning.specs.Arcs.{ArcCorner, Place, Neighbours, is_place_of, is_pair_of}
 use Rattle.guarded_meaning.specs.Guards.{is_free}
 use Rattle.guarded_meaning.specs.Segments.{segment, same_ends}
 use Rattle.guarded_meaning.specs.Triangles.{is_clear}
-use Rattle.guarded_meaning.proofs.Agendas.{held_is_not_free}
+use Rattle.guarded_meaning.proofs.Holders.{held_is_not_free}
 use Rattle.guarded_reduction.specs.declared.query.Corner.{Corner}
 use Rattle.guarded_reduction.specs.Indexes.{point_at}
 use Rattle.guarded_reduction.specs.Blocking.{is_joined_at, joins_ends, leads_on}

@@ -11,7 +11,7 @@ use Rattle.elimination_meaning.specs.Elimination.{Vertex, numbered}
 use Rattle.elimination_meaning.proofs.Sublists.{sub_filter, sub_map, sub_apart}
 use Rattle.guarded_meaning.specs.Arcs.{ArcCorner, arc_corner_at, all_corners, Place, place_at, places, is_place_of, Neighbours, neighbours_at, all_neighbours, is_pair_of, HasOwnIndexes}
 use Rattle.guarded_meaning.specs.Weights.{passing}
-use Rattle.guarded_meaning.proofs.Agendas.{places_passing}
+use Rattle.guarded_meaning.proofs.Holders.{places_passing}
 use Rattle.guarded_meaning.proofs.Lists.{passed_says}
 use Rattle.guarded_meaning.proofs.Neighbours.{AreParted, all_parted, AreAmong, all_among, Rises, all_ascend}
 use Rattle.guarded_meaning.proofs.Removal.{all_numbered_own}

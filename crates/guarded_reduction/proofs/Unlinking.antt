@@ -6,9 +6,9 @@ use Rattle.owned_values.proofs.Members.{in_append, in_left, in_right}
 use Rattle.geometry.specs.Lists.{In}
 use Rattle.geometry.specs.Points.{Point}
 use Rattle.elimination_meaning.specs.Elimination.{Vertex, numbered}
-use Rattle.guarded_meaning.specs.Agendas.{Across, Inside}
+use Rattle.guarded_meaning.specs.Holders.{Across, Inside}
 use Rattle.guarded_meaning.specs.Arcs.{ArcCorner, all_corners, Place, places, is_place_of, Neighbours, neighbours_at, all_neighbours, is_pair_of, left_by}
-use Rattle.guarded_meaning.proofs.Agendas.{holder_stays, places_passing}
+use Rattle.guarded_meaning.proofs.Holders.{holder_stays, places_passing}
 use Rattle.guarded_meaning.proofs.Lists.{passed_says}
 use Rattle.guarded_meaning.proofs.Neighbours.{AreParted, all_parted}
 use Rattle.guarded_meaning.proofs.Weights.{left_passing}

@@ -1,12 +1,12 @@
--- What an algorithm can use, that keeps an agenda.
-use Rattle.std.specs.Prelude.{◌≡◌, ◌<◌, ℕ, ℤ, Bool, true, false, List, None, Some}
+-- What an algorithm can use that looks for the corner that goes next.
+use Rattle.std.specs.Prelude.{◌≡◌, ℕ, ℤ, true, false, List, None, Some}
 use Rattle.std.specs.List.{AllByRecursion}
 use Rattle.geometry.specs.Lists.{In}
 use Rattle.elimination_meaning.specs.Elimination.{Vertex}
-use Rattle.guarded_meaning.specs.Agendas.{Holder, IsLeft, goes_with, Holds, Agenda, IsCovered, GoesOn}
+use Rattle.guarded_meaning.specs.Holders.{Holder, IsLeft, goes_with, Holds}
 use Rattle.guarded_meaning.specs.Arcs.{ArcCorner, all_corners, left_by, HasOwnIndexes}
 use Rattle.guarded_meaning.specs.Elimination.{Guard, goes_before, goes, next_arcs}
-use Rattle.guarded_meaning.specs.Guards.{is_free, keeps_rings, guarded_by}
+use Rattle.guarded_meaning.specs.Guards.{is_free, keeps_rings}
 
 -- a corner that goes, and that no other that goes is before, is the next to go
 abbrev pub NextLaw : Type 0
@@ -31,19 +31,3 @@ HolderStays = (arcs : List (List Vertex)) (c : ArcCorner) (h : Holder) → AllBy
 -- a corner that can't go for its rings never can
 abbrev pub NeverAgain : Type 0
 NeverAgain = (rings : List (List ℤ)) (arcs : List (List Vertex)) (c d : ArcCorner) → keeps_rings rings arcs d ≡ false → keeps_rings rings (left_by arcs c) d ≡ false
-
--- the agenda covers what is left, where it covered the arcs and goes on
-abbrev pub CoverLaw : Type 0
-CoverLaw = (no_crossings : Bool) (rings : List (List ℤ)) (t : ℕ) (arcs : List (List Vertex)) (c : ArcCorner) (old new : Agenda) → AllByRecursion HasOwnIndexes arcs → In c (all_corners 0 arcs) →
-    IsCovered no_crossings rings t old arcs → GoesOn arcs c old new → IsCovered no_crossings rings t new (left_by arcs c)
-
--- the first of those that are ready is the next to go, if it may go
-abbrev pub ReadyLaw : Type 0
-ReadyLaw = (no_crossings : Bool) (rings : List (List ℤ)) (t : ℕ) (arcs : List (List Vertex)) (a : Agenda) (c : ArcCorner) → IsCovered no_crossings rings t a arcs →
-    In c (all_corners 0 arcs) → goes (guarded_by no_crossings rings) t arcs c ≡ true → ((d : ArcCorner) → In d (all_corners 0 arcs) → d.corner.area < t → In d a.ready → goes_before d c ≡ false) →
-    next_arcs (guarded_by no_crossings rings) t arcs ≡ Some (left_by arcs c)
-
--- and where none is ready, none goes
-abbrev pub NoneReady : Type 0
-NoneReady = (no_crossings : Bool) (rings : List (List ℤ)) (t : ℕ) (arcs : List (List Vertex)) (a : Agenda) → IsCovered no_crossings rings t a arcs →
-    ((d : ArcCorner) → In d (all_corners 0 arcs) → d.corner.area < t → In d a.ready → ⊥) → next_arcs (guarded_by no_crossings rings) t arcs ≡ None

@@ -1,5 +1,5 @@
 // Laws that an algorithm can use. A function here does nothing: its contract is the law.
-ghost use Rattle.guarded_meaning.specs.AgendaLaws.{CoverLaw, FreeOrHeld, HeldIsNotFree, HolderStays, NeverAgain, NextLaw, NoNextLaw, NoneReady, ReadyLaw};
+ghost use Rattle.guarded_meaning.specs.NextLaws.{FreeOrHeld, HeldIsNotFree, HolderStays, NeverAgain, NextLaw, NoNextLaw};
 
 /// A corner that goes, and that no other that goes is before, is the next to go.
 #[tactic(auto, using(crate::proofs::First::next_law))]
@@ -14,40 +14,25 @@ pub fn no_next_law()
 {}
 
 /// A corner that isn't free is held by something that is left.
-#[tactic(auto, using(crate::proofs::Agendas::free_or_held))]
+#[tactic(auto, using(crate::proofs::Holders::free_or_held))]
 pub fn free_or_held()
     ensures { FreeOrHeld }
 {}
 
 /// A corner that is held isn't free.
-#[tactic(auto, using(crate::proofs::Agendas::held_is_not_free))]
+#[tactic(auto, using(crate::proofs::Holders::held_is_not_free))]
 pub fn held_is_not_free()
     ensures { HeldIsNotFree }
 {}
 
 /// What doesn't go with a corner is left by it.
-#[tactic(auto, using(crate::proofs::Agendas::holder_stays))]
+#[tactic(auto, using(crate::proofs::Holders::holder_stays))]
 pub fn holder_stays()
     ensures { HolderStays }
 {}
 
 /// A corner that can't go for its rings never can.
-#[tactic(auto, using(crate::proofs::Agendas::never_again))]
+#[tactic(auto, using(crate::proofs::Holders::never_again))]
 pub fn never_again()
     ensures { NeverAgain }
-{}
-
-/// The agenda covers what is left, where it covered the arcs and goes on.
-pub fn cover_law()
-    ensures { CoverLaw }
-{}
-
-/// The first of those that are ready is the next to go, if it may go.
-pub fn ready_law()
-    ensures { ReadyLaw }
-{}
-
-/// Where none is ready, none goes.
-pub fn none_ready()
-    ensures { NoneReady }
 {}

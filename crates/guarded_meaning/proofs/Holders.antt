@@ -1,8 +1,7 @@
--- What holds corners, and that an agenda goes on covering them.
-use Rattle.std.proofs.Common.{◌≡◌, ℕ, ℤ, suc, ◌<◌, Bool, true, false, not, ◌||◌, nat_lt, List, [], ◌∷◌, ◌++◌, map, ◌⊎◌, inl, inr, refl, ap, sym, ◌∙◌, subst, arith}
-use Rattle.guarded_meaning.proofs.Names.{and_parts, and_cases, and_left, and_right, or_cases, or_parts, or_from, cases_Bool, both_ways, false_from_ne_true, not-true, not-false, not_from_true, not_from_false, ltb-true, filter-append, filter, in_filter, list_all, each_of, in_left, in_right, in_append, In, same, Vertex, FreeOrHeld, HeldIsNotFree, HolderStays, NeverAgain, CoverLaw, ReadyLaw, NoneReady, ArcCorner, all_corners, Place, place_at, places, is_place_of, Neighbours, neighbours_at, segment_of, all_neighbours, is_pair_of, left_by, points_of, goes, has_empty_triangle, has_open_base, is_free, uses, is_long, keeps_rings, guarded_by, segment, same_ends, is_clear, passing}
-use Rattle.guarded_meaning.specs.Agendas.{Holder, Inside, Across, IsLeft, goes_with, Holds, Agenda, IsHeld, IsCovered}
-use Rattle.guarded_meaning.proofs.First.{next_law, no_next_law}
+-- What holds corners, and goes on holding them.
+use Rattle.std.proofs.Common.{◌≡◌, ℕ, suc, Bool, false, not, ◌||◌, List, [], ◌∷◌, ◌++◌, map, ◌⊎◌, inl, inr, refl, ap, sym, ◌∙◌, subst, arith}
+use Rattle.guarded_meaning.proofs.Names.{and_cases, and_left, and_right, or_parts, or_from, both_ways, not-false, not_from_true, not_from_false, filter-append, filter, in_filter, list_all, each_of, in_left, in_right, in_append, In, same, Vertex, FreeOrHeld, HeldIsNotFree, HolderStays, NeverAgain, ArcCorner, all_corners, Place, place_at, places, is_place_of, Neighbours, neighbours_at, segment_of, all_neighbours, is_pair_of, left_by, points_of, has_empty_triangle, has_open_base, is_free, uses, is_long, keeps_rings, segment, same_ends, is_clear, passing}
+use Rattle.guarded_meaning.specs.Holders.{Holder, Inside, Across, IsLeft, Holds}
 use Rattle.guarded_meaning.proofs.Lists.{filter_map}
 use Rattle.guarded_meaning.proofs.Neighbours.{AreParted, all_parted}
 use Rattle.guarded_meaning.proofs.NoCrossings.{own_first, own_second}
@@ -84,48 +83,3 @@ never_again rings arcs c d h =
     one_fails (λ refs. not (uses d.arc refs) || is_long (points_of (left_by (left_by arcs c) d)) refs) f.0 rings f.1
     (or_from (not (uses d.arc f.0)) (is_long (points_of (left_by (left_by arcs c) d)) f.0) m.0
     (still_short f.0 (left_by (left_by arcs c) d) (left_by arcs d) (fewer_left d.arc d.corner.index c.arc c.corner.index arcs) m.1))
-
--- ---- agendas
-
--- the corner is ready, or held, or can't go for its rings
-abbrev Covered : Bool → List (List ℤ) → Agenda → List (List Vertex) → ArcCorner → Type 0
-Covered b rings a arcs d = In d a.ready ⊎ (((b ≡ true) × IsHeld a arcs d) ⊎ (keeps_rings rings arcs d ≡ false))
-
-pub cover_law : CoverLaw
-cover_law b rings t arcs c old new own k cov go d m u = on (go.fresh d m)
-  where
-    held : b ≡ true → (h : IsHeld old arcs d) → (goes_with c h.holder ≡ true) ⊎ (goes_with c h.holder ≡ false) → Covered b rings new (left_by arcs c) d
-    held a h (inl e) = inl (go.woken d h.holder m h.waits_on e)
-    held a h (inr e) = inr (inl (a, record { holder = h.holder; waits_on = go.wait_on d h.holder m h.waits_on e; left = holder_stays arcs c h.holder own k h.left e; holds = h.holds }))
-
-    which : In d old.ready ⊎ (((b ≡ true) × IsHeld old arcs d) ⊎ (keeps_rings rings arcs d ≡ false)) → Covered b rings new (left_by arcs c) d
-    which (inl r) = inl (go.stay d m r)
-    which (inr (inl h)) = held h.0 h.1 (cases_Bool (goes_with c h.1.holder))
-    which (inr (inr n)) = inr (inr (never_again rings arcs c d n))
-
-    on : In d (all_corners 0 arcs) ⊎ In d new.ready → Covered b rings new (left_by arcs c) d
-    on (inl o) = which (cov d o u)
-    on (inr r) = inl r
-
--- one that goes is ready
-goes_ready : (b : Bool) (rings : _) (t : ℕ) (arcs : List (List Vertex)) (a : Agenda) (d : ArcCorner) → IsCovered b rings t a arcs → In d (all_corners 0 arcs) →
-    goes (guarded_by b rings) t arcs d ≡ true → (d.corner.area < t) × In d a.ready
-goes_ready b rings t arcs a d cov m g =
-    let p = and_parts (nat_lt d.corner.area t) (guarded_by b rings arcs d) g in
-    let q = and_parts (not b || is_free arcs d) (keeps_rings rings arcs d) p.1 in
-    let u = ltb-true d.corner.area t p.0 in
-    (u, on (or_cases (not b) (is_free arcs d) q.0) q.1 (cov d m u))
-  where
-    on : (not b ≡ true) ⊎ (is_free arcs d ≡ true) → keeps_rings rings arcs d ≡ true → In d a.ready ⊎ (((b ≡ true) × IsHeld a arcs d) ⊎ (keeps_rings rings arcs d ≡ false)) → In d a.ready
-    on f r (inl k) = k
-    on (inl f) r (inr (inl h)) = absurd (both_ways b (not-true b f) h.0)
-    on (inr f) r (inr (inl h)) = absurd (both_ways (is_free arcs d) (held_is_not_free arcs d h.1.holder h.1.left h.1.holds) f)
-    on f r (inr (inr n)) = absurd (both_ways (keeps_rings rings arcs d) n r)
-
-pub ready_law : ReadyLaw
-ready_law b rings t arcs a c cov k g h =
-    next_law (guarded_by b rings) t arcs c k g (λ d m e. let r = goes_ready b rings t arcs a d cov m e in h d m r.0 r.1)
-
-pub none_ready : NoneReady
-none_ready b rings t arcs a cov h =
-    no_next_law (guarded_by b rings) t arcs (λ d m. false_from_ne_true (goes (guarded_by b rings) t arcs d) (λ e. let r = goes_ready b rings t arcs a d cov m e in h d m r.0 r.1))

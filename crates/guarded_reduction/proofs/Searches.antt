@@ -1,7 +1,7 @@
 -- What a search has shown.
-use Rattle.std.proofs.Common.{◌≡◌, ◌≢◌, ℕ, ◌+◌, ◌-◌, ◌*◌, ◌/◌, ◌<◌, ◌≤◌, Bool, true, false, ◌&&◌, length, slice_index, Option, None, Some, sym, ap, subst, ◌∙◌, ◌⊎◌, inl, inr, arith}
+use Rattle.std.proofs.Common.{◌≡◌, ℕ, ◌+◌, ◌-◌, ◌*◌, ◌<◌, ◌≤◌, Bool, true, false, ◌&&◌, length, slice_index, Option, None, Some, sym, ap, subst, ◌∙◌, ◌⊎◌, inl, inr, arith}
 use Rattle.std.specs.Option.{IfNone}
-use Rattle.std.proofs.lemmas.Bool.{cases_eq, false_from_ne_true, and_from}
+use Rattle.std.proofs.lemmas.Bool.{false_from_ne_true, and_from}
 use Rattle.geometry.specs.Points.{Point}
 use Rattle.planar_predicates.specs.declared.extent.Extent.{Extent}
 use Rattle.guarded_reduction.specs.declared.box_tree.BoxTree.{BoxTree}
@@ -69,28 +69,6 @@ both_clear x node test a l r = record { fails = λ z w p u. by z w p (under_case
     by z w p (inl e) = absurd (omega arith)
     by z w p (inr (inl u)) = l.fails z w p u
     by z w p (inr (inr u)) = r.fails z w p u
-
--- nothing under a node meets the test, nor under the other child of the one over it
-pub clear_over : (x : BoxTree) (node other : ℕ) (test : Test) → 1 < node → node < 2 * length x.positions.items → (node ≡ 2 * (node / 2) → other ≡ node + 1) → (node ≡ 2 * (node / 2) + 1 → node ≡ other + 1) →
-    NoneMeetsUnder x node test → NoneMeetsUnder x other test → NoneMeetsUnder x (node / 2) test
-clear_over x node other test a b f g l r = on (cases_eq node (2 * (node / 2)))
-  where
-    on : (node ≡ 2 * (node / 2)) ⊎ (node ≢ 2 * (node / 2)) → NoneMeetsUnder x (node / 2) test
-    on (inl e) =
-        let q : other ≡ node + 1 = f e in
-        let s : other ≡ 2 * (node / 2) + 1 = omega (arith, q, e) in
-        both_clear x (node / 2) test (omega (arith, a, b)) (subst (λ (k : ℕ). NoneMeetsUnder x k test) e l) (subst (λ (k : ℕ). NoneMeetsUnder x k test) s r)
-    on (inr n) =
-        let e : node ≡ 2 * (node / 2) + 1 = omega (arith, n) in
-        let q : node ≡ other + 1 = g e in
-        let s : other ≡ 2 * (node / 2) = omega (arith, q, e) in
-        both_clear x (node / 2) test (omega (arith, a, b)) (subst (λ (k : ℕ). NoneMeetsUnder x k test) s r) (subst (λ (k : ℕ). NoneMeetsUnder x k test) e l)
-
--- nothing was found under the other child
-pub none_over : (r : Option ℕ) (x : BoxTree) (node other : ℕ) (test : Test) → 1 < node → node < 2 * length x.positions.items → (node ≡ 2 * (node / 2) → other ≡ node + 1) → (node ≡ 2 * (node / 2) + 1 → node ≡ other + 1) →
-    NoneMeetsUnder x node test → IfNone r (NoneMeetsUnder x other test) → IfNone r (NoneMeetsUnder x (node / 2) test)
-none_over None x node other test a b f g l r = clear_over x node other test a b f g l r
-none_over (Some z) x node other test a b f g l r = r
 
 -- nothing at all meets the test
 pub all_clear : (x : BoxTree) (test : Test) → 0 < length x.positions.items → NoneMeetsUnder x 1 test → NoneMeets x.positions.items x.present.items test

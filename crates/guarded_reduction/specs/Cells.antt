@@ -32,23 +32,22 @@ pub record IsOn (bits mask : ℕ) (ps : List Point) (n list number : ℕ) : Type
   pub within : number ≤ n
   pub list_is : list_at bits mask (point_at ps (number - 1)) ≡ list
 
--- the first n places are on the lists of their cells, the last one first
-pub record AreChained (bits mask : ℕ) (ps : List Point) (firsts nexts : List ℕ) (n : ℕ) : Type 0 where
+-- those of the first n places that are left are on the lists of their cells, the last one first; the others have a next place, too
+pub record AreChained (bits mask : ℕ) (ps : List Point) (bs : List Bool) (firsts nexts : List ℕ) (n : ℕ) : Type 0 where
   pub many : length nexts ≡ n
-  pub first : (z : ℕ) → z < n → z < slice_index firsts (list_at bits mask (point_at ps z))
-  pub next : (y z : ℕ) → y < z → z < n → list_at bits mask (point_at ps y) ≡ list_at bits mask (point_at ps z) → y < slice_index nexts z
+  pub first : (z : ℕ) → z < n → is_left_at bs z ≡ true → z < slice_index firsts (list_at bits mask (point_at ps z))
+  pub next : (y z : ℕ) → y < z → z < n → is_left_at bs y ≡ true → list_at bits mask (point_at ps y) ≡ list_at bits mask (point_at ps z) → y < slice_index nexts z
   pub on_first : (list : ℕ) → 0 < slice_index firsts list → IsOn bits mask ps n list (slice_index firsts list)
   pub on_next : (z : ℕ) → z < n → 0 < slice_index nexts z → IsOn bits mask ps z (list_at bits mask (point_at ps z)) (slice_index nexts z)
 
-pub record IsGrid (ps : List Point) (g : Grid) : Type 0 where
+pub record IsGrid (ps : List Point) (bs : List Bool) (g : Grid) : Type 0 where
   pub bits : g.bits < 64
   pub mask : g.mask < length g.firsts.items
-  pub chained : AreChained g.bits g.mask ps g.firsts.items g.nexts.items (length ps)
+  pub chained : AreChained g.bits g.mask ps bs g.firsts.items g.nexts.items (length ps)
 
 pub record AreCells (x : CellLists) : Type 0 where
   pub present : length x.present.items ≡ length x.positions.items
-  pub fine : IsGrid x.positions.items x.fine
-  pub coarse : IsGrid x.positions.items x.coarse
+  pub grid : IsGrid x.positions.items x.present.items x.grid
 
 -- the positions of the box lie in these columns and rows of cells
 pub record AreCellsOf (bits : ℕ) (e : Extent) (r : CellRange) : Type 0 where
@@ -60,14 +59,14 @@ pub record AreCellsOf (bits : ℕ) (e : Extent) (r : CellRange) : Type 0 where
 -- ---- what a search has shown
 
 -- no place of this list from this number on, counted from one, is left and meets the test
-pub record NoneMeetsOn (ps : List Point) (bs : List Bool) (g : Grid) (test : Test) (list from : ℕ) : Type 0 where
-  pub fails : (z : ℕ) → from ≤ z → z < length ps → list_at g.bits g.mask (point_at ps z) ≡ list → is_left_at bs z ≡ true → test z (point_at ps z) ≡ false
+pub record NoneMeetsOn (x : CellLists) (test : Test) (list from : ℕ) : Type 0 where
+  pub fails : (z : ℕ) → from ≤ z → z < length x.positions.items → list_at x.grid.bits x.grid.mask (point_at x.positions.items z) ≡ list → is_left_at x.present.items z ≡ true → test z (point_at x.positions.items z) ≡ false
 
 -- none in the cells of this row from one column on until before another
-pub record NoneMeetsInRow (ps : List Point) (bs : List Bool) (g : Grid) (test : Test) (row low high : ℕ) : Type 0 where
-  pub fails : (z : ℕ) → z < length ps → is_left_at bs z ≡ true → cell_along g.bits (point_at ps z).y ≡ row → low ≤ cell_along g.bits (point_at ps z).x → cell_along g.bits (point_at ps z).x < high →
-      test z (point_at ps z) ≡ false
+pub record NoneMeetsInRow (x : CellLists) (test : Test) (row low high : ℕ) : Type 0 where
+  pub fails : (z : ℕ) → z < length x.positions.items → is_left_at x.present.items z ≡ true → cell_along x.grid.bits (point_at x.positions.items z).y ≡ row → low ≤ cell_along x.grid.bits (point_at x.positions.items z).x →
+      cell_along x.grid.bits (point_at x.positions.items z).x < high → test z (point_at x.positions.items z) ≡ false
 
 -- none in those of the rows from one on until before another
-pub record NoneMeetsInRows (ps : List Point) (bs : List Bool) (g : Grid) (test : Test) (low high low_row high_row : ℕ) : Type 0 where
-  pub fails : (row : ℕ) → low_row ≤ row → row < high_row → NoneMeetsInRow ps bs g test row low high
+pub record NoneMeetsInRows (x : CellLists) (test : Test) (low high low_row high_row : ℕ) : Type 0 where
+  pub fails : (row : ℕ) → low_row ≤ row → row < high_row → NoneMeetsInRow x test row low high

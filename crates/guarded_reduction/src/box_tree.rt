@@ -6,7 +6,7 @@ ghost use Rattle.guarded_reduction.specs.Indexes.{IsIndex, Meets, NoneMeets};
 use crate::ordering::{places_in_order, ranks_of};
 use crate::query::Query;
 use crate::refitting::{boxes_over, refit_over};
-use crate::searching::{find_beside, find_under};
+use crate::searching::find_under;
 use geometry::Position;
 use owned_values::Memory;
 use planar_predicates::Extent;
@@ -90,20 +90,5 @@ impl BoxTree {
             return None;
         }
         find_under(self, 1, &query.reach(), query)
-    }
-
-    /// The same, looked for near a place first.
-    pub fn find_near<Q: Query>(&self, place: usize, query: &Q) -> Option<usize>
-        requires index { IsIndex self.now }
-        requires place { place < length self.now.positions.items }
-        ensures some { IfSome result (λ z. Meets self.now.positions.items self.now.present.items (Q.test query.now) z) }
-        ensures none { IfNone result (NoneMeets self.now.positions.items self.now.present.items (Q.test query.now)) }
-    {
-        let within = query.reach();
-        let leaf = self.leaf_of(place);
-        match find_under(self, leaf, &within, query) {
-            Some(found) => Some(found),
-            None => find_beside(self, leaf, &within, query),
-        }
     }
 }

@@ -1,9 +1,11 @@
 // Places by the square cells that their positions lie in.
-ghost use Rattle.std.specs.Prelude.{◌≡◌, ◌+◌, ◌<◌, ◌≤◌, ◌^◌, ◌≤ℤ◌, ℤ, length, replicate, true, IfOk, OnOk};
+ghost use Rattle.std.specs.Prelude.{◌≡◌, ◌+◌, ◌<◌, ◌≤◌, ◌^◌, ◌≤ℤ◌, ℤ, length, replicate, slice_set, true, false, IfOk, OnOk};
 ghost use Rattle.guarded_reduction.specs.Cells as spec;
 ghost use Rattle.guarded_reduction.specs.Cells.{AreCells, AreChained, IsGrid, least};
 
-use crate::searching::position_of;
+use crate::index::PositionIndex;
+use crate::neighbours::{Neighbours, after_or, before_or};
+use crate::searching::{is_left, position_of};
 use geometry::Position;
 use owned_values::Memory;
 use std::alloc::Global;
@@ -14,34 +16,27 @@ const FACTOR: u64 = 0x9E37_79B9_7F4A_7C15;
 /// So many places have one list, which all of them are on.
 const FEW: usize = 64;
 
-/// By so many bits the side of a large cell is longer.
-const COARSER: u32 = 4;
-
-/// So many places of a list are counted at most.
-const MOST_COUNTED: u64 = 1000;
-
 /// At so many places it is looked how far the next one lies away.
 const SAMPLES: usize = 64;
 
-/// Lists of places: those whose cells have the same list are on it, the last one first. A list is the number of its first place, counted from one, and of
-/// each place that of the next one on its list; zero where there is none. A cell's side is two to one more than so many bits. The longest list has so
-/// many places, where they could be counted: nothing rests on it but speed.
+/// Lists of places: those whose cells have the same list are on it, the last one first, as far as they were left when the lists were made. A list is the
+/// number of its first place, counted from one, and of each place that of the next one on its list; zero where there is none. A cell's side is two to
+/// one more than so many bits.
 #[derive(Drop)]
 pub struct Grid {
     pub bits: u32,
     pub mask: u64,
     pub firsts: Vec<u32>,
     pub nexts: Vec<u32>,
-    pub longest: u64,
 }
 
-/// The positions of places, which of them are left, and their lists by small cells and by large ones.
+/// The positions of places, which of them are left, and their lists by cells. By these they are found in less time than by boxes, as long as few places
+/// lie in the cells of a box that is looked through.
 #[derive(Drop)]
 pub struct CellLists {
     pub positions: Vec<Position>,
     pub present: Vec<bool>,
-    pub fine: Grid,
-    pub coarse: Grid,
+    pub grid: Grid,
 }
 
 /// The number of the cell along one coordinate.
@@ -92,7 +87,7 @@ fn list_at(position: Position, bits: u32, mask: u64) -> usize
     )
 }
 
-/// How far two places lie apart along both coordinates.
+/// How far two places lie apart along both coordinates; not at all where there are no such places.
 fn apart(positions: &[Position], place: usize, other: usize) -> u64 {
     if place >= positions.len() || other >= positions.len() {
         return 0;
@@ -101,42 +96,66 @@ fn apart(positions: &[Position], place: usize, other: usize) -> u64 {
     p.x().abs_diff(q.x()).saturating_add(p.y().abs_diff(q.y()))
 }
 
-/// How far a place lies from the next one, mostly.
-fn usual_step(positions: &[Position]) -> u64 {
+/// How far the first place that is left, of so many from one on, lies from the farther of its neighbours.
+fn step_after(
+    positions: &[Position],
+    present: &[bool],
+    neighbours: &[Neighbours],
+    from: usize,
+    many: usize,
+) -> u64 {
+    for place in from..from.saturating_add(many).min(present.len()) {
+        if present[place] {
+            let before = before_or(neighbours, place, place);
+            let after = after_or(neighbours, place, place);
+            return apart(positions, place, before).max(apart(positions, place, after));
+        }
+    }
+    0
+}
+
+/// How far a place that is left lies from the next one, mostly, as far as that is known.
+fn usual_step(positions: &[Position], present: &[bool], neighbours: &[Neighbours]) -> u64 {
+    let many = positions.len() / SAMPLES;
     let mut steps = [0u64; SAMPLES];
     for i in 0..SAMPLES {
-        let place = i.wrapping_mul(positions.len()) / SAMPLES;
-        steps[i] = apart(positions, place, place.wrapping_add(1));
+        steps[i] = step_after(positions, present, neighbours, i.wrapping_mul(many), many);
     }
     steps.sort_unstable();
-    steps[SAMPLES / 2]
+    let unknown = steps.iter().filter(|step| **step == 0).count();
+    steps[(SAMPLES / 2 + unknown / 2).min(SAMPLES - 1)]
 }
 
-/// The bits of a cell's side: few places have one cell for all, others such as mostly hold a place and the two or three after it.
-fn bits_for(positions: &[Position]) -> u32
-    ensures { result < 64 }
-{
-    if positions.len() <= FEW {
-        return 63;
-    }
-    (usual_step(positions).max(1).ilog2() + 1).min(62)
+/// How many places are left.
+fn count_left(present: &[bool]) -> usize {
+    present.iter().filter(|left| **left).count()
 }
 
-/// How many lists there are for so many places in so many cells: a power of two, more than the cells, so that few of these share one; and one for few
-/// places.
-fn lists_for(places: usize, cells: usize) -> usize
+/// How many lists there are for so many places: a power of two, more than these, so that few cells share one; and one for few places.
+fn lists_for(places: usize) -> usize
     ensures { 0 < result }
 {
     if places <= FEW {
         1
     } else {
-        1usize << (cells.max(1).ilog2() + 1).min(32)
+        1usize << (places.ilog2() + 1).min(32)
+    }
+}
+
+/// The bits of a cell's side: few places have one cell for all, others such as mostly hold a place and the two or three after it.
+fn bits_for(places: usize, step: u64) -> u32
+    ensures { result < 64 }
+{
+    if places <= FEW {
+        63
+    } else {
+        (step.max(1).ilog2() + 1).min(62)
     }
 }
 
 /// The number of a place, counted from one, in short. For more there is no memory.
 fn number_of(place: usize) -> Result<u32, Memory>
-    requires { place < 2 ^ 60 }
+    requires { place + 1 < 2 ^ 64 }
     ensures { IfOk result (λ number. number ≡ place + 1) }
 {
     match u32::try_from(place + 1) {
@@ -145,88 +164,110 @@ fn number_of(place: usize) -> Result<u32, Memory>
     }
 }
 
-/// Puts each place on the list of its cell.
+/// Puts each place that is left on the list of its cell. The others have a next place too, and come before none.
 fn put_on_lists(
     positions: &[Position],
+    present: &[bool],
     bits: u32,
     mask: u64,
     firsts: &mut [u32],
     nexts: &mut Vec<u32>,
 ) -> Result<(), Memory>
-    requires few { length positions.now < 2 ^ 60 }
+    requires present { length present.now ≡ length positions.now }
     requires bits { bits < 64 }
     requires mask { mask < length firsts.old }
-    requires none { AreChained bits mask positions.now firsts.old nexts.old.items 0 }
+    requires none { AreChained bits mask positions.now present.now firsts.old nexts.old.items 0 }
     ensures many { length firsts.new ≡ length firsts.old }
-    ensures chained { OnOk result (AreChained bits mask positions.now firsts.new nexts.new.items (length positions.now)) }
+    ensures chained { OnOk result (AreChained bits mask positions.now present.now firsts.new nexts.new.items (length positions.now)) }
 {
     'places: for place in 0..positions.len() {
         let number = number_of(place)?;
         let list = list_at(position_of(positions, place), bits, mask);
         nexts.push(firsts[list])?;
-        firsts[list] = number;
+        if is_left(present, place) {
+            firsts[list] = number;
+        }
     }
     Ok(())
 }
 
-/// How many places a list has, or more than any where they are too many to be counted.
-fn length_of(first: u32, nexts: &[u32]) -> u64 {
-    let mut number = first as usize;
-    for length in 0..MOST_COUNTED {
-        if number == 0 || number > nexts.len() {
-            return length;
-        }
-        number = nexts[number - 1] as usize;
-    }
-    u64::MAX
-}
-
-/// The same of the longest list.
-fn longest_of(firsts: &[u32], nexts: &[u32]) -> u64 {
-    let mut longest = 0u64;
-    for first in firsts {
-        longest = longest.max(length_of(*first, nexts));
-    }
-    longest
-}
-
-/// The lists of these positions by cells of so many bits, of which about so many have places.
-fn grid_of(alloc: Global, positions: &[Position], bits: u32, cells: usize) -> Result<Grid, Memory>
-    requires few { length positions.now < 2 ^ 60 }
-    requires bits { bits < 64 }
-    ensures { IfOk result (λ g. IsGrid positions.now g) }
+/// The lists of the places that are left, by cells twice to four times as wide as these mostly lie apart.
+fn grid_of(
+    alloc: Global,
+    positions: &[Position],
+    present: &[bool],
+    neighbours: &[Neighbours],
+) -> Result<Grid, Memory>
+    requires { length present.now ≡ length positions.now }
+    ensures { IfOk result (λ g. IsGrid positions.now present.now g) }
 {
-    let lists = lists_for(positions.len(), cells);
+    let left = count_left(present);
+    let bits = bits_for(left, usual_step(positions, present, neighbours));
+    let lists = lists_for(left);
     let mask = lists as u64 - 1;
     let mut firsts = vec![in alloc; 0u32; lists]?;
     let mut nexts = Vec::with_capacity(alloc, positions.len())?;
-    put_on_lists(positions, bits, mask, &mut firsts, &mut nexts)?;
-    let longest = longest_of(&firsts, &nexts);
+    put_on_lists(positions, present, bits, mask, &mut firsts, &mut nexts)?;
     Ok(Grid {
         bits,
         mask,
         firsts,
         nexts,
-        longest,
     })
 }
 
-/// The lists of these positions, which are all left.
-pub fn cell_lists_of(alloc: Global, positions: Vec<Position>) -> Result<CellLists, Memory>
-    requires few { length positions.items < 2 ^ 60 }
+/// The lists of these positions, which are all left, and of which these are the neighbours.
+pub fn cell_lists_of(
+    alloc: Global,
+    positions: Vec<Position>,
+    neighbours: &[Neighbours],
+) -> Result<CellLists, Memory>
     ensures cells { IfOk result (λ x. AreCells x) }
     ensures positions { IfOk result (λ x. x.positions.items ≡ positions.items) }
     ensures present { IfOk result (λ x. x.present.items ≡ replicate (length positions.items) true) }
 {
-    let n = positions.len();
-    let bits = bits_for(&positions);
-    let fine = grid_of(alloc, &positions, bits, n)?;
-    let coarse = grid_of(alloc, &positions, (bits + COARSER).min(63), n >> COARSER)?;
-    let present = vec![in alloc; true; n]?;
+    let present = vec![in alloc; true; positions.len()]?;
+    let grid = grid_of(alloc, &positions, &present, neighbours)?;
     Ok(CellLists {
         positions,
         present,
-        fine,
-        coarse,
+        grid,
     })
+}
+
+impl CellLists {
+    /// The place goes.
+    pub fn remove(&mut self, place: usize)
+        requires cells { AreCells self.old }
+        requires within { place < length self.old.positions.items }
+        ensures cells { AreCells self.new }
+        ensures positions { self.new.positions.items ≡ self.old.positions.items }
+        ensures present { self.new.present.items ≡ slice_set self.old.present.items place false }
+    {
+        self.present[place] = false;
+    }
+
+    /// Makes the lists anew of the places that are left, by their neighbours, where fewer lists would do for these.
+    pub fn renew(&mut self, alloc: Global, neighbours: &[Neighbours]) -> Result<(), Memory>
+        requires { AreCells self.old }
+        ensures cells { AreCells self.new }
+        ensures positions { self.new.positions.items ≡ self.old.positions.items }
+        ensures present { self.new.present.items ≡ self.old.present.items }
+    {
+        if lists_for(count_left(&self.present)) < self.grid.firsts.len() {
+            self.grid = grid_of(alloc, &self.positions, &self.present, neighbours)?;
+        }
+        Ok(())
+    }
+
+    /// The same places in an index of boxes.
+    pub fn in_boxes(&self, alloc: Global) -> Result<PositionIndex, Memory>
+        requires { AreCells self.now }
+        ensures positions { IfOk result (λ x. x.positions ≡ self.now.positions.items) }
+        ensures left { IfOk result (λ x. x.left ≡ self.now.present.items) }
+    {
+        let positions = self.positions.as_slice().to_vec(alloc)?;
+        let present = self.present.as_slice().to_vec(alloc)?;
+        PositionIndex::of_left(alloc, positions, present)
+    }
 }

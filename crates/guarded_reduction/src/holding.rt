@@ -1,5 +1,5 @@
 // What keeps the corner at a place from going.
-ghost use Rattle.std.specs.Prelude.{◌≡◌, ◌<◌, length, true};
+ghost use Rattle.std.specs.Prelude.{◌≡◌, ◌<◌, IfOk, OnOk, length, true};
 ghost use Rattle.std.specs.Option.{IfNone, IfSome};
 ghost use Rattle.guarded_reduction.specs.Blocking.{is_blocked_by, turned_corner};
 ghost use Rattle.guarded_reduction.specs.Indexes.{Meets, NoneMeets};
@@ -8,6 +8,8 @@ ghost use Rattle.guarded_reduction.specs.States.{blocks};
 
 use crate::linked_places::LinkedPlaces;
 use crate::query::Corner;
+use owned_values::Memory;
+use std::alloc::Global;
 
 /// The corner as it is seen from its other side.
 fn turned(corner: &Corner) -> Corner
@@ -42,26 +44,33 @@ fn from_other_side(places: &LinkedPlaces, corner: &Corner, holder: usize) -> usi
 /// A place that is left and blocks the corner at a place, where crossings are to be avoided. The one that was found last is tried first, since one
 /// place often blocks many corners. A segment between the corner's ends is looked for from the end where fewer places lie.
 #[tactic(auto, using(crate::proofs::OtherSide::none_from_other))]
-pub fn holder_of(places: &LinkedPlaces, place: usize, last: usize) -> Option<usize>
-    requires place { place < length places.now.positions }
-    requires chained { IsChained places.now }
-    ensures asked { IfSome result (λ _. places.now.no_crossings ≡ true) }
-    ensures some { IfSome result (λ z. Meets places.now.positions places.now.left (blocks places.now place) z) }
-    ensures none { IfNone result (places.now.no_crossings ≡ true → NoneMeets places.now.positions places.now.left (blocks places.now place)) }
+pub fn holder_of(
+    alloc: Global,
+    places: &mut LinkedPlaces,
+    place: usize,
+    last: usize,
+) -> Result<Option<usize>, Memory>
+    requires place { place < length places.old.positions }
+    requires chained { IsChained places.old }
+    ensures same { OnOk result (places.new ≡ places.old) }
+    ensures asked { IfOk result (λ found. IfSome found (λ _. places.old.no_crossings ≡ true)) }
+    ensures some { IfOk result (λ found. IfSome found (λ z. Meets places.old.positions places.old.left (blocks places.old place) z)) }
+    ensures none { IfOk result (λ found. IfNone found (places.old.no_crossings ≡ true → NoneMeets places.old.positions places.old.left (blocks places.old place))) }
 {
     if !places.avoids_crossings() {
-        return None;
+        return Ok(None);
     }
     places.law();
     let corner = places.corner(place);
     if places.is_holder(&corner, last) {
-        return Some(last);
+        return Ok(Some(last));
     }
     if !places.is_more_crowded(places.before(place), places.after(place)) {
-        return places.holder(places.corner(place));
+        let holder = places.holder(alloc, corner)?;
+        return Ok(holder);
     }
-    match places.holder(turned(&corner)) {
-        Some(holder) => Some(from_other_side(places, &corner, holder)),
-        None => None,
+    match places.holder(alloc, turned(&corner))? {
+        Some(holder) => Ok(Some(from_other_side(places, &corner, holder))),
+        None => Ok(None),
     }
 }

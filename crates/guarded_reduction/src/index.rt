@@ -100,13 +100,4 @@ impl PositionIndex {
     {
         self.tree.find(query)
     }
-
-    /// The same, looked for near a place first.
-    pub(crate) fn find_near<Q: Query>(&self, place: usize, query: &Q) -> Option<usize>
-        requires { place < length self.now.positions }
-        ensures some { IfSome result (λ z. Meets self.now.positions self.now.left (Q.test query.now) z) }
-        ensures none { IfNone result (NoneMeets self.now.positions self.now.left (Q.test query.now)) }
-    {
-        self.tree.find_near(place, query)
-    }
 }

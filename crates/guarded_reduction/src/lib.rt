@@ -6,16 +6,15 @@
 //! again when one of these goes; one with which a ring would become too short never goes, so its place stays for good.
 //! What keeps a corner is found by an index over positions of which more and more go: it finds one that is left and meets a query, above all a
 //! `Blocked`, that is in a corner's triangle or begins a segment between the ends of its base. Places are looked for in the cells that the corner's box
-//! meets (`src/cell_lists.rt`), until too many lie there; then the index becomes a `PositionIndex`, whose places are halved, and the halves again, once
-//! for all (`planar_predicates/src/halving.rt`), and one path of a tree of boxes is gone up for each place that goes. `holding` asks it from the side of the
-//! corner where fewer places lie. `free_law` and `blocked_law` tie it to the guard. Rings are asked by how often their arcs move on from a position
-//! to another (`src/kept_rings.rt`). Each look is a search of the index and a step of the queue; how many there are, and how many cells or boxes each goes
-//! through, is not promised.
+//! meets (`src/cell_lists.rt`), which are made anew of what is left when a round begins, until that has taken so many steps; then the index becomes a
+//! `PositionIndex`, whose places are halved, and the halves again, once for all (`planar_predicates/src/halving.rt`), and one path of a tree of boxes is
+//! gone up for each place that goes. `holding` asks it from the side of the corner where fewer places lie. `free_law` and `blocked_law` tie it to the
+//! guard. Rings are asked by how often their arcs move on from a position to another (`src/kept_rings.rt`). Each look is a search of the index and a step
+//! of the queue; how many there are, and how many cells or boxes each goes through, is not promised.
 #![tactic(auto)]
 
 mod blocking;
 mod box_tree;
-mod cell_index;
 mod cell_lists;
 mod cell_search;
 mod corner_queue;

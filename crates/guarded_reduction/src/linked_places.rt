@@ -1,5 +1,5 @@
 // Places that are left, and their neighbours.
-ghost use Rattle.std.specs.Prelude.{◌≡◌, ◌<◌, IfOk, true, false, length, slice_index};
+ghost use Rattle.std.specs.Prelude.{◌≡◌, ◌<◌, IfOk, OnOk, true, false, length, slice_index};
 ghost use Rattle.std.specs.Option.{IfNone, IfSome};
 ghost use Rattle.geometry.specs.Units.{area_limit};
 ghost use Rattle.guarded_reduction.specs.Indexes.{Meets, NoneMeets, is_left_at, point_at};
@@ -55,10 +55,10 @@ impl LinkedPlaces {
     {
         let positions = all_positions(alloc, arcs)?;
         let fixed = vec![in alloc; false; positions.len()]?;
-        let places = ShownPlaces::of(alloc, positions, no_crossings)?;
         let befores = befores_of(alloc, arcs)?;
         let afters = afters_of(alloc, arcs)?;
         let neighbours = side_by_side(alloc, &befores, &afters)?;
+        let places = ShownPlaces::of(alloc, positions, &neighbours, no_crossings)?;
         Ok(LinkedPlaces {
             places,
             neighbours,
@@ -204,23 +204,21 @@ impl LinkedPlaces {
         }
     }
 
-    /// Readies the index for a search for what blocks the corner at a place.
-    pub fn ready(&mut self, alloc: Global, place: usize) -> Result<(), Memory>
-        requires { place < length self.old.positions }
+    /// Makes the index anew of what is left, where that is little.
+    pub fn renew(&mut self, alloc: Global) -> Result<(), Memory>
         ensures { self.new ≡ self.old }
     {
-        let within = reach_of(&self.corner(place));
-        self.places.ready(alloc, &within)
+        self.places.renew(alloc, &self.neighbours)
     }
 
-    /// A place that is left and blocks a corner, where crossings are to be avoided.
-    pub fn holder(&self, corner: Corner) -> Option<usize>
-        requires { corner.place < length self.now.positions }
-        ensures asked { IfSome result (λ _. self.now.no_crossings ≡ true) }
-        ensures some { IfSome result (λ z. Meets self.now.positions self.now.left (is_blocked_by self.now.positions self.now.befores self.now.afters corner) z) }
-        ensures none { IfNone result (self.now.no_crossings ≡ true → NoneMeets self.now.positions self.now.left (is_blocked_by self.now.positions self.now.befores self.now.afters corner)) }
+    /// A place that is left and blocks a corner, where crossings are to be avoided. The index is readied for the search, whose steps are then spent.
+    pub fn holder(&mut self, alloc: Global, corner: Corner) -> Result<Option<usize>, Memory>
+        ensures same { OnOk result (self.new ≡ self.old) }
+        ensures asked { IfOk result (λ found. IfSome found (λ _. self.old.no_crossings ≡ true)) }
+        ensures some { IfOk result (λ found. IfSome found (λ z. Meets self.old.positions self.old.left (is_blocked_by self.old.positions self.old.befores self.old.afters corner) z)) }
+        ensures none { IfOk result (λ found. IfNone found (self.old.no_crossings ≡ true → NoneMeets self.old.positions self.old.left (is_blocked_by self.old.positions self.old.befores self.old.afters corner))) }
     {
-        let place = corner.place;
+        self.places.ready(alloc, &reach_of(&corner))?;
         let links = Links {
             positions: self.places.positions(),
             neighbours: self.neighbours.as_slice(),
@@ -229,7 +227,10 @@ impl LinkedPlaces {
             corner,
             links: &links,
         };
-        self.places.find_near(place, &blocked)
+        let mut steps = 0u64;
+        let found = self.places.find(&blocked, &mut steps);
+        self.places.spend(steps);
+        Ok(found)
     }
 
     /// Crossings are to be avoided.

@@ -82,8 +82,7 @@ pub fn next_corner(
         if !places.is_current(&entry) {
             continue;
         }
-        places.ready(alloc, entry.place)?;
-        let Some(holder) = holder_of(places, entry.place, last) else {
+        let Some(holder) = holder_of(alloc, places, entry.place, last)? else {
             return Ok(Some(entry));
         };
         wait_on(waiting, places, entry.place, holder)?;

@@ -97,21 +97,23 @@ pub fn begin_round(
     Ok(())
 }
 
-/// Begins the round after one that was not the last.
+/// Begins the round after one that was not the last, with an index of what is left.
 fn begin_next_round(
     alloc: Global,
     queue: &mut CornerQueue,
     waiting: &WaitingLists,
-    places: &LinkedPlaces,
+    places: &mut LinkedPlaces,
     round: &mut u128,
     threshold: u128,
 ) -> Result<(), Memory>
-    requires none { NoneNext round.old places.now waiting.now }
+    requires none { NoneNext round.old places.old waiting.now }
     requires more { round.old < threshold }
-    ensures queued { OnOk result (IsQueued round.new places.now queue.new waiting.now) }
+    ensures same { OnOk result (places.new ≡ places.old) }
+    ensures queued { OnOk result (IsQueued round.new places.new queue.new waiting.now) }
     ensures above { OnOk result (round.old < round.new) }
     ensures within { OnOk result (round.new ≤ threshold) }
 {
+    places.renew(alloc)?;
     let from = *round;
     let until = next_threshold(places, from, threshold);
     begin_round(alloc, queue, waiting, places, from, until)?;

@@ -1,7 +1,7 @@
 // The search through the boxes.
-ghost use Rattle.std.specs.Prelude.{◌≡◌, ℕ, ◌+◌, ◌-◌, ◌*◌, ◌/◌, ◌<◌, ◌≤◌, ◌&&◌, false, length, slice_index};
+ghost use Rattle.std.specs.Prelude.{◌≡◌, ◌+◌, ◌-◌, ◌*◌, ◌<◌, ◌≤◌, ◌&&◌, false, length, slice_index};
 ghost use Rattle.std.specs.Option.{IfNone, IfSome};
-ghost use Rattle.guarded_reduction.specs.Indexes.{IsIndex, Meets, NoneMeets, NoneMeetsUnder, is_left_at, point_at};
+ghost use Rattle.guarded_reduction.specs.Indexes.{IsIndex, Meets, NoneMeetsUnder, is_left_at, point_at};
 ghost use Rattle.guarded_reduction.specs.Tests.{Reaches};
 ghost use Rattle.guarded_reduction.specs.Trees.{extent_at};
 
@@ -125,61 +125,4 @@ pub fn find_under<Q: Query>(
         return None;
     }
     find_under(index, 2 * node + 1, within, query)
-}
-
-/// The other child of the node over a node.
-fn other_child(node: usize) -> usize
-    requires { 1 < node }
-    ensures first { node ≡ 2 * (node / 2) → result ≡ node + 1 }
-    ensures second { node ≡ 2 * (node / 2) + 1 → node ≡ result + 1 }
-    ensures inner { 0 < result }
-    ensures inside { (n : ℕ) → node < 2 * n → result < 2 * n }
-{
-    if node == 2 * (node / 2) {
-        node + 1
-    } else {
-        node - 1
-    }
-}
-
-/// A place that is left and meets the test, under the node over one under which there is none.
-#[tactic(auto, using(crate::proofs::Searches::clear_over, crate::proofs::Searches::none_over))]
-fn find_over<Q: Query>(index: &BoxTree, node: usize, within: &Extent, query: &Q) -> Option<usize>
-    requires index { IsIndex index.now }
-    requires inner { 1 < node }
-    requires inside { node < 2 * length index.now.positions.items }
-    requires reach { Reaches within.now (Q.test query.now) }
-    requires none { NoneMeetsUnder index.now node (Q.test query.now) }
-    ensures some { IfSome result (λ z. Meets index.now.positions.items index.now.present.items (Q.test query.now) z) }
-    ensures none { IfNone result (NoneMeetsUnder index.now (node / 2) (Q.test query.now)) }
-{
-    let other = other_child(node);
-    if !may_hold(index, other, within, query) {
-        return None;
-    }
-    find_under(index, other, within, query)
-}
-
-/// A place that is left and meets the test, where none under this node does: it is looked for near the node first.
-pub fn find_beside<Q: Query>(
-    index: &BoxTree,
-    node: usize,
-    within: &Extent,
-    query: &Q,
-) -> Option<usize>
-    requires index { IsIndex index.now }
-    requires inner { 0 < node }
-    requires inside { node < 2 * length index.now.positions.items }
-    requires reach { Reaches within.now (Q.test query.now) }
-    requires none { NoneMeetsUnder index.now node (Q.test query.now) }
-    ensures some { IfSome result (λ z. Meets index.now.positions.items index.now.present.items (Q.test query.now) z) }
-    ensures none { IfNone result (NoneMeets index.now.positions.items index.now.present.items (Q.test query.now)) }
-{
-    if node < 2 {
-        return None;
-    }
-    match find_over(index, node, within, query) {
-        Some(place) => Some(place),
-        None => find_beside(index, node / 2, within, query),
-    }
 }

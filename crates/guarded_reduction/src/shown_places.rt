@@ -1,11 +1,12 @@
 // The positions of places, of which some are left.
-ghost use Rattle.std.specs.Prelude.{◌≡◌, ◌<◌, ◌^◌, IfOk, length, true};
+ghost use Rattle.std.specs.Prelude.{◌≡◌, ◌<◌, IfOk, length, true};
 ghost use Rattle.std.specs.Option.{IfNone, IfSome};
 ghost use Rattle.guarded_reduction.specs.Indexes.{Meets, NoneMeets, is_left_at};
 ghost use Rattle.guarded_reduction.specs.PlacedLists.{all_placed, without_placed};
 
-use crate::cell_index::CellIndex;
+use crate::cell_lists::{CellLists, cell_lists_of};
 use crate::index::PositionIndex;
+use crate::neighbours::Neighbours;
 use crate::query::Query;
 use geometry::Position;
 use owned_values::Memory;
@@ -13,11 +14,8 @@ use planar_predicates::Extent;
 use std::alloc::Global;
 use std::marker::Model;
 
-/// So many cells and places are gone through at most in a quick search.
-const MOST: usize = 1000;
-
-/// So many in a slow one, of which there is one for each `MOST` places before boxes take the place of cells.
-const MOST_SLOW: usize = 16 * MOST;
+/// For each place so many steps may be taken in cells, before boxes take their place: one for each cell that is gone through, and for each place in it.
+const STEPS: u64 = 128;
 
 /// The positions of places: listed without an index, or in an index of cells or of boxes.
 #[derive(Drop)]
@@ -26,16 +24,16 @@ pub enum Places {
         positions: Vec<Position>,
         left: Vec<bool>,
     },
-    Celled(CellIndex),
+    Celled(CellLists),
     Boxed(PositionIndex),
 }
 
 /// Positions by the numbers of their places, of which some are left, with an index over these, or without one where nothing is looked for. The index is
-/// one of cells, until boxes are to be looked through in whose cells too many places lie, and then one of boxes. So many of these may still be slow.
+/// one of cells, until so many steps have been taken, and then one of boxes.
 #[derive(Drop)]
 pub struct ShownPlaces {
     places: Places,
-    slow: usize,
+    steps: u64,
 }
 
 impl Model for ShownPlaces {
@@ -50,19 +48,23 @@ impl Model for ShownPlaces {
 }
 
 impl ShownPlaces {
-    /// These positions, which are all left, with an index or without.
-    pub fn of(alloc: Global, positions: Vec<Position>, indexed: bool) -> Result<ShownPlaces, Memory>
-        requires { length positions.items < 2 ^ 60 }
+    /// These positions, which are all left, and of which these are the neighbours, with an index or without.
+    pub fn of(
+        alloc: Global,
+        positions: Vec<Position>,
+        neighbours: &[Neighbours],
+        indexed: bool,
+    ) -> Result<ShownPlaces, Memory>
         ensures { IfOk result (λ x. x ≡ all_placed indexed positions.items) }
     {
-        let slow = positions.len() / MOST;
+        let steps = STEPS.saturating_mul(positions.len() as u64);
         let places = if indexed {
-            Places::Celled(CellIndex::of(alloc, positions)?)
+            Places::Celled(cell_lists_of(alloc, positions, neighbours)?)
         } else {
             let left = vec![in alloc; true; positions.len()]?;
             Places::Listed { positions, left }
         };
-        Ok(ShownPlaces { places, slow })
+        Ok(ShownPlaces { places, steps })
     }
 
     /// The positions of all places, also of those that are gone.
@@ -71,7 +73,7 @@ impl ShownPlaces {
     {
         match &self.places {
             Places::Listed { positions, .. } => positions.as_slice(),
-            Places::Celled(index) => index.positions(),
+            Places::Celled(cells) => cells.positions.as_slice(),
             Places::Boxed(index) => index.positions(),
         }
     }
@@ -84,7 +86,7 @@ impl ShownPlaces {
     {
         match &self.places {
             Places::Listed { left, .. } => left[place],
-            Places::Celled(index) => index.is_left(place),
+            Places::Celled(cells) => cells.present[place],
             Places::Boxed(index) => index.is_left(place),
         }
     }
@@ -119,24 +121,31 @@ impl ShownPlaces {
     {
         match &mut self.places {
             Places::Listed { left, .. } => left[place] = false,
-            Places::Celled(index) => index.remove(place),
+            Places::Celled(cells) => cells.remove(place),
             Places::Boxed(index) => index.remove(place),
         }
     }
 
-    /// Readies the index for a search through this box: one of boxes takes the place of one of cells where too many places lie in these, or where that
-    /// has been slow too often.
+    /// Makes an index of cells anew of the places that are left, by their neighbours, where many are gone.
+    pub fn renew(&mut self, alloc: Global, neighbours: &[Neighbours]) -> Result<(), Memory>
+        ensures { self.new ≡ self.old }
+    {
+        match &mut self.places {
+            Places::Listed { .. } => Ok(()),
+            Places::Celled(cells) => cells.renew(alloc, neighbours),
+            Places::Boxed(_) => Ok(()),
+        }
+    }
+
+    /// Readies the index for a search through this box: one of boxes takes the place of one of cells, where this box meets more of these than steps
+    /// are left.
     pub fn ready(&mut self, alloc: Global, within: &Extent) -> Result<(), Memory>
         ensures { self.new ≡ self.old }
     {
         let Places::Celled(cells) = &self.places else {
             return Ok(());
         };
-        if cells.is_quick(within, MOST) {
-            return Ok(());
-        }
-        if self.slow > 0 && cells.is_quick(within, MOST_SLOW) {
-            self.slow -= 1;
+        if cells.count_cells(within) <= self.steps {
             return Ok(());
         }
         let boxes = cells.in_boxes(alloc)?;
@@ -144,17 +153,23 @@ impl ShownPlaces {
         Ok(())
     }
 
-    /// A place that is left and meets the test of the query, where there is an index. It is looked for near a place first.
-    pub fn find_near<Q: Query>(&self, place: usize, query: &Q) -> Option<usize>
-        requires { place < length self.now.positions }
+    /// So many steps have been taken.
+    pub fn spend(&mut self, steps: u64)
+        ensures { self.new ≡ self.old }
+    {
+        self.steps = self.steps.saturating_sub(steps);
+    }
+
+    /// A place that is left and meets the test of the query, where there is an index. The steps that this takes in cells are counted.
+    pub fn find<Q: Query>(&self, query: &Q, steps: &mut u64) -> Option<usize>
         ensures asked { IfSome result (λ _. self.now.indexed ≡ true) }
         ensures some { IfSome result (λ z. Meets self.now.positions self.now.left (Q.test query.now) z) }
         ensures none { IfNone result (self.now.indexed ≡ true → NoneMeets self.now.positions self.now.left (Q.test query.now)) }
     {
         match &self.places {
             Places::Listed { .. } => None,
-            Places::Celled(index) => index.find(query),
-            Places::Boxed(index) => index.find_near(place, query),
+            Places::Celled(cells) => cells.find(query, steps),
+            Places::Boxed(index) => index.find(query),
         }
     }
 }

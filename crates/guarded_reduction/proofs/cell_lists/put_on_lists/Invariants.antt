@@ -6,5 +6,5 @@ use Rattle.guarded_reduction.proofs.cell_lists.put_on_lists.Given as goal
 abbrev pub invariant-places : goal.invariant-places
 invariant-places l = record {
   many : length l.firsts ≡ length l.fn.firsts;
-  chained : AreChained l.bits l.mask l.positions l.firsts l.nexts.items l.place;
+  chained : AreChained l.bits l.mask l.positions l.present l.firsts l.nexts.items l.place;
 }

@@ -3,4 +3,4 @@ use Rattle.guarded_reduction.proofs.cell_search.find_in_row.Given as goal
 
 -- none in the cells so far
 abbrev pub invariant-columns : goal.invariant-columns
-invariant-columns g l = NoneMeetsInRow l.cells.positions.items l.cells.present.items l.grid (g.Q.Query.test l.query) l.row l.low l.column
+invariant-columns g l = NoneMeetsInRow l.cells (g.Q.Query.test l.query) l.row l.low l.column

@@ -5,8 +5,8 @@ use Rattle.guarded_reduction.proofs.cell_search.find_on_list.Given as goal
 -- those before on the list don't meet the test
 abbrev pub invariant-places : goal.invariant-places
 invariant-places g l = record {
-  on : 0 < l.number → IsOn l.grid.bits l.grid.mask l.cells.positions.items (length l.cells.positions.items) l.list l.number;
-  none : NoneMeetsOn l.cells.positions.items l.cells.present.items l.grid (g.Q.Query.test l.query) l.list l.number;
+  on : 0 < l.number → IsOn l.cells.grid.bits l.cells.grid.mask l.cells.positions.items (length l.cells.positions.items) l.list l.number;
+  none : NoneMeetsOn l.cells (g.Q.Query.test l.query) l.list l.number;
 }
 
 abbrev pub decreases-places : goal.decreases-places

@@ -1,6 +1,0 @@
-use Rattle.guarded_reduction.specs.Cells.{NoneMeetsInRows}
-use Rattle.guarded_reduction.proofs.cell_search.find_within.Given as goal
-
--- none in the rows so far
-abbrev pub invariant-rows : goal.invariant-rows
-invariant-rows g l = NoneMeetsInRows l.cells.positions.items l.cells.present.items l.grid (g.Q.Query.test l.query) l.range.low l.range.high l.range.low_row l.row

@@ -1,7 +1,7 @@
 -- Lists of waits.
-use Rattle.std.proofs.Common.{◌≡◌, ◌≢◌, ℕ, ◌+◌, ◌<◌, ◌≤◌, List, [], ◌∷◌, ◌++◌, length, slice_index, slice_index_or, slice_set, length-append, length-set, get_or-set_same, get_or-set_other, refl, ap, sym, ◌∙◌, subst, ◌⊎◌, inl, inr, arith}
+use Rattle.std.proofs.Common.{◌≡◌, ◌≢◌, ℕ, ◌+◌, ◌<◌, ◌≤◌, List, [], ◌∷◌, ◌++◌, length, slice_index, slice_index_or, slice_set, length-append, length-set, replicate, get_or-set_same, get_or-set_other, refl, ap, sym, ◌∙◌, subst, ◌⊎◌, inl, inr, arith}
 use Rattle.std.proofs.lemmas.Bool.{cases_eq, cases_lt}
-use Rattle.std.proofs.lemmas.List.{get_or_append_left, get_or_push, get_or_default}
+use Rattle.std.proofs.lemmas.List.{get_or_append_left, get_or_past, get_or_push, get_or_default, get_or-replicate, length-replicate}
 use Rattle.guarded_reduction.specs.declared.waiting_lists.Wait.{Wait}
 use Rattle.guarded_reduction.specs.Waiting.{Waiting, WaitsFrom, here, later, WaitsOn, IsFalling, KeepsWaits, no_wait, wait_at}
 
@@ -67,6 +67,14 @@ module _ (fs : List ℕ) (ws : List Wait) (h v n : ℕ) (within : h < length fs)
       by i l (inr k) =
           let e : i ≡ length ws = omega (arith, k, l, longer ws (wait_of v (slice_index fs h))) in
           omega (arith, f.first h, e, ap (λ (m : ℕ). (wait_at new_waits m).next) e, ap (λ (x : Wait). x.next) (at_end ws (wait_of v (slice_index fs h))))
+
+-- where nothing waits
+pub none_falls : (fs : List ℕ) (ws : List Wait) (n : ℕ) → fs ≡ replicate n 0 → ws ≡ [] → IsFalling (waiting_of fs ws)
+none_falls fs ws n e f = record { first = λ h. on h (cases_lt h n); next = λ i l. absurd (omega (arith, l, ap (λ (ws : List Wait). length ws) f)) }
+  where
+    on : (h : ℕ) → (h < n) ⊎ (n ≤ h) → slice_index fs h ≤ length ws
+    on h (inl l) = omega (arith, ap (λ (xs : List ℕ). slice_index xs h) e, get_or-replicate {A = ℕ} n h 0 0 l)
+    on h (inr l) = omega (arith, ap (λ (xs : List ℕ). slice_index xs h) e, get_or_past {X = ℕ} (replicate n 0) h 0 (omega (arith, l, length-replicate {A = ℕ} n 0)))
 
 -- the wait that was read
 pub wait_is : (ws : List Wait) (i : ℕ) (w : Wait) → i < length ws → w ≡ slice_index_or ws i w → w ≡ wait_at ws i

@@ -28,6 +28,12 @@ const LEAST: usize = 32;
 /// The threshold of a round is higher than the one before by as much as this part of that at least, so that there are some five hundred rounds at most.
 const STEP: u128 = 8;
 
+/// With more waits than so many for each place all of them are forgotten. Each corner that waits is looked at once more then, and comes to wait twice at
+/// most: before the next time so many looks have blocked anew as there are places, and no more than these are made twice. Between two corners that
+/// go each is looked at once at most: so there are never more waits than six for each place, and on the heap no more corners than these, and two for
+/// each that went.
+const MOST_WAITS: usize = 4;
+
 /// The area of the corner at a place where it is in a later round than that under the first threshold, else the second threshold.
 fn later_area(places: &LinkedPlaces, place: usize, round: u128, threshold: u128) -> u128 {
     match places.entry(place, threshold) {
@@ -121,6 +127,24 @@ fn begin_next_round(
     Ok(())
 }
 
+/// Where there are too many waits all are forgotten, and the round begins anew, with all of its corners.
+fn forget_many(
+    alloc: Global,
+    queue: &mut CornerQueue,
+    waiting: &mut WaitingLists,
+    places: &LinkedPlaces,
+    round: u128,
+) -> Result<(), Memory>
+    requires { IsQueued round places.now queue.old waiting.old }
+    ensures { OnOk result (IsQueued round places.now queue.new waiting.new) }
+{
+    if waiting.len() / MOST_WAITS <= places.len() {
+        return Ok(());
+    }
+    waiting.clear();
+    begin_round(alloc, queue, waiting, places, 0, round)
+}
+
 /// The corner that goes next, if there is one. Where none is queued any more, the next round begins.
 #[tactic(auto, using(crate::proofs::Queued::chained_fixed, crate::proofs::Queued::fixed_more, crate::proofs::Queued::owners_still))]
 pub fn next_in_rounds(
@@ -143,6 +167,7 @@ pub fn next_in_rounds(
     ensures counted { IfOk result (λ found. IfSome found (λ e. rings.new ≡ counted_without places.new e.place rings.old)) }
     ensures none { IfOk result (λ found. IfNone found (NoneNext threshold places.new waiting.new)) }
 {
+    forget_many(alloc, queue, waiting, places, *round)?;
     'rounds: while *round < threshold {
         if let Some(entry) = next_going(alloc, queue, waiting, places, rings, *round)? {
             return Ok(Some(entry));

@@ -1,5 +1,5 @@
 // Which corners wait on which places.
-ghost use Rattle.std.specs.Prelude.{◌≡◌, ◌-◌, ◌<◌, ◌≤◌, IfOk, OnOk, length, slice_index};
+ghost use Rattle.std.specs.Prelude.{◌≡◌, ◌-◌, ◌<◌, ◌≤◌, [], IfOk, OnOk, length, slice_index};
 ghost use Rattle.guarded_reduction.specs.Waiting.{KeepsWaits, WaitsOn, wait_at};
 
 use owned_values::Memory;
@@ -40,6 +40,23 @@ impl WaitingLists {
             firsts,
             waits: Vec::new(alloc),
         })
+    }
+
+    /// How many waits there are, with those on places that are gone.
+    pub fn len(&self) -> usize
+        ensures { result ≡ length self.now.waits }
+    {
+        self.waits.len()
+    }
+
+    /// Nothing waits on these places any more. The memory is kept.
+    #[tactic(auto, using(crate::proofs::Waits::none_falls))]
+    pub fn clear(&mut self)
+        ensures same { length self.new.firsts ≡ length self.old.firsts }
+        ensures none { self.new.waits ≡ [] }
+    {
+        self.firsts.fill(0);
+        self.waits.clear();
     }
 
     /// A corner waits on a place.

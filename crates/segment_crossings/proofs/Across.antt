@@ -2,9 +2,8 @@
 use Rattle.std.proofs.Common.{◌≡◌, ℕ, zero, suc, ◌+◌, ◌-◌, ◌<◌, ◌≤◌, List, length, map, drop, refl, ap, arith}
 use Rattle.guarded_meaning.specs.Segments.{bad_pairs}
 use Rattle.segment_crossings.specs.declared.line.Line.{Line}
-use Rattle.segment_crossings.specs.Levels.{NoneBadWithin}
 use Rattle.segment_crossings.specs.Lines.{as_segment, bad_across, bad_from, bad_inside, line_at}
-use Rattle.segment_crossings.proofs.Lines.{later_fewer, none_ahead, pairs_ahead, skipped}
+use Rattle.segment_crossings.proofs.Lines.{NoneBadWithin, later_fewer, none_ahead, pairs_ahead, skipped}
 
 -- no more from a later rank on
 pub across_fewer : (ls : List Line) (n r o e : ℕ) → o ≤ e → bad_across ls r n e ≤ bad_across ls r n o

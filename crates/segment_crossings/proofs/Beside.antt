@@ -13,7 +13,6 @@ use Rattle.guarded_meaning.proofs.Sides.{side_law}
 use Rattle.guarded_meaning.proofs.Signs.{below_or}
 use Rattle.guarded_meaning.proofs.Step.{Parted, line_turned, on_turned, others_turned, touches_says}
 use Rattle.segment_crossings.specs.Lines.{no_point}
-use Rattle.segment_crossings.specs.Ways.{along}
 use Rattle.segment_crossings.proofs.Apart.{line_opposed, never, never_weighed, opposed, weights}
 
 on_triangle : (c b d q : Point) → is_on c d q ≡ true → in_triangle c b d q ≡ true
@@ -91,6 +90,13 @@ module _ (e f : Point) (k : ℤ) (s t : Segment) (sf : far e f s.from <ℤ k) (s
   beside_never = never s t no_same no_cross no_touch no_touch_by
 
 -- ---- the four ways are lines, too
+
+-- how far a position lies along a way: by the first coordinate or the second, and to where it grows or back
+unfoldable pub along : Bool → Bool → Point → ℤ
+along true false p = p.x
+along true true p = pos 0 -ℤ p.x
+along false false p = p.y
+along false true p = pos 0 -ℤ p.y
 
 abbrev pub line_of : Bool → Bool → Point
 line_of true false = record { x = pos 0; y = negsuc 0 }

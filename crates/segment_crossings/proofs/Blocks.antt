@@ -9,8 +9,7 @@ use Rattle.planar_predicates.specs.Extents.{HoldsPoint, LiesIn}
 use Rattle.planar_predicates.proofs.Boxes.{holds_in}
 use Rattle.segment_crossings.specs.declared.block.Block.{Block}
 use Rattle.segment_crossings.specs.Blocks.{Covers, IsOff, IsOffAt, RunsInto}
-use Rattle.segment_crossings.specs.Ways.{along}
-use Rattle.segment_crossings.proofs.Beside.{way_never}
+use Rattle.segment_crossings.proofs.Beside.{along, way_never}
 use Rattle.segment_crossings.proofs.Sided.{from_never, sided_never, to_never}
 
 -- ---- boxes without a position in common

@@ -3,11 +3,9 @@ pub mod Apart
 pub mod Beside
 pub mod Blocks
 pub mod Counts
-pub mod Covering
 pub mod Crossings
 pub mod Gathered
 pub mod Lines
 pub mod Sided
 pub mod Stretches
-pub mod Units
-pub mod Ways
+pub mod Trees

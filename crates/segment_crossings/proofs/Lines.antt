@@ -1,13 +1,16 @@
 -- The segments of arcs, and those that are left to be counted.
-use Rattle.std.proofs.Common.{◌≡◌, ℕ, ◌+◌, ◌-◌, ◌<◌, ◌≤◌, ◌⊎◌, inl, inr, suc, zero, List, ◌∷◌, length, map, drop, ap, sym, subst, ◌∙◌, add-one, arith}
+use Rattle.std.proofs.Common.{◌≡◌, false, ℕ, ◌+◌, ◌-◌, ◌<◌, ◌≤◌, ◌⊎◌, inl, inr, suc, zero, List, ◌∷◌, length, map, drop, ap, sym, subst, ◌∙◌, add-one, arith}
 use Rattle.std.proofs.lemmas.Bool.{cases_lt}
 use Rattle.std.proofs.Math.Seq.{drop-cons}
 use Rattle.std.proofs.lemmas.List.{drop_all}
-use Rattle.guarded_meaning.specs.Segments.{meets_badly, bad_pairs}
+use Rattle.guarded_meaning.specs.Segments.{Segment, meets_badly, bad_pairs}
 use Rattle.segment_crossings.specs.declared.line.Line.{Line}
-use Rattle.segment_crossings.specs.Levels.{NoneBadWithin}
 use Rattle.segment_crossings.specs.Lines.{as_segment, bad_among, bad_from, line_at, no_line}
 use Rattle.segment_crossings.proofs.Counts.{one, bad_more}
+
+-- none of these ranks is that of a segment that meets this one badly
+pub record NoneBadWithin (ls : List Line) (l : Line) (first end : ℕ) : Type 0 where
+  pub none : (r : ℕ) → first ≤ r → r < end → r < length ls → meets_badly (as_segment l) (as_segment (line_at ls r)) ≡ false
 
 pub ahead : (ls : List Line) (r : ℕ) → r < length ls → drop r ls ≡ line_at ls r ∷ drop (r + 1) ls
 unfolding line_at
@@ -69,3 +72,11 @@ pairs_ahead ls r h = ap (λ ks. bad_pairs (map as_segment ks)) (ahead ls r h)
 
 pub no_pairs_ahead : (ls : List Line) (r : ℕ) → length ls ≤ r → bad_pairs (map as_segment (drop r ls)) ≡ 0
 no_pairs_ahead ls r h = ap (λ ks. bad_pairs (map as_segment ks)) (drop_all r ls h)
+
+-- what holds of each up to a rank, and of the one of the rank
+pub one_more : (P : Segment → Type 0) (ls : List Line) (first rank : ℕ) (l : Line) → l ≡ line_at ls rank → ((r : ℕ) → first ≤ r → r < rank → P (as_segment (line_at ls r))) → P (as_segment l) → (r : ℕ) → first ≤ r → r < rank + 1 → P (as_segment (line_at ls r))
+one_more P ls first rank l e before here r a b = on (cases_lt r rank)
+  where
+    on : (r < rank) ⊎ (rank ≤ r) → P (as_segment (line_at ls r))
+    on (inl h) = before r a h
+    on (inr h) = let same : rank ≡ r = omega (arith, b, h) in subst (λ n. P (as_segment (line_at ls n))) same (subst (λ (k : Line). P (as_segment k)) e here)

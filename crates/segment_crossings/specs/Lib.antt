@@ -1,9 +1,6 @@
 pub mod Blocks
 pub mod Crossings
 pub mod Gathering
-pub mod Levels
 pub mod Lines
-pub mod Probes
 pub mod Strips
-pub mod Units
-pub mod Ways
+pub mod Trees

@@ -1,69 +1,32 @@
 // Counting.
-ghost use Rattle.std.specs.Prelude.{◌≡◌, ◌+◌, ◌-◌, ◌<◌, ◌≤◌, ℕ, length, min};
-ghost use Rattle.std.specs.List.{All};
-ghost use Rattle.segment_crossings.specs.Levels.{AreStarts, IsOver, start_at};
-ghost use Rattle.segment_crossings.specs.Lines.{as_segment, bad_across, bad_from, bad_inside, line_at};
-ghost use Rattle.segment_crossings.specs.Probes.{EndsIn};
+ghost use Rattle.std.specs.Prelude.{◌≡◌, ◌+◌, ◌-◌, ◌<◌, ◌≤◌, true, length, map, min};
+ghost use Rattle.guarded_meaning.specs.Segments.{bad_pairs};
+ghost use Rattle.segment_crossings.specs.Lines.{as_segment};
+ghost use Rattle.segment_crossings.specs.Trees.{IsNode, IsTree, bad_between, bad_in, bad_within};
 
-use crate::levels::Level;
-use crate::line::{Line, extent_of, is_bad_pair, read_line};
-use crate::probe::with_box;
-use crate::run::{Run, extent_round};
-use crate::skipping::{skip_from, skip_unit};
-use crate::straight::is_straight;
-use crate::unit::run_of;
-use planar_predicates::{Extent, meets};
+use crate::block::are_apart;
+use crate::line::{Line, is_bad_pair, read_line};
+use crate::run::Run;
+use crate::tree::{Node, Tree, is_clear_of, parts_of};
 
-/// So many segments are not halved.
-const FEW: usize = 8;
+/// For each segment of a run that is gone through there are so many steps more.
+const STEPS: u64 = 24;
 
-/// So many, and as many as segments of this unit and later ones meet a segment badly; or the limit.
-pub fn count_from(
-    lines: &[Line],
-    starts: &[usize],
-    levels: &[Level],
-    line: &Line,
-    unit: usize,
-    sofar: u64,
-    limit: u64,
-) -> u64
-    requires starts { AreStarts (length lines.now) starts.now }
-    requires levels { All (IsOver lines.now starts.now) levels.now }
-    requires unit { unit < length starts.now }
-    requires sofar { sofar ≤ limit }
-    ensures { result ≡ min limit (sofar + bad_from lines.now line.now (start_at starts.now unit)) }
-{
-    let probe = with_box(line);
-    let mut count = sofar;
-    let mut other = unit;
-    while other + 1 < starts.len() && count < limit {
-        let next = skip_from(lines, starts, levels, &probe, other);
-        if next > other {
-            other = next;
-            continue;
-        }
-        let run = run_of(lines, starts, other);
-        count = count_before(lines, line, run.first, run.end, count, limit);
-        other += 1;
-    }
-    count
-}
-
-/// So many, and as many as segments from this rank on, before another, meet a segment badly; or the limit.
+/// So many, and as many as segments of a run meet a segment badly; or the limit.
 #[tactic(auto, using(crate::proofs::Counts::one, crate::proofs::Lines::later_fewer, crate::proofs::Lines::one_ahead))]
-fn count_before(lines: &[Line], line: &Line, rank: usize, end: usize, sofar: u64, limit: u64) -> u64
-    requires rank { rank ≤ end }
-    requires end { end ≤ length lines.now }
+fn count_in(lines: &[Line], line: &Line, run: Run, sofar: u64, limit: u64) -> u64
+    requires run { run.first ≤ run.end }
+    requires within { run.end ≤ length lines.now }
     requires sofar { sofar ≤ limit }
-    ensures { result ≡ min limit (sofar + (bad_from lines.now line.now rank - bad_from lines.now line.now end)) }
+    ensures { result ≡ min limit (sofar + bad_in lines.now line.now run) }
 {
     let mut count = sofar;
-    let mut other = rank;
-    while other < end && count < limit {
-        if is_bad_pair(line, read_line(lines, other)) {
+    let mut rank = run.first;
+    while rank < run.end && count < limit {
+        if is_bad_pair(line, read_line(lines, rank)) {
             count += 1;
         }
-        other += 1;
+        rank += 1;
     }
     count
 }
@@ -73,191 +36,148 @@ fn count_before(lines: &[Line], line: &Line, rank: usize, end: usize, sofar: u64
 fn count_few(lines: &[Line], run: Run, sofar: u64, limit: u64) -> u64
     requires run { run.end ≤ length lines.now }
     requires sofar { sofar ≤ limit }
-    ensures { result ≡ min limit (sofar + bad_inside lines.now run.first (run.end - run.first) run.end) }
+    ensures { result ≡ min limit (sofar + bad_within lines.now run) }
 {
     let mut count = sofar;
     for rank in run.first..run.end {
-        count = count_before(
-            lines,
-            read_line(lines, rank),
-            rank + 1,
-            run.end,
-            count,
-            limit,
-        );
+        let later = Run {
+            first: rank + 1,
+            end: run.end,
+        };
+        count = count_in(lines, read_line(lines, rank), later, count, limit);
     }
     count
 }
 
-/// The same, unless all go on one way, and have none.
-fn count_part(lines: &[Line], run: Run, sofar: u64, limit: u64) -> u64
-    requires some { run.first < run.end }
-    requires run { run.end ≤ length lines.now }
+/// So many, and as many as segments of a node meet a segment badly; or the limit.
+#[tactic(auto, using(crate::proofs::Trees::none_in))]
+pub fn count_under(tree: &Tree, node: &Node, line: &Line, sofar: u64, limit: u64) -> u64
+    requires tree { IsTree tree.now }
+    requires node { IsNode tree.now.lines.items node.now }
     requires sofar { sofar ≤ limit }
-    ensures { result ≡ min limit (sofar + bad_inside lines.now run.first (run.end - run.first) run.end) }
+    ensures { result ≡ min limit (sofar + bad_in tree.now.lines.items line.now node.now.run) }
 {
-    if is_straight(lines, run) {
+    if sofar == limit || is_clear_of(node, line) {
         return sofar;
     }
-    count_few(lines, run, sofar, limit)
+    match parts_of(tree, node) {
+        Some(parts) => {
+            let count = count_under(tree, parts.first, line, sofar, limit);
+            count_under(tree, parts.second, line, count, limit)
+        }
+        None => count_in(&tree.lines, line, node.run, sofar, limit),
+    }
 }
 
-/// So many, and as many as segments of a run, which are in a box, meet a segment badly; or the limit.
-fn count_in_box(
-    lines: &[Line],
-    line: &Line,
-    run: Run,
-    extent: &Extent,
+/// So many, and the pairs of a segment of a run and one of a node that meet badly, each segment of the run by itself; or the limit.
+#[tactic(auto, using(crate::proofs::Across::across_none))]
+fn count_each(tree: &Tree, run: Run, node: &Node, sofar: u64, limit: u64) -> u64
+    requires tree { IsTree tree.now }
+    requires run { run.end ≤ length tree.now.lines.items }
+    requires node { IsNode tree.now.lines.items node.now }
+    requires sofar { sofar ≤ limit }
+    ensures { result ≡ min limit (sofar + bad_between tree.now.lines.items run node.now.run) }
+{
+    let mut count = sofar;
+    for rank in run.first..run.end {
+        count = count_under(tree, node, read_line(&tree.lines, rank), count, limit);
+    }
+    count
+}
+
+/// So many, and the pairs of a segment of a node and one of another that meet badly, or the limit, if there are steps left in the end: the larger node's
+/// parts are gone through, unless the boxes of the two lie apart. Each pair that is found gives a step back.
+#[tactic(auto, using(crate::proofs::Trees::none_between))]
+fn count_across(
+    tree: &Tree,
+    node: &Node,
+    other: &Node,
     sofar: u64,
     limit: u64,
+    steps: &mut u64,
 ) -> u64
-    requires order { run.first ≤ run.end }
-    requires run { run.end ≤ length lines.now }
-    requires extent { (r : ℕ) → run.first ≤ r → r < run.end → EndsIn extent.now (as_segment (line_at lines.now r)) }
+    requires tree { IsTree tree.now }
+    requires node { IsNode tree.now.lines.items node.now }
+    requires other { IsNode tree.now.lines.items other.now }
     requires sofar { sofar ≤ limit }
-    ensures { result ≡ min limit (sofar + (bad_from lines.now line.now run.first - bad_from lines.now line.now run.end)) }
+    ensures most { result ≤ limit }
+    ensures left { 0 < steps.new → 0 < steps.old }
+    ensures count { 0 < steps.new → result ≡ min limit (sofar + bad_between tree.now.lines.items node.now.run other.now.run) }
 {
-    if meets(extent_of(line), *extent) {
-        return count_before(lines, line, run.first, run.end, sofar, limit);
+    if *steps == 0 || sofar == limit {
+        return sofar;
     }
-    sofar
-}
-
-/// So many, and the pairs of a segment of a run and one of another run that meet badly; or the limit.
-#[tactic(auto, using(crate::proofs::Lines::later_fewer, crate::proofs::Across::across_ahead, crate::proofs::Across::across_fewer, crate::proofs::Across::across_none))]
-fn count_between(lines: &[Line], run: Run, other: Run, sofar: u64, limit: u64) -> u64
-    requires run { run.end ≤ length lines.now }
-    requires order { other.first ≤ other.end }
-    requires other { other.end ≤ length lines.now }
-    requires sofar { sofar ≤ limit }
-    ensures { result ≡ min limit (sofar + (bad_across lines.now run.first (run.end - run.first) other.first - bad_across lines.now run.first (run.end - run.first) other.end)) }
-{
-    let extent = extent_round(lines, other);
-    let mut count = sofar;
-    for rank in run.first..run.end {
-        let line = read_line(lines, rank);
-        count = count_in_box(lines, line, other, &extent, count, limit);
+    *steps -= 1;
+    if are_apart(&node.block, &other.block) {
+        return sofar;
     }
+    if node.run.len() >= other.run.len() {
+        if let Some(parts) = parts_of(tree, node) {
+            let count = count_across(tree, parts.first, other, sofar, limit, steps);
+            return count_across(tree, parts.second, other, count, limit, steps);
+        }
+    }
+    if let Some(parts) = parts_of(tree, other) {
+        let count = count_across(tree, node, parts.first, sofar, limit, steps);
+        return count_across(tree, node, parts.second, count, limit, steps);
+    }
+    let count = count_each(tree, node.run, other, sofar, limit);
+    *steps = steps
+        .saturating_sub(node.run.len() as u64)
+        .saturating_add(count - sofar);
     count
 }
 
-/// So many, and the pairs of two segments of a run that meet badly; or the limit. Of many that don't go on one way each half may.
-#[tactic(auto, using(crate::proofs::Across::across_fewer, crate::proofs::Across::inside_cut))]
-pub fn count_inside(lines: &[Line], run: Run, sofar: u64, limit: u64) -> u64
-    requires some { run.first < run.end }
-    requires run { run.end ≤ length lines.now }
-    requires sofar { sofar ≤ limit }
-    ensures { result ≡ min limit (sofar + bad_inside lines.now run.first (run.end - run.first) run.end) }
+/// There are more steps, for the segments of a run, if there are any left.
+fn add_steps(steps: &mut u64, run: Run)
+    requires { run.first ≤ run.end }
+    ensures left { 0 < steps.new → 0 < steps.old }
+    ensures kept { 0 < steps.old → 0 < steps.new }
 {
-    let many = run.end - run.first;
-    if many <= FEW {
-        return count_part(lines, run, sofar, limit);
+    if *steps > 0 {
+        *steps = steps.saturating_add(STEPS.saturating_mul(run.len() as u64));
     }
-    if is_straight(lines, run) {
+}
+
+/// So many, and the pairs of two segments of a node that meet badly, or the limit, if there are steps left in the end. Where segments are crowded, none
+/// is spent, and each segment of the first part goes through the second by itself.
+fn count_inside(tree: &Tree, node: &Node, sofar: u64, limit: u64, steps: &mut u64) -> u64
+    requires tree { IsTree tree.now }
+    requires node { IsNode tree.now.lines.items node.now }
+    requires sofar { sofar ≤ limit }
+    ensures most { result ≤ limit }
+    ensures left { 0 < steps.new → 0 < steps.old }
+    ensures kept { tree.now.is_crowded ≡ true → 0 < steps.old → 0 < steps.new }
+    ensures count { 0 < steps.new → result ≡ min limit (sofar + bad_within tree.now.lines.items node.now.run) }
+{
+    if *steps == 0 || sofar == limit {
         return sofar;
     }
-    let middle = run.first + many / 2;
-    let first = Run {
-        first: run.first,
-        end: middle,
+    let parts = match parts_of(tree, node) {
+        Some(parts) => parts,
+        None => {
+            add_steps(steps, node.run);
+            return count_few(&tree.lines, node.run, sofar, limit);
+        }
     };
-    let second = Run {
-        first: middle,
-        end: run.end,
-    };
-    let mut count = count_part(lines, first, sofar, limit);
-    count = count_part(lines, second, count, limit);
-    count_between(lines, first, second, count, limit)
+    let mut count = count_inside(tree, parts.first, sofar, limit, steps);
+    count = count_inside(tree, parts.second, count, limit, steps);
+    if tree.is_crowded {
+        return count_each(tree, parts.first.run, parts.second, count, limit);
+    }
+    count_across(tree, parts.first, parts.second, count, limit, steps)
 }
 
-/// So many, and as many as segments of a unit meet a segment badly; or the limit.
-fn count_near(
-    lines: &[Line],
-    starts: &[usize],
-    levels: &[Level],
-    line: &Line,
-    unit: usize,
-    sofar: u64,
-    limit: u64,
-) -> u64
-    requires starts { AreStarts (length lines.now) starts.now }
-    requires levels { All (IsOver lines.now starts.now) levels.now }
-    requires unit { unit + 1 < length starts.now }
-    requires sofar { sofar ≤ limit }
-    ensures { result ≡ min limit (sofar + (bad_from lines.now line.now (start_at starts.now unit) - bad_from lines.now line.now (start_at starts.now (unit + 1)))) }
+/// How many pairs of segments meet badly, or the limit, if they are more, and if there are steps left in the end. Where segments are crowded, no step is
+/// spent.
+#[tactic(auto, using(crate::proofs::Trees::all_within))]
+pub fn count_pairs(tree: &Tree, limit: u64, steps: &mut u64) -> u64
+    requires { IsTree tree.now }
+    ensures kept { tree.now.is_crowded ≡ true → 0 < steps.old → 0 < steps.new }
+    ensures count { 0 < steps.new → result ≡ min limit (bad_pairs (map as_segment tree.now.lines.items)) }
 {
-    if skip_unit(lines, starts, levels, &extent_of(line), unit) > unit {
-        return sofar;
+    match &tree.root {
+        Some(root) => count_inside(tree, root, 0, limit, steps),
+        None => 0,
     }
-    let run = run_of(lines, starts, unit);
-    count_before(lines, line, run.first, run.end, sofar, limit)
-}
-
-/// So many, and the pairs of a segment of a run and one of a unit that meet badly; or the limit.
-#[tactic(auto, using(crate::proofs::Lines::later_fewer, crate::proofs::Across::across_ahead, crate::proofs::Across::across_fewer, crate::proofs::Across::across_none))]
-pub fn count_across(
-    lines: &[Line],
-    starts: &[usize],
-    levels: &[Level],
-    run: Run,
-    unit: usize,
-    sofar: u64,
-    limit: u64,
-) -> u64
-    requires starts { AreStarts (length lines.now) starts.now }
-    requires levels { All (IsOver lines.now starts.now) levels.now }
-    requires run { run.end ≤ length lines.now }
-    requires unit { unit + 1 < length starts.now }
-    requires sofar { sofar ≤ limit }
-    ensures { result ≡ min limit (sofar + (bad_across lines.now run.first (run.end - run.first) (start_at starts.now unit) - bad_across lines.now run.first (run.end - run.first) (start_at starts.now (unit + 1)))) }
-{
-    let mut count = sofar;
-    for rank in run.first..run.end {
-        count = count_near(
-            lines,
-            starts,
-            levels,
-            read_line(lines, rank),
-            unit,
-            count,
-            limit,
-        );
-    }
-    count
-}
-
-/// So many, and the pairs of a segment of a run and one of this unit or a later one that meet badly, each segment of the run by itself; or the limit.
-#[tactic(auto, using(crate::proofs::Across::across_ahead, crate::proofs::Across::across_none, crate::proofs::Across::across_past))]
-pub fn count_each(
-    lines: &[Line],
-    starts: &[usize],
-    levels: &[Level],
-    run: Run,
-    unit: usize,
-    sofar: u64,
-    limit: u64,
-) -> u64
-    requires starts { AreStarts (length lines.now) starts.now }
-    requires levels { All (IsOver lines.now starts.now) levels.now }
-    requires run { run.end ≤ length lines.now }
-    requires unit { unit < length starts.now }
-    requires sofar { sofar ≤ limit }
-    ensures { result ≡ min limit (sofar + bad_across lines.now run.first (run.end - run.first) (start_at starts.now unit)) }
-{
-    if unit + 1 == starts.len() {
-        return sofar;
-    }
-    let mut count = sofar;
-    for own in run.first..run.end {
-        count = count_from(
-            lines,
-            starts,
-            levels,
-            read_line(lines, own),
-            unit,
-            count,
-            limit,
-        );
-    }
-    count
 }

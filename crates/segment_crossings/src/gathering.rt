@@ -4,14 +4,14 @@ ghost use Rattle.guarded_meaning.specs.Arcs.{segments};
 ghost use Rattle.segment_crossings.specs.Gathering.{AreSame, arc_lines, lines_in};
 ghost use Rattle.segment_crossings.specs.Lines.{as_segment};
 
-use crate::line::{Line, read_line};
+use crate::line::Line;
 use geometry::{Position, is_same};
 use owned_values::{Items, Memory};
 use planar_predicates::{Located, arrange};
 use std::alloc::Global;
 
 /// At most so many segments, each of which begins where the last one ends, stay together.
-const MOST_TOGETHER: usize = 16;
+const MOST_TOGETHER: usize = 8;
 
 /// None of them is more than about so many times as long as the first, and the first not as one of them.
 const MOST_TIMES: u64 = 8;
@@ -92,35 +92,6 @@ impl Spans {
     fn holds(&self, span: u64) -> bool {
         self.least <= span && span <= self.most
     }
-}
-
-/// How far a segment goes.
-fn span_of(line: &Line) -> u64 {
-    span_between(line.from, line.to)
-}
-
-/// The segment of this rank begins where the one before it ends, and goes about as far as the first one.
-fn goes_on(lines: &[Line], rank: usize, spans: &Spans) -> bool
-    requires first { 0 < rank }
-    requires rank { rank < length lines.now }
-{
-    let line = read_line(lines, rank);
-    is_same(line.from, read_line(lines, rank - 1).to) && spans.holds(span_of(line))
-}
-
-/// Where the segments end that stay together with the one of this rank, from there on: all are about as long as it.
-pub fn end_together(lines: &[Line], first: usize) -> usize
-    requires { first < length lines.now }
-    ensures more { first < result }
-    ensures within { result ≤ length lines.now }
-{
-    let spans = spans_like(span_of(read_line(lines, first)));
-    let most = first.saturating_add(MOST_TOGETHER).min(lines.len());
-    let mut end = first + 1;
-    while end < most && goes_on(lines, end, &spans) {
-        end += 1;
-    }
-    end
 }
 
 /// Where the positions end whose segments stay together with the one that begins with this one: all are about as long as it.
@@ -222,15 +193,27 @@ fn most_lines(arcs: &[Items<Position>]) -> usize {
     most
 }
 
-/// The segments of stretches, one stretch after another. There is room for so many from the start.
-fn lines_along(alloc: Global, stretches: &[Stretch<'_>], room: usize) -> Result<Vec<Line>, Memory>
-    ensures { IfOk result (λ v. map as_segment v.items ≡ flat_map lines_in stretches.now) }
+/// Segments in stretches, one stretch after another, and the ranks that stretches begin with. Nothing rests on these but speed.
+#[derive(Drop)]
+pub struct Gathered {
+    pub lines: Vec<Line>,
+    pub starts: Vec<usize>,
+}
+
+/// The segments of stretches. There is room for so many from the start.
+fn lines_along(alloc: Global, stretches: &[Stretch<'_>], room: usize) -> Result<Gathered, Memory>
+    ensures { IfOk result (λ v. map as_segment v.lines.items ≡ flat_map lines_in stretches.now) }
 {
     let mut lines = Vec::with_capacity(alloc, room)?;
+    let mut starts = Vec::with_capacity(alloc, stretches.len())?;
     'stretches: for stretch in stretches {
+        let start = lines.len();
         put_lines(&mut lines, stretch.positions)?;
+        if start < lines.len() {
+            starts.push(start)?;
+        }
     }
-    Ok(lines)
+    Ok(Gathered { lines, starts })
 }
 
 /// The segments of arcs, in stretches of which near ones are close together. Where segments are crowded, near ones of about the same length are.
@@ -239,11 +222,11 @@ pub fn lines_in_order(
     alloc: Global,
     arcs: &[Items<Position>],
     are_crowded: bool,
-) -> Result<Vec<Line>, Memory>
-    ensures { IfOk result (λ lines. AreSame (segments arcs.now) (map as_segment lines.items)) }
+) -> Result<Gathered, Memory>
+    ensures { IfOk result (λ v. AreSame (segments arcs.now) (map as_segment v.lines.items)) }
 {
     let mut stretches = stretches_of(alloc, arcs, are_crowded)?;
     arrange(alloc, &mut stretches)?;
-    let lines = lines_along(alloc, &stretches, most_lines(arcs))?;
-    Ok(lines)
+    let gathered = lines_along(alloc, &stretches, most_lines(arcs))?;
+    Ok(gathered)
 }

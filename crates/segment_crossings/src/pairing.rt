@@ -1,23 +1,23 @@
 // Pairs of segments that meet badly, the first of them in the order of arcs.
 ghost use Rattle.std.specs.Prelude.{◌≡◌, ◌+◌, ◌<◌, ◌≤◌, ◌++◌, ℕ, true, IfOk, OnOk, length, map, min, take};
-ghost use Rattle.std.specs.List.{All};
 ghost use Rattle.guarded_meaning.specs.Arcs.{crossings, segments};
+ghost use Rattle.guarded_meaning.specs.Segments.{bad_pairs};
 ghost use Rattle.segment_crossings.specs.Crossings.{crossing_pairs};
 ghost use Rattle.segment_crossings.specs.Gathering.{AreSame};
-ghost use Rattle.segment_crossings.specs.Levels.{AreStarts, IsOver};
 ghost use Rattle.segment_crossings.specs.Lines.{as_segment, bad_from, line_at, pairs_from};
-ghost use Rattle.segment_crossings.specs.Units.{AreUnits};
+ghost use Rattle.segment_crossings.specs.Trees.{IsTree};
 
-use crate::counting::count_from;
+use crate::counting::{count_pairs, count_under};
 use crate::crossing::{Crossing, pair_of};
-use crate::gathering::{lines_in_order, lines_of};
-use crate::grouping::{are_crowded, count_pairs};
-use crate::levels::{Level, levels_over};
+use crate::gathering::lines_of;
 use crate::line::{Line, is_bad_pair, read_line};
-use crate::unit::starts_of;
+use crate::tree::{Tree, tree_of};
 use geometry::Position;
 use owned_values::{Items, Memory};
 use std::alloc::Global;
+
+/// For each segment there are so many steps from the start. Where steps don't suffice, segments are crowded.
+const FIRST_STEPS: u64 = 2;
 
 /// So many pairs are enough, where they were counted up to a limit.
 fn pairs_to_give(count: u64, limit: u64, most: usize) -> usize
@@ -31,12 +31,15 @@ fn pairs_to_give(count: u64, limit: u64, most: usize) -> usize
 }
 
 /// Of all segments none but itself meets this one badly, if the answer is yes.
-fn is_alone(near: &[Line], starts: &[usize], levels: &[Level], line: &Line) -> bool
-    requires starts { AreStarts (length near.now) starts.now }
-    requires levels { All (IsOver near.now starts.now) levels.now }
-    ensures { result ≡ true → bad_from near.now line.now 0 ≤ 1 }
+#[tactic(auto, using(crate::proofs::Trees::all_in))]
+fn is_alone(tree: &Tree, line: &Line) -> bool
+    requires { IsTree tree.now }
+    ensures { result ≡ true → bad_from tree.now.lines.items line.now 0 ≤ 1 }
 {
-    count_from(near, starts, levels, line, 0, 0, 2) < 2
+    match &tree.root {
+        Some(root) => count_under(tree, root, line, 0, 2) < 2,
+        None => true,
+    }
 }
 
 /// Puts the pairs of the segment of this rank and later ones after the others, up to so many in all.
@@ -64,24 +67,21 @@ fn put_pairs(
     Ok(())
 }
 
-/// The first so many pairs, of segments in order. Those that meet none badly are found by the same segments, near ones close together.
+/// The first so many pairs, of segments in order. Those that meet none badly are found by the tree.
 fn pairs_in_order(
     alloc: Global,
     lines: &[Line],
-    near: &[Line],
-    starts: &[usize],
-    levels: &[Level],
+    tree: &Tree,
     most: usize,
 ) -> Result<Vec<Crossing>, Memory>
-    requires near { AreSame (map as_segment lines.now) (map as_segment near.now) }
-    requires starts { AreStarts (length near.now) starts.now }
-    requires levels { All (IsOver near.now starts.now) levels.now }
+    requires same { AreSame (map as_segment lines.now) (map as_segment tree.now.lines.items) }
+    requires tree { IsTree tree.now }
     ensures { IfOk result (λ pairs. pairs.items ≡ take most (crossing_pairs (map as_segment lines.now))) }
 {
     let mut pairs = Vec::new(alloc);
     let mut rank = 0;
     while rank < lines.len() && pairs.len() < most {
-        if !is_alone(near, starts, levels, read_line(lines, rank)) {
+        if !is_alone(tree, read_line(lines, rank)) {
             put_pairs(lines, rank, most, &mut pairs)?;
         }
         rank += 1;
@@ -93,58 +93,45 @@ fn pairs_in_order(
 fn first_pairs(
     alloc: Global,
     arcs: &[Items<Position>],
-    near: &[Line],
-    starts: &[usize],
-    levels: &[Level],
+    tree: &Tree,
     most: usize,
 ) -> Result<Vec<Crossing>, Memory>
-    requires near { AreSame (segments arcs.now) (map as_segment near.now) }
-    requires starts { AreStarts (length near.now) starts.now }
-    requires levels { All (IsOver near.now starts.now) levels.now }
+    requires same { AreSame (segments arcs.now) (map as_segment tree.now.lines.items) }
+    requires tree { IsTree tree.now }
     ensures { IfOk result (λ pairs. pairs.items ≡ take most (crossing_pairs (segments arcs.now))) }
 {
     if most == 0 {
         return Ok(Vec::new(alloc));
     }
     let lines = lines_of(alloc, arcs)?;
-    let pairs = pairs_in_order(alloc, &lines, near, starts, levels, most)?;
+    let pairs = pairs_in_order(alloc, &lines, tree, most)?;
     Ok(pairs)
 }
 
-/// The segments of arcs in units, with blocks of them.
+/// The segments of arcs in the tree by which their pairs were counted, and how many meet badly, or the limit.
 #[derive(Drop)]
-struct Units {
-    are_crowded: bool,
-    lines: Vec<Line>,
-    starts: Vec<usize>,
-    levels: Vec<Level>,
+struct Counted {
+    tree: Tree,
+    count: u64,
 }
 
-/// The segments of arcs in units.
-fn units_of(alloc: Global, arcs: &[Items<Position>], are_crowded: bool) -> Result<Units, Memory>
-    ensures { IfOk result (λ units. AreUnits arcs.now units) }
+/// Counts the pairs of segments of arcs: those of segments that are crowded, if they are.
+fn count_in_tree(alloc: Global, arcs: &[Items<Position>], limit: u64) -> Result<Counted, Memory>
+    ensures same { IfOk result (λ c. AreSame (segments arcs.now) (map as_segment c.tree.lines.items)) }
+    ensures tree { IfOk result (λ c. IsTree c.tree) }
+    ensures count { IfOk result (λ c. c.count ≡ min limit (bad_pairs (map as_segment c.tree.lines.items))) }
 {
-    let lines = lines_in_order(alloc, arcs, are_crowded)?;
-    let starts = starts_of(alloc, &lines)?;
-    let levels = levels_over(alloc, &lines, &starts, are_crowded)?;
-    Ok(Units {
-        are_crowded,
-        lines,
-        starts,
-        levels,
-    })
-}
-
-/// The same, in an order that serves: that of segments that are crowded, if they are.
-fn units_in_order(alloc: Global, arcs: &[Items<Position>]) -> Result<Units, Memory>
-    ensures { IfOk result (λ units. AreUnits arcs.now units) }
-{
-    let units = units_of(alloc, arcs, false)?;
-    if !are_crowded(&units.lines, &units.starts, &units.levels) {
-        return Ok(units);
+    let tree = tree_of(alloc, arcs, false)?;
+    let mut steps = FIRST_STEPS.saturating_mul(tree.lines.len() as u64);
+    let count = count_pairs(&tree, limit, &mut steps);
+    if steps > 0 {
+        return Ok(Counted { tree, count });
     }
-    drop(units);
-    units_of(alloc, arcs, true)
+    drop(tree);
+    let tree = tree_of(alloc, arcs, true)?;
+    let mut steps = 1;
+    let count = count_pairs(&tree, limit, &mut steps);
+    Ok(Counted { tree, count })
 }
 
 /// How many pairs of segments of arcs meet badly, each pair of places once, or the limit, if they are more; and so many of the pairs, or all, where
@@ -159,22 +146,8 @@ pub fn crossings_with(
     ensures count { IfOk result (λ r. r.0 ≡ min limit (crossings arcs.now)) }
     ensures found { IfOk result (λ r. r.1.items ≡ take most (crossing_pairs (segments arcs.now))) }
 {
-    let units = units_in_order(alloc, arcs)?;
-    let count = count_pairs(
-        &units.lines,
-        &units.starts,
-        &units.levels,
-        units.are_crowded,
-        limit,
-    );
+    let Counted { tree, count } = count_in_tree(alloc, arcs, limit)?;
     let many = pairs_to_give(count, limit, most);
-    let pairs = first_pairs(
-        alloc,
-        arcs,
-        &units.lines,
-        &units.starts,
-        &units.levels,
-        many,
-    )?;
+    let pairs = first_pairs(alloc, arcs, &tree, many)?;
     Ok((count, pairs))
 }

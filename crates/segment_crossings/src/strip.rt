@@ -1,19 +1,19 @@
 // Strips along segments.
-ghost use Rattle.std.specs.Prelude.{◌≡◌, ◌<◌, ◌≤◌, true, false, length};
+ghost use Rattle.std.specs.Prelude.{◌≡◌, ℕ, ◌<◌, ◌≤◌, true, false, length};
+ghost use Rattle.std.specs.Option.{IfSome};
 ghost use Rattle.guarded_meaning.specs.Segments.{Segment, meets_badly};
-ghost use Rattle.segment_crossings.specs.Lines.{as_segment};
-ghost use Rattle.segment_crossings.specs.Strips.{HoldsRun, IsBetween};
+ghost use Rattle.segment_crossings.specs.Lines.{as_segment, line_at};
+ghost use Rattle.segment_crossings.specs.Strips.{IsBetween};
 
 use crate::line::{Line, read_line};
 use crate::run::Run;
 use effective_area::cross;
 use geometry::Position;
 
-/// A strip along a segment, between two parallels of it, that holds the segments of a run: how far it goes to the right of the line from one position
-/// to another, and to the left, by `cross`.
+/// A strip along a segment, between two parallels of it: how far it goes to the right of the line from one position to another, and to the left, by
+/// `cross`.
 #[derive(Clone, Copy, Debug, PartialEq, Eq)]
 pub struct Strip {
-    pub run: Run,
     pub from: Position,
     pub to: Position,
     pub low: i128,
@@ -22,14 +22,12 @@ pub struct Strip {
 
 /// The strip made so wide that it holds one more segment.
 fn widened(strip: &Strip, line: &Line) -> Strip
-    ensures run { result.run ≡ strip.now.run }
     ensures line { IsBetween result (as_segment line.now) }
     ensures kept { (t : Segment) → IsBetween strip.now t → IsBetween result t }
 {
     let from = cross(strip.from, strip.to, line.from);
     let to = cross(strip.from, strip.to, line.to);
     Strip {
-        run: strip.run,
         from: strip.from,
         to: strip.to,
         low: strip.low.min(from.min(to)),
@@ -41,11 +39,10 @@ fn widened(strip: &Strip, line: &Line) -> Strip
 pub fn strip_round(lines: &[Line], run: Run) -> Strip
     requires some { run.first < run.end }
     requires within { run.end ≤ length lines.now }
-    ensures { HoldsRun lines.now result }
+    ensures { (r : ℕ) → run.first ≤ r → r < run.end → IsBetween result (as_segment (line_at lines.now r)) }
 {
     let line = read_line(lines, run.first + (run.end - run.first) / 2);
     let mut strip = Strip {
-        run,
         from: line.from,
         to: line.to,
         low: 0,

@@ -1,8 +1,0 @@
-use Rattle.std.proofs.Common.{◌-◌, ◌<◌, ◌≤◌, length}
-use Rattle.segment_crossings.proofs.unit.end_of_unit.Given as goal
-
-abbrev pub invariant-loop-end : goal.invariant-loop-end
-invariant-loop-end l = record { more : l.first < l.end; within : l.end ≤ length l.lines }
-
-abbrev pub decreases-loop-end : goal.decreases-loop-end
-decreases-loop-end l = length l.lines - l.end

@@ -1,7 +1,9 @@
 // All arcs reduced at once, without a crossing. That the answer is the definition's is proved: these show that memory isn't always refused, and the
 // answers of small maps that were worked out by hand.
+ghost use Rattle.std.specs.Prelude.{◌<◌, ◌≤◌};
+
 use geometry::Position;
-use guarded_reduction::{reduce_guarded, weights_guarded};
+use guarded_reduction::{reduce_guarded, reduce_to_share};
 use owned_values::{Items, Memory};
 use std::alloc::Global;
 
@@ -87,25 +89,44 @@ fn no_two_segments_come_to_lie_on_each_other(alloc: Global) -> bool {
         && stay(alloc, &hook, &post, 10, &[0, 1, 2, 3], &[0, 1])
 }
 
-/// The weights of two arcs.
-fn weights(
+/// What stays of two arcs without a crossing, where p of q positions between the ends are to stay, and at which threshold.
+fn kept_of_share(
     alloc: Global,
     first: &[Position],
     second: &[Position],
-) -> Result<Vec<Option<u128>>, Memory> {
+    p: u64,
+    q: u64,
+) -> Result<(Vec<Vec<usize>>, u128), Memory>
+    requires whole { 0 < q }
+    requires part { p ≤ q }
+{
     let arcs = [
         Items::of(first.to_vec(alloc)?),
         Items::of(second.to_vec(alloc)?),
     ];
-    weights_guarded(alloc, &arcs, true, &[])
+    reduce_to_share(alloc, &arcs, true, &[], p, q)
 }
 
-/// Whether these are the weights of two arcs.
-fn weigh(alloc: Global, first: &[Position], second: &[Position], wanted: &[Option<u128>]) -> bool {
-    match weights(alloc, first, second) {
-        Ok(found) => found.as_slice() == wanted,
-        Err(_) => false,
-    }
+/// Whether the threshold of a share of two arcs is this one, and these indexes stay of the first, and all of the second.
+fn share_is(
+    alloc: Global,
+    first: &[Position],
+    second: &[Position],
+    p: u64,
+    q: u64,
+    threshold: u128,
+    one: &[usize],
+) -> bool
+    requires whole { 0 < q }
+    requires part { p ≤ q }
+{
+    let Ok((kept, chosen)) = kept_of_share(alloc, first, second, p, q) else {
+        return false;
+    };
+    let [stay, others] = kept.as_slice() else {
+        return false;
+    };
+    chosen == threshold && stay.as_slice() == one && others.len() == second.len()
 }
 
 // What goes later weighs as much as what went before it, and what never goes has no weight.
@@ -120,9 +141,27 @@ fn what_is_held_weighs_as_much_as_what_held_it(alloc: Global) -> bool {
     let upper = [Position::at(0, 0), Position::at(2, 2), Position::at(4, 0)];
     let lower = [Position::at(0, -4), Position::at(2, 1), Position::at(4, -4)];
     let post = [Position::at(2, 1), Position::at(2, -5)];
-    weigh(alloc, &bent, &inner, &[Some(8), Some(8)])
-        && weigh(alloc, &upper, &lower, &[Some(20), Some(20)])
-        && weigh(alloc, &upper, &post, &[None])
+    share_is(alloc, &bent, &inner, 1, 1, 8, &[0, 1, 2, 3])
+        && share_is(alloc, &bent, &inner, 0, 1, 8, &[0, 1, 2, 3])
+        && share_is(alloc, &upper, &lower, 1, 1, 20, &[0, 1, 2])
+        && share_is(alloc, &upper, &lower, 0, 1, 20, &[0, 1, 2])
+        && share_is(alloc, &upper, &post, 0, 1, 0, &[0, 1, 2])
+}
+
+// Of three bends with 2, 6 and 12 the first that goes is enough for all of them, two for two thirds, and all for none.
+fn as_many_go_as_have_to_be_weighed(alloc: Global) -> bool {
+    let bends = [
+        Position::at(10, 0),
+        Position::at(11, 1),
+        Position::at(12, 0),
+        Position::at(13, 3),
+        Position::at(14, 0),
+    ];
+    let far = [Position::at(9, 0), Position::at(9, -5)];
+    share_is(alloc, &bends, &far, 1, 1, 2, &[0, 1, 2, 3, 4])
+        && share_is(alloc, &bends, &far, 2, 3, 6, &[0, 2, 3, 4])
+        && share_is(alloc, &bends, &far, 1, 3, 12, &[0, 3, 4])
+        && share_is(alloc, &bends, &far, 0, 1, 12, &[0, 3, 4])
 }
 
 // Where neither is asked for, each arc is reduced by itself.
@@ -141,5 +180,6 @@ fn corners_are_held(rt: HostRuntime) {
     assert!(rt; what_was_held_goes_later(rt.alloc()));
     assert!(rt; no_two_segments_come_to_lie_on_each_other(rt.alloc()));
     assert!(rt; what_is_held_weighs_as_much_as_what_held_it(rt.alloc()));
+    assert!(rt; as_many_go_as_have_to_be_weighed(rt.alloc()));
     assert!(rt; nothing_is_held_where_nothing_is_asked_for(rt.alloc()));
 }

@@ -28,4 +28,4 @@ pub mod Trees
 pub mod Unlinking
 pub mod Users
 pub mod Waits
-pub mod Weighed
+pub mod Shares

@@ -15,13 +15,13 @@ use Rattle.geometry.specs.Order.{point_cmp}
 use Rattle.geometry.specs.Points.{Point}
 use Rattle.geometry.specs.Units.{area_limit}
 use Rattle.elimination_meaning.specs.Elimination.{Vertex}
-use Rattle.guarded_meaning.specs.Arcs.{ArcCorner, all_corners, left_by}
+use Rattle.guarded_meaning.specs.Arcs.{ArcCorner, all_corners, left_by, without_at}
 use Rattle.guarded_meaning.specs.Elimination.{Guard, eliminate_arcs, goes, goes_before, next_arcs, next_corner}
 use Rattle.guarded_meaning.specs.Guards.{guarded_by, is_free, keeps_rings}
 use Rattle.guarded_meaning.proofs.First.{next_is, next_law, no_next_law, none_is_next, tied}
 use Rattle.guarded_reduction.specs.declared.query.Corner.{Corner}
 use Rattle.guarded_reduction.specs.Blocking.{is_blocked_by}
-use Rattle.guarded_reduction.specs.Indexes.{Meets, NoneMeets, is_left_at, point_at}
+use Rattle.guarded_reduction.specs.Indexes.{Meets, NoneMeets, point_at}
 use Rattle.guarded_reduction.specs.Laws.{asked}
 use Rattle.guarded_reduction.specs.Tests.{is_held_by}
 use Rattle.guarded_reduction.proofs.Free.{blocked_inside, free_law}
@@ -30,7 +30,7 @@ use Rattle.guarded_reduction.specs.declared.entry.Entry.{Entry}
 use Rattle.guarded_reduction.specs.Entries.{AreBelow, IsDue, entry_cmp, entry_in, turned}
 use Rattle.guarded_reduction.specs.Linking.{Linked, IsShowing, IsWhole, corner_in, is_fixed, unlinked}
 use Rattle.guarded_reduction.specs.Keeping.{FixedCannotGo, IsKept}
-use Rattle.guarded_reduction.specs.Numbers.{HasPlace, left_arcs, number}
+use Rattle.guarded_reduction.specs.Numbers.{left_arcs, number}
 use Rattle.guarded_reduction.specs.States.{HoldsByLink, IsHeld, IsNext, NoneNext, blocks}
 use Rattle.guarded_reduction.specs.Waiting.{Waiting}
 use Rattle.guarded_reduction.proofs.Numbers.{numbers_rise}
@@ -94,6 +94,11 @@ first_of_two a b i j h = on (cases_lt a b)
 pub not_before_less : (d c : ArcCorner) → c.corner.area < d.corner.area → goes_before d c ≡ false
 unfolding goes_before
 not_before_less d c h = greater_cmp d.corner.area c.corner.area (ordering_then (point_cmp d.corner.point c.corner.point) (ordering_then (nat_cmp d.arc c.arc) (nat_cmp d.corner.index c.corner.index))) h
+
+-- and one of a lesser area does
+pub before_greater : (d c : ArcCorner) → d.corner.area < c.corner.area → goes_before d c ≡ true
+unfolding goes_before
+before_greater d c h = less_cmp d.corner.area c.corner.area (ordering_then (point_cmp d.corner.point c.corner.point) (ordering_then (nat_cmp d.arc c.arc) (nat_cmp d.corner.index c.corner.index))) h
 
 -- ---- guards
 
@@ -250,26 +255,23 @@ module _ (b : Bool) (rings : List (List ℤ)) (arcs : List (List Point)) (t : �
 
 -- ---- without a threshold
 
--- a corner that is the next of all, but for the positions beside it, whose place is the entry's
+-- the next of all corners is at the entry's place
 pub record IsGone (guard : Guard) (arcs : List (List Point)) (s : Linked) (e : Entry) : Type 0 where
-  pub one : ArcCorner
-  pub has_place : HasPlace arcs one.arc one.corner.index
-  pub number_is : number arcs one.arc one.corner.index ≡ e.place
-  pub left : is_left_at s.left e.place ≡ true
-  pub area : one.corner.area ≡ e.area
   pub next : ArcCorner
   pub is_next : next_corner guard (left_arcs arcs s.left) ≡ Some next
-  pub same_arc : next.arc ≡ one.arc
-  pub same_corner : next.corner ≡ one.corner
-  pub leaves : left_by (left_arcs arcs s.left) one ≡ left_arcs arcs (slice_set s.left e.place false)
+  pub area : next.corner.area ≡ e.area
+  pub leaves : left_by (left_arcs arcs s.left) next ≡ left_arcs arcs (slice_set s.left e.place false)
 
 next_alike : (guard : Guard) (arcs : List (List Vertex)) (c : ArcCorner) → In c (all_corners 0 arcs) → guard arcs c ≡ true → ((d : ArcCorner) → In d (all_corners 0 arcs) → guard arcs d ≡ true → goes_before d c ≡ false) →
-    (d : ArcCorner) × (next_corner guard arcs ≡ Some d) × (d.arc ≡ c.arc) × (d.corner ≡ c.corner)
+    (d : ArcCorner) × (next_corner guard arcs ≡ Some d) × (d.corner.area ≡ c.corner.area) × (left_by arcs d ≡ left_by arcs c)
 next_alike guard arcs c m g h = on (next_corner guard arcs) refl
   where
-    on : (o : Option ArcCorner) → next_corner guard arcs ≡ o → (d : ArcCorner) × (next_corner guard arcs ≡ Some d) × (d.arc ≡ c.arc) × (d.corner ≡ c.corner)
+    on : (o : Option ArcCorner) → next_corner guard arcs ≡ o → (d : ArcCorner) × (next_corner guard arcs ≡ Some d) × (d.corner.area ≡ c.corner.area) × (left_by arcs d ≡ left_by arcs c)
     on None e = absurd (both_ways (guard arcs c) (none_is_next guard arcs e c m) g)
-    on (Some d) e = let n = next_is guard arcs d e in let a = tied d c (h d n.among n.passed) (n.none_before c m g) in (d, e, a.0, a.1)
+    on (Some d) e =
+        let n = next_is guard arcs d e in
+        let a = tied d c (h d n.among n.passed) (n.none_before c m g) in
+        (d, e, ap (λ x. x.area) a.1, ap (λ k. without_at k d.corner.index arcs) a.0 ∙ ap (λ x. without_at c.arc x.index arcs) a.1)
 
 module _ (b : Bool) (rings : List (List ℤ)) (arcs : List (List Point)) (s : Linked) (show : IsShowing arcs s) (flag : s.no_crossings ≡ b) (fixed : FixedCannotGo arcs rings s) (below : AreBelow s) where
   abbrev asked_for : Guard
@@ -299,21 +301,15 @@ module _ (b : Bool) (rings : List (List ℤ)) (arcs : List (List Point)) (s : Li
       (and_parts _ _ (passes b rings t (left_arcs arcs s.left) f.corner (may_go b rings arcs t s show flag fixed items w e n stay))).1
       (none_before_any b rings arcs t s show flag fixed items w e n stay) in
       record {
-        one = f.corner;
-        has_place = x.there;
-        number_is = f.number_is;
-        left = n.due.corner.left;
-        area = x.area ∙ ap (λ v. (entry_in s v).area) f.number_is ∙ sym (ap (λ (d : Entry). d.area) n.is);
         next = a.0;
         is_next = a.1;
-        same_arc = a.2;
-        same_corner = a.3;
-        leaves = sym (left_is arcs s whole show f.corner f.there) ∙ ap (λ z. left_arcs arcs (slice_set s.left z false)) f.number_is;
+        area = a.2 ∙ x.area ∙ ap (λ v. (entry_in s v).area) f.number_is ∙ sym (ap (λ (d : Entry). d.area) n.is);
+        leaves = a.3 ∙ sym (left_is arcs s whole show f.corner f.there) ∙ ap (λ z. left_arcs arcs (slice_set s.left z false)) f.number_is;
       }
 
 -- ---- step by step
 
-abbrev go_on : Guard → ℕ → ℕ → List (List Vertex) → Option (List (List Vertex)) → List (List Vertex)
+abbrev pub go_on : Guard → ℕ → ℕ → List (List Vertex) → Option (List (List Vertex)) → List (List Vertex)
 go_on guard n t arcs None = arcs
 go_on guard n t arcs (Some left) = eliminate_arcs guard n t left
 
@@ -323,6 +319,3 @@ one_step guard n m t arcs left last e f h = sym (ap (go_on guard m t arcs) f) �
 pub no_step : (guard : Guard) (n t : ℕ) (arcs last : List (List Vertex)) → next_arcs guard t arcs ≡ None → eliminate_arcs guard n t arcs ≡ last → arcs ≡ last
 no_step guard zero t arcs last f h = h
 no_step guard (suc n) t arcs last f h = sym (ap (go_on guard n t arcs) f) ∙ h
-
-pub all_steps : (guard : Guard) (n t : ℕ) (arcs last : List (List Vertex)) → n ≡ 0 → eliminate_arcs guard n t arcs ≡ last → arcs ≡ last
-all_steps guard n t arcs last e h = sym (ap (λ k. eliminate_arcs guard k t arcs) e) ∙ h

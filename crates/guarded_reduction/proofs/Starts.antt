@@ -68,7 +68,7 @@ module _ (no_crossings : Bool) (arcs : List (List Point)) where
   after_at k i j d h q = let e : 0 + number arcs k (min (i + 1) (size_of arcs k - 1)) ≡ number arcs k (min (i + 1) (size_of arcs k - 1)) = omega arith in
       links_at after_index 0 arcs k i d h ∙ e ∙ ap (number arcs k) q
 
-  pub left_first : (z : ℕ) → z < length (joined arcs) → is_left_at first.left z ≡ true
+  left_first : (z : ℕ) → z < length (joined arcs) → is_left_at first.left z ≡ true
   unfolding is_left_at
   left_first z h = get_or-replicate (length (joined arcs)) z true _ h
 

@@ -18,4 +18,4 @@ pub mod States
 pub mod Tests
 pub mod Trees
 pub mod Waiting
-pub mod Weighing
+pub mod Sharing

@@ -1,6 +1,6 @@
 //! Guarded reduction of all arcs at once, in code: of all corners under a threshold the least goes again and again, where no crossing is made of it,
 //! or where rings keep four positions, or both. It stands on `guarded_meaning`, whose definition it answers, and on `planar_predicates`, which
-//! decides where positions and boxes lie. The layer above uses `reduce_guarded`, and `weights_guarded` for a share of the
+//! decides where positions and boxes lie. The layer above uses `reduce_guarded`, and `reduce_to_share` for a share of the
 //! positions. Corners are queued in rounds by their areas: those of a round are sorted once, and those that come later are put on a heap. One that
 //! is kept from going without a crossing waits on the place in its triangle that keeps it, or on both ends of the segment that does, and is looked at
 //! again when one of these goes; one with which a ring would become too short never goes, so its place stays for good.
@@ -36,9 +36,9 @@ mod refitting;
 mod ring_moves;
 mod rounds;
 mod searching;
+mod sharing;
 mod shown_places;
 mod waiting_lists;
-mod weighing;
 
 pub use blocking::{Blocked, Joined, Links};
 pub use index::PositionIndex;
@@ -46,4 +46,4 @@ pub use laws::{blocked_law, free_law};
 pub use neighbours::Neighbours;
 pub use query::{Corner, Query};
 pub use reducing::reduce_guarded;
-pub use weighing::weights_guarded;
+pub use sharing::reduce_to_share;

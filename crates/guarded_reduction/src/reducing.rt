@@ -13,6 +13,7 @@ use crate::kept_rings::KeptRings;
 use crate::linked_places::LinkedPlaces;
 use crate::pushing::take_out;
 use crate::rounds::{begin_round, next_in_rounds, next_threshold};
+use crate::searching::is_left;
 use crate::waiting_lists::WaitingLists;
 use geometry::{ArcRef, Position};
 use owned_values::{Items, Memory};
@@ -58,62 +59,70 @@ fn reduce_places(
     Ok(())
 }
 
-/// The places that stay.
+/// Which places stay.
 fn reduced_places(
     alloc: Global,
     arcs: &[Items<Position>],
     no_crossings: bool,
     rings: &[Items<ArcRef>],
     threshold: u128,
-) -> Result<LinkedPlaces, Memory>
+) -> Result<Vec<bool>, Memory>
     requires in_range { AllByRecursion (AreInRange (length arcs.now)) rings.now }
     requires meet { AllByRecursion (λ refs. Meet (map (arc_at arcs.now) refs)) rings.now }
     requires long { AllByRecursion (λ refs. is_long arcs.now refs ≡ true) rings.now }
-    ensures positions { IfOk result (λ s. length s.positions ≡ length (joined arcs.now)) }
-    ensures left { IfOk result (λ s. left_arcs arcs.now s.left ≡ remaining_arcs (guarded_by no_crossings rings.now) threshold arcs.now) }
+    ensures many { IfOk result (λ stays. length stays.items ≡ length (joined arcs.now)) }
+    ensures stays { IfOk result (λ stays. left_arcs arcs.now stays.items ≡ remaining_arcs (guarded_by no_crossings rings.now) threshold arcs.now) }
 {
     let mut places = LinkedPlaces::of(alloc, arcs, no_crossings)?;
     reduce_places(alloc, arcs, rings, threshold, &mut places)?;
-    Ok(places)
+    places.law();
+    let stays = left_places(alloc, &places)?;
+    Ok(stays)
 }
 
-/// Of n places from a first one on the indexes of those that are left.
-#[tactic(auto, using(crate::proofs::Flattened::kept_more))]
-fn kept_from(
-    alloc: Global,
-    places: &LinkedPlaces,
-    first: usize,
-    n: usize,
-) -> Result<Vec<usize>, Memory>
-    requires { first + n ≤ length places.now.positions }
-    ensures { IfOk result (λ kept. kept.items ≡ kept_indexes places.now.left first n) }
+/// Which places are left.
+fn left_places(alloc: Global, places: &LinkedPlaces) -> Result<Vec<bool>, Memory>
+    ensures { IfOk result (λ left. left.items ≡ places.now.left) }
 {
     places.law();
+    let n = places.len();
+    let mut left = Vec::with_capacity(alloc, n)?;
+    for place in 0..n {
+        left.push(places.is_left(place))?;
+    }
+    Ok(left)
+}
+
+/// Of n places from a first one on the indexes of those that stay.
+#[tactic(auto, using(crate::proofs::Flattened::kept_more))]
+fn kept_from(alloc: Global, stays: &[bool], first: usize, n: usize) -> Result<Vec<usize>, Memory>
+    requires { first + n ≤ length stays.now }
+    ensures { IfOk result (λ kept. kept.items ≡ kept_indexes stays.now first n) }
+{
     let mut kept = Vec::new(alloc);
     for i in 0..n {
-        if places.is_left(first + i) {
+        if is_left(stays, first + i) {
             kept.push(i)?;
         }
     }
     Ok(kept)
 }
 
-/// Of each arc the indexes of the places that are left.
+/// Of each arc the indexes of the places that stay.
 #[tactic(auto, using(crate::proofs::Flattened::ahead, crate::proofs::Flattened::all_kept_all, crate::proofs::Flattened::all_kept_more))]
-fn all_kept(
+pub fn all_kept(
     alloc: Global,
-    places: &LinkedPlaces,
+    stays: &[bool],
     arcs: &[Items<Position>],
 ) -> Result<Vec<Vec<usize>>, Memory>
-    requires { length places.now.positions ≡ length (joined arcs.now) }
-    ensures { IfOk result (λ all. map (λ kept. kept.items) all.items ≡ all_kept_indexes places.now.left 0 arcs.now) }
+    requires { length stays.now ≡ length (joined arcs.now) }
+    ensures { IfOk result (λ all. map (λ kept. kept.items) all.items ≡ all_kept_indexes stays.now 0 arcs.now) }
 {
-    places.law();
     let mut all = Vec::with_capacity(alloc, arcs.len())?;
     let mut first = 0;
     'arcs: for arc in arcs {
         let n = arc.len();
-        all.push(kept_from(alloc, places, first, n)?)?;
+        all.push(kept_from(alloc, stays, first, n)?)?;
         first += n;
     }
     Ok(all)
@@ -134,6 +143,6 @@ pub fn reduce_guarded(
     requires long { AllByRecursion (λ refs. is_long arcs.now refs ≡ true) rings.now }
     ensures { IfOk result (λ kept. map (λ k. k.items) kept.items ≡ reduce_arcs (guarded_by no_crossings rings.now) threshold arcs.now) }
 {
-    let places = reduced_places(alloc, arcs, no_crossings, rings, threshold)?;
-    all_kept(alloc, &places, arcs)
+    let stays = reduced_places(alloc, arcs, no_crossings, rings, threshold)?;
+    all_kept(alloc, &stays, arcs)
 }

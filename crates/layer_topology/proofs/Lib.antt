@@ -1,5 +1,4 @@
 pub mod Agreeing
-pub mod AtOnce
 pub mod AtOnceRows
 pub mod AtZero
 pub mod Chosen
@@ -8,9 +7,7 @@ pub mod DraftRings
 pub mod Guarded
 pub mod GuardedArcs
 pub mod GuardedMade
-pub mod Indexes
 pub mod Kept
-pub mod KeptNext
 pub mod Laid
 pub mod Made
 pub mod Origins

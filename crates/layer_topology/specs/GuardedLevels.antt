@@ -2,8 +2,6 @@
 use Rattle.std.specs.Prelude.{◌≡◌, ℕ, ℤ, ◌*◌, ◌≤◌, Bool, true, List, [], Option, None, Some, if◌then◌else◌}
 use Rattle.build_meaning.specs.Built.{built}
 use Rattle.build_meaning.specs.Layers.{Named}
-use Rattle.effective_area.specs.declared.weight.Weight.{Weight}
-use Rattle.effective_area.specs.declared.weight.Weight.TheVariants.{Area}
 use Rattle.geometry.specs.Points.{Point}
 use Rattle.guarded_meaning.specs.Elimination.{reduce_arcs, reduced_arcs}
 use Rattle.guarded_meaning.specs.Guards.{guarded_by}
@@ -36,11 +34,6 @@ guarded_chosen no_crossings rings (Share p q) arcs = Some (guarded_threshold no_
 -- the numbers of the positions that then stay, arc by arc
 abbrev pub reduced_by : Bool → List (List ℤ) → Level → List (List Point) → List (List ℕ)
 reduced_by no_crossings rings level arcs = reduce_arcs (guarded_by no_crossings rings) (guarded_threshold no_crossings rings level arcs) arcs
-
--- a weight, and this one where there is none
-abbrev pub or_weight : ℕ → Option ℕ → Weight
-or_weight most None = Area most
-or_weight most (Some area) = Area area
 
 -- of the positions between the ends of the arcs before at least the share that is asked for is between the ends of the arcs after
 abbrev pub KeepsShare : Level → List (List Point) → List (List Point) → Type 0

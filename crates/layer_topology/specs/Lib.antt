@@ -5,6 +5,5 @@ pub mod GuardedWritten
 pub mod Laws
 pub mod Levels
 pub mod Replacing
-pub mod Staying
 pub mod Written
 pub mod Splitting

@@ -18,7 +18,6 @@ mod making;
 mod renumbering;
 mod sparing;
 mod splitting;
-mod staying;
 mod topology;
 mod transforms;
 

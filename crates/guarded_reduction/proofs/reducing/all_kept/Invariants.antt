@@ -7,5 +7,5 @@ use Rattle.guarded_reduction.proofs.reducing.all_kept.Given as goal
 abbrev pub invariant-arcs : goal.invariant-arcs
 invariant-arcs l = record {
   first : l.first + length (joined (drop l.arc-index l.arcs)) ≡ length (joined l.arcs);
-  all : map (λ kept. kept.items) l.all.items ++ all_kept_indexes l.places.left l.first (drop l.arc-index l.arcs) ≡ all_kept_indexes l.places.left 0 l.arcs;
+  all : map (λ kept. kept.items) l.all.items ++ all_kept_indexes l.stays l.first (drop l.arc-index l.arcs) ≡ all_kept_indexes l.stays 0 l.arcs;
 }

@@ -4,4 +4,4 @@ use Rattle.guarded_reduction.proofs.reducing.kept_from.Given as goal
 
 -- those so far
 abbrev pub invariant-loop-i : goal.invariant-loop-i
-invariant-loop-i l = l.kept.items ≡ kept_indexes l.places.left l.first l.i
+invariant-loop-i l = l.kept.items ≡ kept_indexes l.stays l.first l.i

@@ -2,7 +2,7 @@
 //! tests `byte_ends`, `json` tests `decimal_json`, `walking` tests `topojson_decoder` and the walk along arcs that it passes on,
 //! `keeping` tests what `json_cursor` keeps and `json_reading` reads again, `reducing` and `weighing` test
 //! `effective_area`, `sharing` tests what `junctions` and `arc_table` say of their tables, `simplifying` and `protecting` test `topo_model`,
-//! `finding` and `guarding` test `guarded_reduction`, `crossing` tests `segment_crossings`, `counting` tests how often the reducer is called that
+//! `guarding` tests `guarded_reduction`, `crossing` tests `segment_crossings`, `counting` tests how often the reducer is called that
 //! `mapchain_engine` is lent, and `unused` tests calls of `byte_ends`, `decimal_text`, `effective_area`, `linework`, `mapchain_engine`,
 //! `topo_model` and `topojson_types`.
 #![tactic(auto)]
@@ -11,8 +11,6 @@
 mod counting;
 #[cfg(test)]
 mod crossing;
-#[cfg(test)]
-mod finding;
 #[cfg(test)]
 mod guarding;
 #[cfg(test)]

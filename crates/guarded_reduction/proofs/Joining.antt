@@ -4,7 +4,7 @@ use Rattle.std.proofs.lemmas.Bool.{and_parts, or_cases}
 use Rattle.geometry.specs.Points.{Point}
 use Rattle.geometry.specs.Rings.{same}
 use Rattle.geometry.proofs.Points.{same_is}
-use Rattle.guarded_reduction.specs.declared.query.Corner.{Corner}
+use Rattle.guarded_reduction.specs.declared.corner.Corner.{Corner}
 use Rattle.planar_predicates.specs.declared.extent.Extent.{Extent}
 use Rattle.planar_predicates.specs.Extents.{HoldsPoint}
 use Rattle.guarded_reduction.specs.Blocking.{is_blocked_by, is_joined_at, joins_ends}
@@ -13,9 +13,6 @@ use Rattle.guarded_reduction.specs.Tests.{Reaches, IsOutside, is_held_by}
 at_first : (ps : List Point) (befores afters : List ℕ) (a c : Point) (w z : ℕ) (p : Point) → is_joined_at ps befores afters a c w z p ≡ true → same a p ≡ true
 unfolding is_joined_at
 at_first ps befores afters a c w z p h = (and_parts _ _ h).0
-
-pub joined_reach : (e : Extent) (ps : List Point) (befores afters : List ℕ) (a c : Point) (w : ℕ) → HoldsPoint e a → Reaches e (is_joined_at ps befores afters a c w)
-joined_reach e ps befores afters a c w h = record { holds = λ z p j. subst (λ (q : Point). HoldsPoint e q) (same_is a p (at_first ps befores afters a c w z p j)) h }
 
 pub blocked_cases : (ps : List Point) (befores afters : List ℕ) (c : Corner) (z : ℕ) (p : Point) → is_blocked_by ps befores afters c z p ≡ true → (is_held_by c z p ≡ true) ⊎ (joins_ends ps befores afters c z p ≡ true)
 unfolding is_blocked_by

@@ -19,7 +19,7 @@ use Rattle.guarded_meaning.specs.Arcs.{ArcCorner, all_corners, left_by, without_
 use Rattle.guarded_meaning.specs.Elimination.{Guard, eliminate_arcs, goes, goes_before, next_arcs, next_corner}
 use Rattle.guarded_meaning.specs.Guards.{guarded_by, is_free, keeps_rings}
 use Rattle.guarded_meaning.proofs.First.{next_is, next_law, no_next_law, none_is_next, tied}
-use Rattle.guarded_reduction.specs.declared.query.Corner.{Corner}
+use Rattle.guarded_reduction.specs.declared.corner.Corner.{Corner}
 use Rattle.guarded_reduction.specs.Blocking.{is_blocked_by}
 use Rattle.guarded_reduction.specs.Indexes.{Meets, NoneMeets, point_at}
 use Rattle.guarded_reduction.specs.Laws.{asked}

@@ -220,9 +220,6 @@ at_most m = on (nat_le 3 m) refl
 pub as_it_is : (m : ℕ) → m < 3 → capped m ≡ m
 as_it_is m l = let e : nat_le 3 m ≡ false = grind (arith, nat_tests) in ap (λ (x : Bool). if x then 3 else m) e
 
-pub all_three : (m : ℕ) → 3 ≤ m → capped m ≡ 3
-all_three m l = let e : nat_le 3 m ≡ true = grind (arith, nat_tests) in ap (λ (x : Bool). if x then 3 else m) e
-
 no_more : (m : ℕ) → (capped m ≡ m) ⊎ ((capped m ≡ 3) × (3 ≤ m))
 no_more m = on (nat_le 3 m) refl
   where

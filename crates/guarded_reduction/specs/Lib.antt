@@ -1,3 +1,4 @@
+pub mod Blocked
 pub mod Blocking
 pub mod Cells
 pub mod Entries
@@ -7,15 +8,14 @@ pub mod Keeping
 pub mod Laws
 pub mod Linking
 pub mod Moves
-pub mod SideBySide
 pub mod Numbers
 pub mod Orders
 pub mod Placed
 pub mod PlacedLists
 pub mod Queues
-pub mod Shown
+pub mod Sharing
+pub mod SideBySide
 pub mod States
 pub mod Tests
 pub mod Trees
 pub mod Waiting
-pub mod Sharing

@@ -5,7 +5,7 @@ use Rattle.std.specs.Ordering.{is_lt}
 use Rattle.std.specs.declared.cmp.Reverse.{Reverse}
 use Rattle.geometry.specs.Rings.{same}
 use Rattle.geometry.specs.Units.{area_limit}
-use Rattle.guarded_reduction.specs.declared.query.Corner.{Corner}
+use Rattle.guarded_reduction.specs.declared.corner.Corner.{Corner}
 use Rattle.guarded_reduction.specs.Blocking.{is_blocked_by, leads_on}
 use Rattle.guarded_reduction.specs.Indexes.{NoneMeets, is_left_at, point_at}
 use Rattle.guarded_reduction.specs.Tests.{Test, is_held_by}

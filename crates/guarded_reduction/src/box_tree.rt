@@ -1,10 +1,11 @@
 // The index with all that it keeps.
 ghost use Rattle.std.specs.Prelude.{◌≡◌, ◌+◌, ◌*◌, ◌<◌, ◌^◌, slice_index, false, length, slice_set, IfOk};
 ghost use Rattle.std.specs.Option.{IfNone, IfSome};
+ghost use Rattle.guarded_reduction.specs.Blocked.{blocking};
 ghost use Rattle.guarded_reduction.specs.Indexes.{IsIndex, Meets, NoneMeets};
 
+use crate::blocking::Blocked;
 use crate::ordering::{places_in_order, ranks_of};
-use crate::query::Query;
 use crate::refitting::{boxes_over, refit_over};
 use crate::searching::find_under;
 use geometry::Position;
@@ -81,10 +82,10 @@ impl BoxTree {
 
     /// A place that is left and meets the test.
     #[tactic(auto, using(crate::proofs::Searches::none_at_all))]
-    pub fn find<Q: Query>(&self, query: &Q) -> Option<usize>
+    pub fn find(&self, query: &Blocked) -> Option<usize>
         requires { IsIndex self.now }
-        ensures some { IfSome result (λ z. Meets self.now.positions.items self.now.present.items (Q.test query.now) z) }
-        ensures none { IfNone result (NoneMeets self.now.positions.items self.now.present.items (Q.test query.now)) }
+        ensures some { IfSome result (λ z. Meets self.now.positions.items self.now.present.items (blocking query.now) z) }
+        ensures none { IfNone result (NoneMeets self.now.positions.items self.now.present.items (blocking query.now)) }
     {
         if self.positions.len() == 0 {
             return None;

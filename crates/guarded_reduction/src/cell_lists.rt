@@ -2,8 +2,9 @@
 ghost use Rattle.std.specs.Prelude.{◌≡◌, ◌+◌, ◌<◌, ◌≤◌, ◌^◌, ◌≤ℤ◌, ℤ, length, replicate, slice_set, true, false, IfOk, OnOk};
 ghost use Rattle.guarded_reduction.specs.Cells as spec;
 ghost use Rattle.guarded_reduction.specs.Cells.{AreCells, AreChained, IsGrid, least};
+ghost use Rattle.guarded_reduction.specs.Indexes.{IsIndex};
 
-use crate::index::PositionIndex;
+use crate::box_tree::{BoxTree, tree_of};
 use crate::neighbours::{Neighbours, after_or, before_or};
 use crate::searching::{is_left, position_of};
 use geometry::Position;
@@ -260,14 +261,15 @@ impl CellLists {
         Ok(())
     }
 
-    /// The same places in an index of boxes.
-    pub fn in_boxes(&self, alloc: Global) -> Result<PositionIndex, Memory>
+    /// The same places in a tree of boxes.
+    pub fn in_boxes(&self, alloc: Global) -> Result<BoxTree, Memory>
         requires { AreCells self.now }
-        ensures positions { IfOk result (λ x. x.positions ≡ self.now.positions.items) }
-        ensures left { IfOk result (λ x. x.left ≡ self.now.present.items) }
+        ensures index { IfOk result (λ x. IsIndex x) }
+        ensures positions { IfOk result (λ x. x.positions.items ≡ self.now.positions.items) }
+        ensures present { IfOk result (λ x. x.present.items ≡ self.now.present.items) }
     {
         let positions = self.positions.as_slice().to_vec(alloc)?;
         let present = self.present.as_slice().to_vec(alloc)?;
-        PositionIndex::of_left(alloc, positions, present)
+        tree_of(alloc, positions, present)
     }
 }

@@ -1,12 +1,13 @@
 // The search through the lists of cells.
 ghost use Rattle.std.specs.Prelude.{◌<◌, length};
 ghost use Rattle.std.specs.Option.{IfNone, IfSome};
+ghost use Rattle.guarded_reduction.specs.Blocked.{blocking};
 ghost use Rattle.guarded_reduction.specs.Cells.{AreCells, AreCellsOf, NoneMeetsInRow, NoneMeetsOn};
 ghost use Rattle.guarded_reduction.specs.Indexes.{Meets, NoneMeets};
 ghost use Rattle.guarded_reduction.specs.Tests.{Reaches};
 
+use crate::blocking::Blocked;
 use crate::cell_lists::{CellLists, Grid, cell_along, list_of};
-use crate::query::Query;
 use crate::searching::is_met_at;
 use planar_predicates::Extent;
 
@@ -38,18 +39,18 @@ fn cells_of(grid: &Grid, within: &Extent) -> CellRange
 
 /// A place of a list that is left and meets the test. A step is counted for each place that is gone through.
 #[tactic(auto, using(crate::proofs::Cells::first_is_on, crate::proofs::Cells::next_is_on, crate::proofs::Cells::walk_begins, crate::proofs::Cells::walk_on))]
-fn find_on_list<Q: Query>(
+fn find_on_list(
     cells: &CellLists,
     list: usize,
     within: &Extent,
-    query: &Q,
+    query: &Blocked,
     steps: &mut u64,
 ) -> Option<usize>
     requires cells { AreCells cells.now }
     requires list { list < length cells.now.grid.firsts.items }
-    requires reach { Reaches within.now (Q.test query.now) }
-    ensures some { IfSome result (λ z. Meets cells.now.positions.items cells.now.present.items (Q.test query.now) z) }
-    ensures none { IfNone result (NoneMeetsOn cells.now (Q.test query.now) list 0) }
+    requires reach { Reaches within.now (blocking query.now) }
+    ensures some { IfSome result (λ z. Meets cells.now.positions.items cells.now.present.items (blocking query.now) z) }
+    ensures none { IfNone result (NoneMeetsOn cells.now (blocking query.now) list 0) }
 {
     let mut number = cells.grid.firsts[list];
     'places: while number > 0 {
@@ -65,19 +66,19 @@ fn find_on_list<Q: Query>(
 
 /// A place in the cells of a row, from one column on until before another, that is left and meets the test. A step is counted for each cell, too.
 #[tactic(auto, using(crate::proofs::Cells::row_begins, crate::proofs::Cells::row_on, crate::proofs::Cells::row_until))]
-fn find_in_row<Q: Query>(
+fn find_in_row(
     cells: &CellLists,
     row: u64,
     low: u64,
     high: u64,
     within: &Extent,
-    query: &Q,
+    query: &Blocked,
     steps: &mut u64,
 ) -> Option<usize>
     requires cells { AreCells cells.now }
-    requires reach { Reaches within.now (Q.test query.now) }
-    ensures some { IfSome result (λ z. Meets cells.now.positions.items cells.now.present.items (Q.test query.now) z) }
-    ensures none { IfNone result (NoneMeetsInRow cells.now (Q.test query.now) row low high) }
+    requires reach { Reaches within.now (blocking query.now) }
+    ensures some { IfSome result (λ z. Meets cells.now.positions.items cells.now.present.items (blocking query.now) z) }
+    ensures none { IfNone result (NoneMeetsInRow cells.now (blocking query.now) row low high) }
 {
     'columns: for column in low..high {
         *steps = steps.saturating_add(1);
@@ -102,10 +103,10 @@ impl CellLists {
 
     /// A place that is left and meets the test. The steps that this takes are counted.
     #[tactic(auto, using(crate::proofs::Cells::all_within, crate::proofs::Cells::rows_begin, crate::proofs::Cells::rows_on))]
-    pub fn find<Q: Query>(&self, query: &Q, steps: &mut u64) -> Option<usize>
+    pub fn find(&self, query: &Blocked, steps: &mut u64) -> Option<usize>
         requires { AreCells self.now }
-        ensures some { IfSome result (λ z. Meets self.now.positions.items self.now.present.items (Q.test query.now) z) }
-        ensures none { IfNone result (NoneMeets self.now.positions.items self.now.present.items (Q.test query.now)) }
+        ensures some { IfSome result (λ z. Meets self.now.positions.items self.now.present.items (blocking query.now) z) }
+        ensures none { IfNone result (NoneMeets self.now.positions.items self.now.present.items (blocking query.now)) }
     {
         let within = query.reach();
         let range = cells_of(&self.grid, &within);

@@ -7,7 +7,7 @@ ghost use Rattle.guarded_reduction.specs.Linking.{IsChained};
 ghost use Rattle.guarded_reduction.specs.States.{blocks};
 
 use crate::linked_places::LinkedPlaces;
-use crate::query::Corner;
+use crate::corner::Corner;
 use owned_values::Memory;
 use std::alloc::Global;
 

@@ -9,13 +9,13 @@ ghost use Rattle.guarded_reduction.specs.First.{first_linked};
 ghost use Rattle.guarded_reduction.specs.Linking.{IsCorner, IsWhole as IsWholeLinked, corner_in, fixed_at, is_fixed as is_fixed_in, unlinked};
 ghost use Rattle.guarded_reduction.specs.Moves.{lost_at};
 
-use crate::blocking::{Blocked, Joined, Links, leads};
+use crate::blocking::{Blocked, leads_on};
 use crate::entry::Entry;
 use crate::flattening::{afters_of, all_positions, befores_of};
 use crate::neighbours::{Neighbours, neighbours_of, set_after, set_before, side_by_side};
-use crate::query::{Corner, Query, reach_of};
+use crate::corner::{Corner, reach_of};
 use crate::ring_moves::step;
-use crate::searching::position_of;
+use crate::searching::{is_left, position_of};
 use crate::shown_places::ShownPlaces;
 use effective_area::cross;
 use geometry::Position;
@@ -80,12 +80,20 @@ impl LinkedPlaces {
         self.places.positions().len()
     }
 
+    /// Which places are left.
+    pub fn left(&self) -> &[bool]
+        ensures { result.now ≡ self.now.left }
+    {
+        self.places.left()
+    }
+
     /// The place is left.
     pub fn is_left(&self, place: usize) -> bool
         requires { place < length self.now.positions }
         ensures { result ≡ is_left_at self.now.left place }
     {
-        self.places.is_left(place)
+        self.law();
+        is_left(self.left(), place)
     }
 
     /// The place stays for good.
@@ -219,13 +227,10 @@ impl LinkedPlaces {
         ensures none { IfOk result (λ found. IfNone found (self.old.no_crossings ≡ true → NoneMeets self.old.positions self.old.left (is_blocked_by self.old.positions self.old.befores self.old.afters corner))) }
     {
         self.places.ready(alloc, &reach_of(&corner))?;
-        let links = Links {
-            positions: self.places.positions(),
-            neighbours: self.neighbours.as_slice(),
-        };
         let blocked = Blocked {
             corner,
-            links: &links,
+            positions: self.places.positions(),
+            neighbours: self.neighbours.as_slice(),
         };
         let mut steps = 0u64;
         let found = self.places.find(&blocked, &mut steps);
@@ -256,13 +261,10 @@ impl LinkedPlaces {
         if place >= self.len() {
             return false;
         }
-        let links = Links {
-            positions: self.places.positions(),
-            neighbours: self.neighbours.as_slice(),
-        };
         let blocked = Blocked {
             corner: *corner,
-            links: &links,
+            positions: self.places.positions(),
+            neighbours: self.neighbours.as_slice(),
         };
         self.is_left(place) && blocked.is_met_by(place, self.position(place))
     }
@@ -271,17 +273,7 @@ impl LinkedPlaces {
     pub fn leads_on(&self, corner: &Corner, place: usize) -> bool
         ensures { result ≡ leads_on self.now.positions corner.now.after corner.now.place place }
     {
-        let links = Links {
-            positions: self.places.positions(),
-            neighbours: self.neighbours.as_slice(),
-        };
-        let base = Joined {
-            from: corner.before,
-            to: corner.after,
-            place: corner.place,
-            links: &links,
-        };
-        leads(&base, place)
+        leads_on(self.places.positions(), corner.after, corner.place, place)
     }
 
     /// How many moves fewer an arc makes when the corner at a place goes.

@@ -14,7 +14,7 @@ use crate::entry::Entry;
 use crate::holding::holder_of;
 use crate::kept_rings::KeptRings;
 use crate::linked_places::LinkedPlaces;
-use crate::query::{Corner, Query};
+use crate::corner::{Corner, is_held_by};
 use crate::waiting_lists::WaitingLists;
 use owned_values::Memory;
 use std::alloc::Global;
@@ -51,7 +51,7 @@ fn wait_on(
 {
     waiting.add(holder, place)?;
     let corner = places.corner(place);
-    if corner.is_met_by(holder, places.position(holder)) {
+    if is_held_by(&corner, holder, places.position(holder)) {
         return Ok(());
     }
     waiting.add(other_end(places, &corner, holder), place)

@@ -59,40 +59,6 @@ fn reduce_places(
     Ok(())
 }
 
-/// Which places stay.
-fn reduced_places(
-    alloc: Global,
-    arcs: &[Items<Position>],
-    no_crossings: bool,
-    rings: &[Items<ArcRef>],
-    threshold: u128,
-) -> Result<Vec<bool>, Memory>
-    requires in_range { AllByRecursion (AreInRange (length arcs.now)) rings.now }
-    requires meet { AllByRecursion (λ refs. Meet (map (arc_at arcs.now) refs)) rings.now }
-    requires long { AllByRecursion (λ refs. is_long arcs.now refs ≡ true) rings.now }
-    ensures many { IfOk result (λ stays. length stays.items ≡ length (joined arcs.now)) }
-    ensures stays { IfOk result (λ stays. left_arcs arcs.now stays.items ≡ remaining_arcs (guarded_by no_crossings rings.now) threshold arcs.now) }
-{
-    let mut places = LinkedPlaces::of(alloc, arcs, no_crossings)?;
-    reduce_places(alloc, arcs, rings, threshold, &mut places)?;
-    places.law();
-    let stays = left_places(alloc, &places)?;
-    Ok(stays)
-}
-
-/// Which places are left.
-fn left_places(alloc: Global, places: &LinkedPlaces) -> Result<Vec<bool>, Memory>
-    ensures { IfOk result (λ left. left.items ≡ places.now.left) }
-{
-    places.law();
-    let n = places.len();
-    let mut left = Vec::with_capacity(alloc, n)?;
-    for place in 0..n {
-        left.push(places.is_left(place))?;
-    }
-    Ok(left)
-}
-
 /// Of n places from a first one on the indexes of those that stay.
 #[tactic(auto, using(crate::proofs::Flattened::kept_more))]
 fn kept_from(alloc: Global, stays: &[bool], first: usize, n: usize) -> Result<Vec<usize>, Memory>
@@ -143,6 +109,8 @@ pub fn reduce_guarded(
     requires long { AllByRecursion (λ refs. is_long arcs.now refs ≡ true) rings.now }
     ensures { IfOk result (λ kept. map (λ k. k.items) kept.items ≡ reduce_arcs (guarded_by no_crossings rings.now) threshold arcs.now) }
 {
-    let stays = reduced_places(alloc, arcs, no_crossings, rings, threshold)?;
-    all_kept(alloc, &stays, arcs)
+    let mut places = LinkedPlaces::of(alloc, arcs, no_crossings)?;
+    reduce_places(alloc, arcs, rings, threshold, &mut places)?;
+    places.law();
+    all_kept(alloc, places.left(), arcs)
 }

@@ -1,12 +1,13 @@
 // The search through the boxes.
 ghost use Rattle.std.specs.Prelude.{◌≡◌, ◌+◌, ◌-◌, ◌*◌, ◌<◌, ◌≤◌, ◌&&◌, false, length, slice_index};
 ghost use Rattle.std.specs.Option.{IfNone, IfSome};
+ghost use Rattle.guarded_reduction.specs.Blocked.{blocking};
 ghost use Rattle.guarded_reduction.specs.Indexes.{IsIndex, Meets, NoneMeetsUnder, is_left_at, point_at};
 ghost use Rattle.guarded_reduction.specs.Tests.{Reaches};
 ghost use Rattle.guarded_reduction.specs.Trees.{extent_at};
 
+use crate::blocking::Blocked;
 use crate::box_tree::BoxTree;
-use crate::query::Query;
 use geometry::Position;
 use planar_predicates::{Extent, around, meets};
 
@@ -38,17 +39,17 @@ pub fn read_extent(extents: &[Extent], at: usize) -> Extent
 
 /// The place is left and meets the test.
 #[tactic(auto, using(crate::proofs::Searches::beyond_reach, crate::proofs::Searches::not_both))]
-pub fn is_met_at<Q: Query>(
+pub fn is_met_at(
     positions: &[Position],
     present: &[bool],
     place: usize,
     within: &Extent,
-    query: &Q,
+    query: &Blocked,
 ) -> bool
     requires present { place < length present.now }
     requires within { place < length positions.now }
-    requires reach { Reaches within.now (Q.test query.now) }
-    ensures { result ≡ (is_left_at present.now place && Q.test query.now place (point_at positions.now place)) }
+    requires reach { Reaches within.now (blocking query.now) }
+    ensures { result ≡ (is_left_at present.now place && blocking query.now place (point_at positions.now place)) }
 {
     let at = position_of(positions, place);
     meets(around(at), *within) && (is_left(present, place) && query.is_met_by(place, at))
@@ -67,13 +68,13 @@ fn place_at(index: &BoxTree, leaf: usize) -> usize
 
 /// The place of a leaf, where it is left and meets the test.
 #[tactic(auto, using(crate::proofs::Searches::leaf_clear))]
-fn found_at<Q: Query>(index: &BoxTree, leaf: usize, within: &Extent, query: &Q) -> Option<usize>
+fn found_at(index: &BoxTree, leaf: usize, within: &Extent, query: &Blocked) -> Option<usize>
     requires index { IsIndex index.now }
     requires leaf { length index.now.positions.items ≤ leaf }
     requires inside { leaf < 2 * length index.now.positions.items }
-    requires reach { Reaches within.now (Q.test query.now) }
-    ensures some { IfSome result (λ z. Meets index.now.positions.items index.now.present.items (Q.test query.now) z) }
-    ensures none { IfNone result (NoneMeetsUnder index.now leaf (Q.test query.now)) }
+    requires reach { Reaches within.now (blocking query.now) }
+    ensures some { IfSome result (λ z. Meets index.now.positions.items index.now.present.items (blocking query.now) z) }
+    ensures none { IfNone result (NoneMeetsUnder index.now leaf (blocking query.now)) }
 {
     let place = place_at(index, leaf);
     if is_met_at(&index.positions, &index.present, place, within, query) {
@@ -85,12 +86,12 @@ fn found_at<Q: Query>(index: &BoxTree, leaf: usize, within: &Extent, query: &Q) 
 
 /// Something under a node may meet the test, unless the answer is no.
 #[tactic(auto, using(crate::proofs::Searches::outside, crate::proofs::Searches::pruned))]
-fn may_hold<Q: Query>(index: &BoxTree, node: usize, within: &Extent, query: &Q) -> bool
+fn may_hold(index: &BoxTree, node: usize, within: &Extent, query: &Blocked) -> bool
     requires index { IsIndex index.now }
     requires inner { 0 < node }
     requires inside { node < 2 * length index.now.positions.items }
-    requires reach { Reaches within.now (Q.test query.now) }
-    ensures { result ≡ false → NoneMeetsUnder index.now node (Q.test query.now) }
+    requires reach { Reaches within.now (blocking query.now) }
+    ensures { result ≡ false → NoneMeetsUnder index.now node (blocking query.now) }
 {
     if node >= index.extents.len() {
         return true;
@@ -100,18 +101,18 @@ fn may_hold<Q: Query>(index: &BoxTree, node: usize, within: &Extent, query: &Q) 
 }
 
 /// A place under a node that is left and meets the test. The boxes of its children are looked at, and not its own.
-pub fn find_under<Q: Query>(
+pub fn find_under(
     index: &BoxTree,
     node: usize,
     within: &Extent,
-    query: &Q,
+    query: &Blocked,
 ) -> Option<usize>
     requires index { IsIndex index.now }
     requires inner { 0 < node }
     requires inside { node < 2 * length index.now.positions.items }
-    requires reach { Reaches within.now (Q.test query.now) }
-    ensures some { IfSome result (λ z. Meets index.now.positions.items index.now.present.items (Q.test query.now) z) }
-    ensures none { IfNone result (NoneMeetsUnder index.now node (Q.test query.now)) }
+    requires reach { Reaches within.now (blocking query.now) }
+    ensures some { IfSome result (λ z. Meets index.now.positions.items index.now.present.items (blocking query.now) z) }
+    ensures none { IfNone result (NoneMeetsUnder index.now node (blocking query.now)) }
 {
     if node >= index.positions.len() {
         return found_at(index, node, within, query);

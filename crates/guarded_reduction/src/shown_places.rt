@@ -1,13 +1,14 @@
 // The positions of places, of which some are left.
 ghost use Rattle.std.specs.Prelude.{◌≡◌, ◌<◌, IfOk, length, true};
 ghost use Rattle.std.specs.Option.{IfNone, IfSome};
+ghost use Rattle.guarded_reduction.specs.Blocked.{blocking};
 ghost use Rattle.guarded_reduction.specs.Indexes.{Meets, NoneMeets, is_left_at};
 ghost use Rattle.guarded_reduction.specs.PlacedLists.{all_placed, without_placed};
 
+use crate::blocking::Blocked;
+use crate::box_tree::BoxTree;
 use crate::cell_lists::{CellLists, cell_lists_of};
-use crate::index::PositionIndex;
 use crate::neighbours::Neighbours;
-use crate::query::Query;
 use geometry::Position;
 use owned_values::Memory;
 use planar_predicates::Extent;
@@ -25,7 +26,7 @@ pub enum Places {
         left: Vec<bool>,
     },
     Celled(CellLists),
-    Boxed(PositionIndex),
+    Boxed(BoxTree),
 }
 
 /// Positions by the numbers of their places, of which some are left, with an index over these, or without one where nothing is looked for. The index is
@@ -74,20 +75,18 @@ impl ShownPlaces {
         match &self.places {
             Places::Listed { positions, .. } => positions.as_slice(),
             Places::Celled(cells) => cells.positions.as_slice(),
-            Places::Boxed(index) => index.positions(),
+            Places::Boxed(tree) => tree.positions.as_slice(),
         }
     }
 
-    /// The place is left.
-    #[tactic(auto, unfolding(crate::specs::Indexes::is_left_at))]
-    pub fn is_left(&self, place: usize) -> bool
-        requires { place < length self.now.positions }
-        ensures { result ≡ is_left_at self.now.left place }
+    /// Which places are left.
+    pub fn left(&self) -> &[bool]
+        ensures { result.now ≡ self.now.left }
     {
         match &self.places {
-            Places::Listed { left, .. } => left[place],
-            Places::Celled(cells) => cells.present[place],
-            Places::Boxed(index) => index.is_left(place),
+            Places::Listed { left, .. } => left.as_slice(),
+            Places::Celled(cells) => cells.present.as_slice(),
+            Places::Boxed(tree) => tree.present.as_slice(),
         }
     }
 
@@ -110,7 +109,7 @@ impl ShownPlaces {
         match &self.places {
             Places::Listed { .. } => false,
             Places::Celled(_) => false,
-            Places::Boxed(index) => index.is_more_crowded(place, other),
+            Places::Boxed(tree) => tree.is_more_crowded(place, other),
         }
     }
 
@@ -122,7 +121,7 @@ impl ShownPlaces {
         match &mut self.places {
             Places::Listed { left, .. } => left[place] = false,
             Places::Celled(cells) => cells.remove(place),
-            Places::Boxed(index) => index.remove(place),
+            Places::Boxed(tree) => tree.remove(place),
         }
     }
 
@@ -148,8 +147,8 @@ impl ShownPlaces {
         if cells.count_cells(within) <= self.steps {
             return Ok(());
         }
-        let boxes = cells.in_boxes(alloc)?;
-        self.places = Places::Boxed(boxes);
+        let tree = cells.in_boxes(alloc)?;
+        self.places = Places::Boxed(tree);
         Ok(())
     }
 
@@ -161,15 +160,15 @@ impl ShownPlaces {
     }
 
     /// A place that is left and meets the test of the query, where there is an index. The steps that this takes in cells are counted.
-    pub fn find<Q: Query>(&self, query: &Q, steps: &mut u64) -> Option<usize>
+    pub fn find(&self, query: &Blocked, steps: &mut u64) -> Option<usize>
         ensures asked { IfSome result (λ _. self.now.indexed ≡ true) }
-        ensures some { IfSome result (λ z. Meets self.now.positions self.now.left (Q.test query.now) z) }
-        ensures none { IfNone result (self.now.indexed ≡ true → NoneMeets self.now.positions self.now.left (Q.test query.now)) }
+        ensures some { IfSome result (λ z. Meets self.now.positions self.now.left (blocking query.now) z) }
+        ensures none { IfNone result (self.now.indexed ≡ true → NoneMeets self.now.positions self.now.left (blocking query.now)) }
     {
         match &self.places {
             Places::Listed { .. } => None,
             Places::Celled(cells) => cells.find(query, steps),
-            Places::Boxed(index) => index.find(query),
+            Places::Boxed(tree) => tree.find(query),
         }
     }
 }

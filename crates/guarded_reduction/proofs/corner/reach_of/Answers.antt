@@ -1,7 +1,7 @@
 use Rattle.planar_predicates.proofs.Boxes.{holds_in, lies_in_trans}
 use Rattle.guarded_reduction.proofs.Queries.{holds_triangle, reaches}
 use Rattle.guarded_meaning.proofs.Box.{box_law}
-use Rattle.guarded_reduction.proofs.query.reach_of.Goals as goal
+use Rattle.guarded_reduction.proofs.corner.reach_of.Goals as goal
 
 pub returns-clause-triangle : goal.returns-clause-triangle
 returns-clause-triangle c = holds_triangle box_law c.joined-2.result c.args.c.now (holds_in _ _ _ c.joined-2.ensures.first c.around.ensures)

@@ -1,7 +1,7 @@
 use Rattle.std.proofs.lemmas.Bool.{not-false}
 use Rattle.guarded_reduction.proofs.Joining.{blocked_outside}
 use Rattle.guarded_reduction.proofs.Queries.{outside}
-use Rattle.guarded_reduction.proofs.blocking.BlockedQuery.may_meet.Goals as goal
+use Rattle.guarded_reduction.proofs.blocking.Blocked.may_meet.Goals as goal
 
 pub returns-then-not-is_point : goal.returns-then-not-is_point
 returns-then-not-is_point c = λ e.

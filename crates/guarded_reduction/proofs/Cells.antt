@@ -6,8 +6,8 @@ use Rattle.std.proofs.lemmas.Bool.{cases_Bool, cases_eq, cases_lt}
 use Rattle.std.proofs.lemmas.List.{get_or_append_left, get_or_push}
 use Rattle.std.proofs.lemmas.Nat.{le-div, pow_pos}
 use Rattle.geometry.specs.Points.{Point}
-use Rattle.guarded_reduction.specs.declared.cell_lists.CellLists.{CellLists}
-use Rattle.guarded_reduction.specs.declared.cell_search.CellRange.{CellRange}
+use Rattle.guarded_reduction.specs.declared.index.cell_lists.CellLists.{CellLists}
+use Rattle.guarded_reduction.specs.declared.index.cell_search.CellRange.{CellRange}
 use Rattle.planar_predicates.specs.declared.extent.Extent.{Extent}
 use Rattle.guarded_reduction.specs.Cells.{AreCells, AreCellsOf, AreChained, IsOn, NoneMeetsInRow, NoneMeetsInRows, NoneMeetsOn, cell_along, least, list_at, list_of}
 use Rattle.guarded_reduction.specs.Indexes.{NoneMeets, is_left_at, point_at}

@@ -11,7 +11,7 @@ use Rattle.guarded_meaning.specs.Guards.{is_free}
 use Rattle.guarded_meaning.specs.Segments.{segment, same_ends}
 use Rattle.guarded_meaning.specs.Triangles.{is_clear}
 use Rattle.guarded_meaning.proofs.Holders.{free_or_held}
-use Rattle.guarded_reduction.specs.declared.corner.Corner.{Corner}
+use Rattle.guarded_reduction.specs.declared.index.corner.Corner.{Corner}
 use Rattle.guarded_reduction.specs.Indexes.{NoneMeets, point_at}
 use Rattle.guarded_reduction.specs.Blocking.{is_blocked_by, is_joined_at, joins_ends, leads_on}
 use Rattle.guarded_reduction.specs.Laws.{IsShown, IsLinked, Shows, IsOwn, asked, FreeLaw}

@@ -6,12 +6,12 @@ use Rattle.std.specs.declared.cmp.Reverse.{Reverse}
 use Rattle.std.proofs.lemmas.Bool.{cases_eq}
 use Rattle.std.proofs.lemmas.List.Sorted.{Contains-permutation, IsPermutation-sym, IsPermutation-to_front}
 use Rattle.effective_area.proofs.HeapLaws.{contains_cases, contains_here, contains_later}
-use Rattle.guarded_reduction.specs.declared.entry.Entry.{Entry}
+use Rattle.guarded_reduction.specs.declared.queue.entry.Entry.{Entry}
 use Rattle.guarded_reduction.specs.Entries.{IsDue, IsSound, entry_in, turned}
 use Rattle.geometry.specs.Units.{area_limit}
 use Rattle.guarded_reduction.specs.Linking.{Linked, IsCorner}
 use Rattle.guarded_reduction.specs.States.{IsHeld, IsQueued, NoneNext, Pushed, PushedFrom}
-use Rattle.guarded_reduction.specs.declared.waiting_lists.Wait.{Wait}
+use Rattle.guarded_reduction.specs.declared.queue.waiting_lists.Wait.{Wait}
 use Rattle.guarded_reduction.specs.Waiting.{Waiting, WaitsFrom, here, later, wait_at}
 
 -- the entry of a corner that is due is sound

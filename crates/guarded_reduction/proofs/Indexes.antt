@@ -5,7 +5,7 @@ use Rattle.std.specs.List.Sorted.{IsPermutation}
 use Rattle.std.proofs.lemmas.Bool.{cases_eq}
 use Rattle.geometry.specs.Points.{Point}
 use Rattle.planar_predicates.specs.declared.extent.Extent.{Extent}
-use Rattle.guarded_reduction.specs.declared.box_tree.BoxTree.{BoxTree}
+use Rattle.guarded_reduction.specs.declared.index.box_tree.BoxTree.{BoxTree}
 use Rattle.guarded_reduction.specs.Indexes.{AreFitted, AreLeaves, IsIndex, is_left_at}
 use Rattle.guarded_reduction.specs.Orders.{AreRanks}
 use Rattle.guarded_reduction.proofs.Orders.{ordered, places_below, places_within}

@@ -4,7 +4,7 @@ use Rattle.std.proofs.lemmas.Bool.{and_parts, or_cases}
 use Rattle.geometry.specs.Points.{Point}
 use Rattle.geometry.specs.Rings.{same}
 use Rattle.geometry.proofs.Points.{same_is}
-use Rattle.guarded_reduction.specs.declared.corner.Corner.{Corner}
+use Rattle.guarded_reduction.specs.declared.index.corner.Corner.{Corner}
 use Rattle.planar_predicates.specs.declared.extent.Extent.{Extent}
 use Rattle.planar_predicates.specs.Extents.{HoldsPoint}
 use Rattle.guarded_reduction.specs.Blocking.{is_blocked_by, is_joined_at, joins_ends}

@@ -19,14 +19,14 @@ use Rattle.guarded_meaning.specs.Arcs.{ArcCorner, all_corners, left_by, without_
 use Rattle.guarded_meaning.specs.Elimination.{Guard, eliminate_arcs, goes, goes_before, next_arcs, next_corner}
 use Rattle.guarded_meaning.specs.Guards.{guarded_by, is_free, keeps_rings}
 use Rattle.guarded_meaning.proofs.First.{next_is, next_law, no_next_law, none_is_next, tied}
-use Rattle.guarded_reduction.specs.declared.corner.Corner.{Corner}
+use Rattle.guarded_reduction.specs.declared.index.corner.Corner.{Corner}
 use Rattle.guarded_reduction.specs.Blocking.{is_blocked_by}
 use Rattle.guarded_reduction.specs.Indexes.{Meets, NoneMeets, point_at}
 use Rattle.guarded_reduction.specs.Laws.{asked}
 use Rattle.guarded_reduction.specs.Tests.{is_held_by}
 use Rattle.guarded_reduction.proofs.Free.{blocked_inside, free_law}
 use Rattle.guarded_reduction.proofs.NotFree.{blocked_law}
-use Rattle.guarded_reduction.specs.declared.entry.Entry.{Entry}
+use Rattle.guarded_reduction.specs.declared.queue.entry.Entry.{Entry}
 use Rattle.guarded_reduction.specs.Entries.{AreBelow, IsDue, entry_cmp, entry_in, turned}
 use Rattle.guarded_reduction.specs.Linking.{Linked, IsShowing, IsWhole, corner_in, is_fixed, unlinked}
 use Rattle.guarded_reduction.specs.Keeping.{FixedCannotGo, IsKept}

@@ -13,7 +13,7 @@ use Rattle.guarded_meaning.specs.Guards.{is_free}
 use Rattle.guarded_meaning.specs.Segments.{segment, same_ends}
 use Rattle.guarded_meaning.specs.Triangles.{is_clear}
 use Rattle.guarded_meaning.proofs.Holders.{held_is_not_free}
-use Rattle.guarded_reduction.specs.declared.corner.Corner.{Corner}
+use Rattle.guarded_reduction.specs.declared.index.corner.Corner.{Corner}
 use Rattle.guarded_reduction.specs.Indexes.{point_at}
 use Rattle.guarded_reduction.specs.Blocking.{is_joined_at, joins_ends, leads_on}
 use Rattle.guarded_reduction.specs.Laws.{IsPlace, Leads, asked, BlockedLaw}

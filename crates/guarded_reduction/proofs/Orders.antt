@@ -7,7 +7,7 @@ use Rattle.std.proofs.lemmas.List.Elements.{All-get_or, Contains-get_or}
 use Rattle.std.proofs.lemmas.List.FromFn.{length-range_with_len, get_or-range_with_len}
 use Rattle.std.proofs.lemmas.List.Sorted.{All-permutation, Contains-permutation, length_permutation, IsPermutation-map}
 use Rattle.effective_area.proofs.Scan.{all_inside}
-use Rattle.guarded_reduction.specs.declared.ordering.Key.{Key}
+use Rattle.guarded_reduction.specs.declared.index.ordering.Key.{Key}
 use Rattle.guarded_reduction.specs.Orders.{AreRanks, place_of}
 use Rattle.guarded_reduction.specs.Indexes.{IsOrder}
 

@@ -2,7 +2,7 @@
 use Rattle.std.proofs.Common.{◌≡◌, ℕ, true, false, slice_index, slice_index_or, sym, ◌∙◌, subst, ◌⊎◌, inl, inr, arith}
 use Rattle.std.proofs.lemmas.Bool.{both_ways}
 use Rattle.std.proofs.lemmas.List.{get_or_default}
-use Rattle.guarded_reduction.specs.declared.corner.Corner.{Corner}
+use Rattle.guarded_reduction.specs.declared.index.corner.Corner.{Corner}
 use Rattle.guarded_reduction.specs.Blocking.{is_blocked_by, is_joined_at, joins_ends, leads_on}
 use Rattle.guarded_reduction.specs.Indexes.{Meets, point_at}
 use Rattle.guarded_reduction.specs.Linking.{Linked, IsWhole}

@@ -9,7 +9,7 @@ use Rattle.geometry.proofs.Points.{same_is, same_self}
 use Rattle.guarded_meaning.specs.Triangles.{in_triangle, is_clear}
 use Rattle.guarded_meaning.proofs.Turned.{either_way}
 use Rattle.planar_predicates.specs.declared.extent.Extent.{Extent}
-use Rattle.guarded_reduction.specs.declared.corner.Corner.{Corner}
+use Rattle.guarded_reduction.specs.declared.index.corner.Corner.{Corner}
 use Rattle.planar_predicates.specs.Extents.{HoldsPoint}
 use Rattle.guarded_reduction.specs.Blocking.{is_blocked_by, joins_ends, leads_on, turned_corner}
 use Rattle.guarded_reduction.specs.Indexes.{Meets, NoneMeets, is_left_at, point_at}

@@ -5,7 +5,7 @@ use Rattle.geometry.specs.Points.{Point}
 use Rattle.guarded_meaning.specs.Laws.{IsInBox, BoxLaw}
 use Rattle.guarded_meaning.specs.Triangles.{is_clear, in_triangle}
 use Rattle.planar_predicates.specs.declared.extent.Extent.{Extent}
-use Rattle.guarded_reduction.specs.declared.corner.Corner.{Corner}
+use Rattle.guarded_reduction.specs.declared.index.corner.Corner.{Corner}
 use Rattle.planar_predicates.specs.Extents.{HoldsPoint}
 use Rattle.guarded_reduction.specs.Tests.{Reaches, IsOutside, is_held_by}
 

@@ -13,7 +13,7 @@ use Rattle.std.proofs.lemmas.List.Elements.{All-contains, All-from_recursion, re
 use Rattle.std.proofs.lemmas.List.MinMax.{ranks_by}
 use Rattle.std.proofs.lemmas.List.Sorted.{IsPermutation-append_right, IsPermutation-middle, IsPermutation-sym, IsPermutation-trans, sorted_far}
 use Rattle.owned_values.proofs.Elements.{all_append, all_weaker}
-use Rattle.guarded_reduction.specs.declared.entry.Entry.{Entry}
+use Rattle.guarded_reduction.specs.declared.queue.entry.Entry.{Entry}
 use Rattle.guarded_reduction.specs.Entries.{turned_cmp}
 use Rattle.guarded_reduction.specs.Queues.{GoesFirst}
 use Rattle.guarded_reduction.proofs.Next.{entry_total}

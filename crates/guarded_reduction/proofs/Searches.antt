@@ -4,7 +4,7 @@ use Rattle.std.specs.Option.{IfNone}
 use Rattle.std.proofs.lemmas.Bool.{false_from_ne_true, and_from}
 use Rattle.geometry.specs.Points.{Point}
 use Rattle.planar_predicates.specs.declared.extent.Extent.{Extent}
-use Rattle.guarded_reduction.specs.declared.box_tree.BoxTree.{BoxTree}
+use Rattle.guarded_reduction.specs.declared.index.box_tree.BoxTree.{BoxTree}
 use Rattle.planar_predicates.specs.Extents.{HoldsPoint}
 use Rattle.guarded_reduction.specs.Tests.{IsOutside, Test, Reaches}
 use Rattle.guarded_reduction.specs.Indexes.{NoneMeets, IsIndex, NoneMeetsUnder, is_left_at, point_at}

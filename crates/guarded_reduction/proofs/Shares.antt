@@ -25,7 +25,7 @@ use Rattle.guarded_meaning.proofs.Shares.{share_is_greatest}
 use Rattle.guarded_reduction.specs.Numbers.{left_arcs}
 use Rattle.guarded_reduction.specs.Sharing.{level_after, without_all}
 use Rattle.guarded_reduction.proofs.Next.{IsGone, before_greater, go_on, no_step, one_step}
-use Rattle.guarded_reduction.specs.declared.entry.Entry.{Entry}
+use Rattle.guarded_reduction.specs.declared.queue.entry.Entry.{Entry}
 use Rattle.guarded_reduction.specs.Linking.{Linked}
 
 -- ---- the next corner, and whether it goes under a threshold

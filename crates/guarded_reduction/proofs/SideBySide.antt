@@ -2,7 +2,7 @@
 use Rattle.std.proofs.Common.{◌≡◌, ℕ, ◌<◌, ◌≤◌, List, length, map, get_or, ap, sym, ◌∙◌, arith}
 use Rattle.std.proofs.Math.ListN.{get_or-eq_default}
 use Rattle.std.proofs.lemmas.List.{get_or-map, length-map}
-use Rattle.guarded_reduction.specs.declared.neighbours.Neighbours.{Neighbours}
+use Rattle.guarded_reduction.specs.declared.places.neighbours.Neighbours.{Neighbours}
 
 pub read_field : (f : Neighbours → ℕ) (ns : List Neighbours) (z d : ℕ) (n : Neighbours) → z < length ns → n ≡ get_or ns z n → f n ≡ get_or (map f ns) z d
 read_field f ns z d n h e = ap f e ∙ sym (get_or-map f ns z n d h)

@@ -2,7 +2,7 @@
 use Rattle.std.proofs.Common.{◌≡◌, ◌≢◌, ℕ, ◌+◌, ◌<◌, ◌≤◌, List, [], ◌∷◌, ◌++◌, length, slice_index, slice_index_or, slice_set, length-append, length-set, replicate, get_or-set_same, get_or-set_other, refl, ap, sym, ◌∙◌, subst, ◌⊎◌, inl, inr, arith}
 use Rattle.std.proofs.lemmas.Bool.{cases_eq, cases_lt}
 use Rattle.std.proofs.lemmas.List.{get_or_append_left, get_or_past, get_or_push, get_or_default, get_or-replicate, length-replicate}
-use Rattle.guarded_reduction.specs.declared.waiting_lists.Wait.{Wait}
+use Rattle.guarded_reduction.specs.declared.queue.waiting_lists.Wait.{Wait}
 use Rattle.guarded_reduction.specs.Waiting.{Waiting, WaitsFrom, here, later, WaitsOn, IsFalling, KeepsWaits, no_wait, wait_at}
 
 abbrev pub wait_of : ℕ → ℕ → Wait

@@ -1,5 +1,5 @@
 -- Which places block a corner.
-use Rattle.guarded_reduction.specs.declared.blocking.Blocked.{Blocked}
+use Rattle.guarded_reduction.specs.declared.index.blocking.Blocked.{Blocked}
 use Rattle.guarded_reduction.specs.Blocking.{is_blocked_by}
 use Rattle.guarded_reduction.specs.SideBySide.{afters_in, befores_in}
 use Rattle.guarded_reduction.specs.Tests.{Test}

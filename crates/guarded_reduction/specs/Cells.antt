@@ -2,9 +2,9 @@
 use Rattle.std.specs.Prelude.{◌≡◌, ℕ, ℤ, pos, ◌-ℤ◌, ◌≤ℤ◌, ◌+◌, ◌-◌, ◌*◌, ◌/◌, ◌%◌, ◌^◌, ◌<◌, ◌≤◌, Bool, true, false, List, length, slice_index, unsigned_abs}
 use Rattle.std.specs.Int.Bits.{bit_and}
 use Rattle.geometry.specs.Points.{Point}
-use Rattle.guarded_reduction.specs.declared.cell_lists.CellLists.{CellLists}
-use Rattle.guarded_reduction.specs.declared.cell_lists.Grid.{Grid}
-use Rattle.guarded_reduction.specs.declared.cell_search.CellRange.{CellRange}
+use Rattle.guarded_reduction.specs.declared.index.cell_lists.CellLists.{CellLists}
+use Rattle.guarded_reduction.specs.declared.index.cell_lists.Grid.{Grid}
+use Rattle.guarded_reduction.specs.declared.index.cell_search.CellRange.{CellRange}
 use Rattle.planar_predicates.specs.declared.extent.Extent.{Extent}
 use Rattle.guarded_reduction.specs.Indexes.{is_left_at, point_at}
 use Rattle.guarded_reduction.specs.Tests.{Test}

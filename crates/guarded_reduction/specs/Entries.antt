@@ -8,7 +8,7 @@ use Rattle.geometry.specs.Order.{point_cmp}
 use Rattle.geometry.specs.Points.{Point}
 use Rattle.geometry.specs.Units.{area_limit}
 use Rattle.guarded_reduction.specs.Indexes.{is_left_at, point_at}
-use Rattle.guarded_reduction.specs.declared.entry.Entry.{Entry}
+use Rattle.guarded_reduction.specs.declared.queue.entry.Entry.{Entry}
 use Rattle.guarded_reduction.specs.Linking.{Linked, IsCorner, is_fixed}
 
 abbrev pub entry_cmp : Entry → Entry → Ordering

@@ -2,7 +2,7 @@
 use Rattle.std.specs.Prelude.{◌≡◌, ℕ, pos, ◌+◌, ◌<◌, ◌≤◌, Bool, true, false, List, length, slice_index_or, slice_index}
 use Rattle.geometry.specs.Points.{Point}
 use Rattle.planar_predicates.specs.declared.extent.Extent.{Extent}
-use Rattle.guarded_reduction.specs.declared.box_tree.BoxTree.{BoxTree}
+use Rattle.guarded_reduction.specs.declared.index.box_tree.BoxTree.{BoxTree}
 use Rattle.planar_predicates.specs.Extents.{HoldsPoint}
 use Rattle.guarded_reduction.specs.Tests.{Test}
 use Rattle.guarded_reduction.specs.Trees.{extent_at, Under}

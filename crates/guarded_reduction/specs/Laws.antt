@@ -5,7 +5,7 @@ use Rattle.geometry.specs.Points.{Point}
 use Rattle.elimination_meaning.specs.Elimination.{Vertex}
 use Rattle.guarded_meaning.specs.Arcs.{ArcCorner, Place, Neighbours, places, is_place_of, all_neighbours, is_pair_of}
 use Rattle.guarded_meaning.specs.Guards.{is_free}
-use Rattle.guarded_reduction.specs.declared.corner.Corner.{Corner}
+use Rattle.guarded_reduction.specs.declared.index.corner.Corner.{Corner}
 use Rattle.guarded_reduction.specs.Indexes.{Meets, NoneMeets, is_left_at, point_at}
 use Rattle.guarded_reduction.specs.Blocking.{is_blocked_by}
 

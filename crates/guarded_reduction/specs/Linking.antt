@@ -2,7 +2,7 @@
 use Rattle.std.specs.Prelude.{◌≡◌, ◌≢◌, ℕ, ◌<◌, ◌^◌, Bool, true, false, List, length, slice_index, slice_index_or, slice_set}
 use Rattle.geometry.specs.Lists.{joined}
 use Rattle.geometry.specs.Points.{Point}
-use Rattle.guarded_reduction.specs.declared.corner.Corner.{Corner}
+use Rattle.guarded_reduction.specs.declared.index.corner.Corner.{Corner}
 use Rattle.guarded_reduction.specs.Indexes.{is_left_at, point_at}
 use Rattle.guarded_reduction.specs.Laws.{Shows, ShowsOnly}
 use Rattle.guarded_reduction.specs.Numbers.{number, left_arcs}

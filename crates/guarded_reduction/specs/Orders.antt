@@ -1,6 +1,6 @@
 -- The order of places.
 use Rattle.std.specs.Prelude.{◌≡◌, ℕ, ◌<◌, List, length, slice_index}
-use Rattle.guarded_reduction.specs.declared.ordering.Key.{Key}
+use Rattle.guarded_reduction.specs.declared.index.ordering.Key.{Key}
 
 abbrev pub place_of : Key → ℕ
 place_of k = k.place

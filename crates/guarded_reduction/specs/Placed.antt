@@ -1,7 +1,7 @@
 -- What contracts see of the positions of places.
 use Rattle.std.specs.Prelude.{◌≡◌, true, false, length}
-use Rattle.guarded_reduction.specs.declared.shown_places.Places.{Places}
-use Rattle.guarded_reduction.specs.declared.shown_places.Places.TheVariants.{Listed, Celled, Boxed}
+use Rattle.guarded_reduction.specs.declared.places.shown_places.Places.{Places}
+use Rattle.guarded_reduction.specs.declared.places.shown_places.Places.TheVariants.{Listed, Celled, Boxed}
 use Rattle.guarded_reduction.specs.Cells.{AreCells}
 use Rattle.guarded_reduction.specs.Indexes.{IsIndex}
 use Rattle.guarded_reduction.specs.PlacedLists.{Placed}

@@ -1,6 +1,6 @@
 -- The neighbours of places, as they are kept.
 use Rattle.std.specs.Prelude.{ℕ, List, map}
-use Rattle.guarded_reduction.specs.declared.neighbours.Neighbours.{Neighbours}
+use Rattle.guarded_reduction.specs.declared.places.neighbours.Neighbours.{Neighbours}
 
 -- the place before each
 abbrev pub befores_in : List Neighbours → List ℕ

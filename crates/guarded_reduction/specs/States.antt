@@ -5,11 +5,11 @@ use Rattle.std.specs.Ordering.{is_lt}
 use Rattle.std.specs.declared.cmp.Reverse.{Reverse}
 use Rattle.geometry.specs.Rings.{same}
 use Rattle.geometry.specs.Units.{area_limit}
-use Rattle.guarded_reduction.specs.declared.corner.Corner.{Corner}
+use Rattle.guarded_reduction.specs.declared.index.corner.Corner.{Corner}
 use Rattle.guarded_reduction.specs.Blocking.{is_blocked_by, leads_on}
 use Rattle.guarded_reduction.specs.Indexes.{NoneMeets, is_left_at, point_at}
 use Rattle.guarded_reduction.specs.Tests.{Test, is_held_by}
-use Rattle.guarded_reduction.specs.declared.entry.Entry.{Entry}
+use Rattle.guarded_reduction.specs.declared.queue.entry.Entry.{Entry}
 use Rattle.guarded_reduction.specs.Entries.{entry_cmp, turned, entry_in, IsDue, IsSound}
 use Rattle.guarded_reduction.specs.Linking.{Linked, IsCorner, corner_in, fixed_to, is_fixed}
 use Rattle.guarded_reduction.specs.Moves.{Counted, keeps_all}

@@ -3,7 +3,7 @@ use Rattle.std.specs.Prelude.{◌≡◌, ℕ, ◌==◌, Bool, true, not, ◌&&�
 use Rattle.geometry.specs.Points.{Point}
 use Rattle.guarded_meaning.specs.Triangles.{is_clear}
 use Rattle.planar_predicates.specs.declared.extent.Extent.{Extent}
-use Rattle.guarded_reduction.specs.declared.corner.Corner.{Corner}
+use Rattle.guarded_reduction.specs.declared.index.corner.Corner.{Corner}
 use Rattle.planar_predicates.specs.Extents.{HoldsPoint}
 
 abbrev pub Test : Type 0

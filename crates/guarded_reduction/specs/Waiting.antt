@@ -1,6 +1,6 @@
 -- Corners that wait on places.
 use Rattle.std.specs.Prelude.{◌≡◌, ℕ, ◌+◌, ◌<◌, ◌≤◌, List, length, slice_index, slice_index_or}
-use Rattle.guarded_reduction.specs.declared.waiting_lists.Wait.{Wait}
+use Rattle.guarded_reduction.specs.declared.queue.waiting_lists.Wait.{Wait}
 
 abbrev pub no_wait : Wait
 no_wait = record { corner = 0; next = 0 }

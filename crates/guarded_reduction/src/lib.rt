@@ -7,30 +7,12 @@
 //! and how many cells or boxes each look goes through, is not promised.
 #![tactic(auto)]
 
-mod blocking;
-mod box_tree;
-mod cell_lists;
-mod cell_search;
-mod corner;
-mod corner_queue;
-mod crowds;
-mod entry;
-mod flattening;
-mod holding;
-mod kept_rings;
-mod linked_places;
-mod looking;
-mod neighbours;
-mod ordering;
-mod pushing;
+mod index;
+mod places;
+mod queue;
 mod reducing;
-mod refitting;
-mod ring_moves;
-mod rounds;
-mod searching;
+mod rings;
 mod sharing;
-mod shown_places;
-mod waiting_lists;
 
 pub use reducing::reduce_guarded;
 pub use sharing::reduce_to_share;

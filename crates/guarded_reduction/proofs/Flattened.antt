@@ -1,7 +1,7 @@
 -- Positions and links of one arc after another.
 use Rattle.std.proofs.Common.{◌≡◌, ℕ, ◌+◌, ◌<◌, ◌≤◌, Bool, cond, List, [], ◌∷◌, ◌++◌, append_assoc, length, map, take, drop, get_or, length-append, refl, ap, sym, ◌∙◌, arith}
 use Rattle.std.specs.List.{filter, range_with_len}
-use Rattle.std.proofs.lemmas.List.{append-nil, drop_all}
+use Rattle.std.proofs.lemmas.List.{append-nil, drop_all, length-map, map-append}
 use Rattle.std.proofs.lemmas.Grind.{common_steps}
 use Rattle.std.proofs.lemmas.List.Elements.{filter-append}
 use Rattle.std.proofs.lemmas.List.FromFn.{length-map-range_with_len, map-range_with_len_more}
@@ -9,6 +9,7 @@ use Rattle.owned_values.proofs.Lists.{drop_here, take_here, joined_append}
 use Rattle.geometry.specs.Lists.{joined}
 use Rattle.geometry.specs.Points.{Point}
 use Rattle.guarded_reduction.specs.First.{Neighbour, arc_links, links_of}
+use Rattle.guarded_reduction.specs.declared.places.neighbours.Neighbours.{Neighbours}
 use Rattle.guarded_reduction.specs.Numbers.{kept_indexes, all_kept_indexes}
 
 pub positions_more : (arcs : List (List Point)) (arc : List Point) (i : ℕ) (all new : List Point) → i < length arcs → arc ≡ get_or arcs i arc → all ≡ joined (take i arcs) → new ≡ all ++ arc → new ≡ joined (take (i + 1) arcs)
@@ -23,26 +24,31 @@ positions_all arcs i all h e = e ∙ ap joined (take_whole i arcs h)
 
 -- ---- links
 
-pub so_many : (f : ℕ → ℕ) (old now : List ℕ) (i : ℕ) → now ≡ old ++ map f (range_with_len 0 i) → length now ≡ length old + i
-so_many f old now i e = ap length e ∙ length-append old (map f (range_with_len 0 i)) ∙ ap (λ n. length old + n) (length-map-range_with_len f 0 i)
+module _ (field : Neighbours → ℕ) where
+  pub so_many : (f : ℕ → ℕ) (old now : List Neighbours) (i : ℕ) → map field now ≡ map field old ++ map f (range_with_len 0 i) → length now ≡ length old + i
+  so_many f old now i e =
+      let many = ap length e ∙ length-append (map field old) (map f (range_with_len 0 i)) in
+      omega (arith, many, length-map now field, length-map old field, length-map-range_with_len f 0 i)
 
-pub one_more_link : (f : ℕ → ℕ) (old now new : List ℕ) (i v : ℕ) → now ≡ old ++ map f (range_with_len 0 i) → new ≡ now ++ (v ∷ []) → v ≡ f i → new ≡ old ++ map f (range_with_len 0 (i + 1))
-one_more_link f old now new i v e g q =
-    g ∙ ap (λ l. l ++ (v ∷ [])) e ∙ append_assoc old (map f (range_with_len 0 i)) (v ∷ []) ∙ ap (λ n. old ++ (map f (range_with_len 0 i) ++ (n ∷ []))) q
-    ∙ ap (λ l. old ++ l) (sym (map-range_with_len_more f 0 i i (omega arith)))
+  pub one_more_link : (f : ℕ → ℕ) (old now new : List Neighbours) (i : ℕ) (n : Neighbours) → map field now ≡ map field old ++ map f (range_with_len 0 i) → new ≡ now ++ (n ∷ []) → field n ≡ f i →
+      map field new ≡ map field old ++ map f (range_with_len 0 (i + 1))
+  one_more_link f old now new i n e g q =
+      ap (map field) g ∙ map-append field now (n ∷ []) ∙ ap (λ l. l ++ (field n ∷ [])) e ∙ append_assoc (map field old) (map f (range_with_len 0 i)) (field n ∷ [])
+      ∙ ap (λ m. map field old ++ (map f (range_with_len 0 i) ++ (m ∷ []))) q ∙ ap (λ l. map field old ++ l) (sym (map-range_with_len_more f 0 i i (omega arith)))
 
-pub links_more : (neighbour : Neighbour) (arcs : List (List Point)) (arc : List Point) (i : ℕ) (all new : List ℕ) (n : ℕ) → i < length arcs → arc ≡ get_or arcs i arc →
-    all ++ links_of neighbour (length all) (drop i arcs) ≡ links_of neighbour 0 arcs → new ≡ all ++ arc_links neighbour (length all) n → n ≡ length arc →
-    new ++ links_of neighbour (length new) (drop (i + 1) arcs) ≡ links_of neighbour 0 arcs
-links_more neighbour arcs arc i all new n h q e f z =
-    let g : new ≡ all ++ arc_links neighbour (length all) (length arc) = f ∙ ap (λ m. all ++ arc_links neighbour (length all) m) z in
-    let many : length new ≡ length all + length arc = so_many (λ j. length all + neighbour (length arc) j) all new (length arc) g in
-    ap (λ m. new ++ links_of neighbour m (drop (i + 1) arcs)) many ∙ ap (λ l. l ++ links_of neighbour (length all + length arc) (drop (i + 1) arcs)) g
-    ∙ append_assoc all (arc_links neighbour (length all) (length arc)) (links_of neighbour (length all + length arc) (drop (i + 1) arcs))
-    ∙ ap (λ l. all ++ links_of neighbour (length all) l) (sym (drop_here arcs i arc h q)) ∙ e
+  pub links_more : (neighbour : Neighbour) (arcs : List (List Point)) (arc : List Point) (i : ℕ) (all new : List Neighbours) (n : ℕ) → i < length arcs → arc ≡ get_or arcs i arc →
+      map field all ++ links_of neighbour (length all) (drop i arcs) ≡ links_of neighbour 0 arcs → map field new ≡ map field all ++ arc_links neighbour (length all) n → n ≡ length arc →
+      map field new ++ links_of neighbour (length new) (drop (i + 1) arcs) ≡ links_of neighbour 0 arcs
+  links_more neighbour arcs arc i all new n h q e f z =
+      let g : map field new ≡ map field all ++ arc_links neighbour (length all) (length arc) = f ∙ ap (λ m. map field all ++ arc_links neighbour (length all) m) z in
+      let many : length new ≡ length all + length arc = so_many (λ j. length all + neighbour (length arc) j) all new (length arc) g in
+      ap (λ m. map field new ++ links_of neighbour m (drop (i + 1) arcs)) many ∙ ap (λ l. l ++ links_of neighbour (length all + length arc) (drop (i + 1) arcs)) g
+      ∙ append_assoc (map field all) (arc_links neighbour (length all) (length arc)) (links_of neighbour (length all + length arc) (drop (i + 1) arcs))
+      ∙ ap (λ l. map field all ++ links_of neighbour (length all) l) (sym (drop_here arcs i arc h q)) ∙ e
 
-pub all_linked : (neighbour : Neighbour) (arcs : List (List Point)) (i : ℕ) (all : List ℕ) → length arcs ≤ i → all ++ links_of neighbour (length all) (drop i arcs) ≡ links_of neighbour 0 arcs → all ≡ links_of neighbour 0 arcs
-all_linked neighbour arcs i all h e = sym (append-nil all) ∙ ap (λ l. all ++ links_of neighbour (length all) l) (sym (drop_all i arcs h)) ∙ e
+  pub all_linked : (neighbour : Neighbour) (arcs : List (List Point)) (i : ℕ) (all : List Neighbours) → length arcs ≤ i → map field all ++ links_of neighbour (length all) (drop i arcs) ≡ links_of neighbour 0 arcs →
+      map field all ≡ links_of neighbour 0 arcs
+  all_linked neighbour arcs i all h e = sym (append-nil (map field all)) ∙ ap (λ l. map field all ++ links_of neighbour (length all) l) (sym (drop_all i arcs h)) ∙ e
 
 -- ---- what is left
 

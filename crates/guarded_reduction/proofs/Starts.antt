@@ -163,7 +163,7 @@ module _ (no_crossings : Bool) (arcs : List (List Point)) where
       let w = number_within arcs r.arc (min (r.index + 1) (size_of arcs r.arc - 1)) (has_within arcs r.arc (min (r.index + 1) (size_of arcs r.arc - 1)) (omega (arith, l))) in
       omega (arith, e, w)
 
-  pub first_whole : length (joined arcs) < 2 ^ 60 → IsWhole first
+  pub first_whole : length (joined arcs) < 2 ^ 32 → IsWhole first
   first_whole few = record {
     few = few;
     left = length-replicate (length (joined arcs)) true;

@@ -23,7 +23,7 @@ is_fixed s z = slice_index_or s.fixed z false
 
 -- each list has an element for each place, neighbours are places, and an index has room for them
 pub record IsWhole (s : Linked) : Type 0 where
-  pub few : length s.positions < 2 ^ 60
+  pub few : length s.positions < 2 ^ 32
   pub left : length s.left ≡ length s.positions
   pub befores : length s.befores ≡ length s.positions
   pub afters : length s.afters ≡ length s.positions

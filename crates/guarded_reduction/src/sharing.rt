@@ -118,7 +118,7 @@ fn level_reached(
         let Some(entry) = next else {
             return Ok(level);
         };
-        level.add(entry.place, entry.area)?;
+        level.add(entry.place as usize, entry.area)?;
         take_out(&mut queue, places, &waiting, round, entry)?;
     }
     places.law();

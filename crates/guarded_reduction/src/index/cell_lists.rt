@@ -76,7 +76,7 @@ pub fn list_of(column: u64, row: u64, mask: u64) -> usize
 
 /// The list of a position's cell.
 #[tactic(auto, unfolding(crate::specs::Cells::list_at))]
-fn list_at(position: Position, bits: u32, mask: u64) -> usize
+pub fn list_at(position: Position, bits: u32, mask: u64) -> usize
     requires { bits < 64 }
     ensures value { result ≡ spec.list_at bits mask position }
     ensures within { result ≤ mask }

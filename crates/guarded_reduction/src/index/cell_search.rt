@@ -7,8 +7,9 @@ ghost use Rattle.guarded_reduction.specs.Indexes.{Meets, NoneMeets};
 ghost use Rattle.guarded_reduction.specs.Tests.{Reaches};
 
 use crate::index::blocking::Blocked;
-use crate::index::cell_lists::{CellLists, Grid, cell_along, list_of};
+use crate::index::cell_lists::{CellLists, Grid, cell_along, list_at, list_of};
 use crate::index::searching::is_met_at;
+use geometry::Position;
 use planar_predicates::Extent;
 
 /// Cells: the columns from one on until before another, and so the rows.
@@ -99,6 +100,17 @@ impl CellLists {
         let columns = range.high.saturating_sub(range.low);
         let rows = range.high_row.saturating_sub(range.low_row);
         columns.saturating_mul(rows)
+    }
+
+    /// How many steps a search through this box takes at least: one for each cell, and one or two for places on the list of a position in it.
+    pub fn least_steps(&self, at: Position, within: &Extent) -> u64
+        requires { AreCells self.now }
+    {
+        let list = list_at(at, self.grid.bits, self.grid.mask);
+        let first = self.grid.firsts.get(list).copied().unwrap_or(0) as usize;
+        let next = self.grid.nexts.get(first.wrapping_sub(1)).copied();
+        let places = if next.unwrap_or(0) > 0 { 2 } else { 1 };
+        self.count_cells(within).saturating_add(places)
     }
 
     /// A place that is left and meets the test. The steps that this takes are counted.

@@ -12,8 +12,8 @@ ghost use Rattle.guarded_reduction.specs.Moves.{lost_at};
 use crate::index::blocking::{Blocked, leads_on};
 use crate::index::corner::{Corner, reach_of};
 use crate::index::searching::{is_left, position_of};
-use crate::places::flattening::{afters_of, all_positions, befores_of};
-use crate::places::neighbours::{Neighbours, neighbours_of, set_after, set_before, side_by_side};
+use crate::places::flattening::{all_neighbours, all_positions};
+use crate::places::neighbours::{Neighbours, neighbours_of, set_after, set_before};
 use crate::places::shown_places::ShownPlaces;
 use crate::queue::entry::Entry;
 use crate::rings::ring_moves::step;
@@ -21,6 +21,7 @@ use effective_area::cross;
 use geometry::Position;
 use owned_values::{Items, Memory};
 use std::alloc::Global;
+use std::cmp::Reverse;
 use std::marker::Model;
 
 /// The places of arcs, numbered one arc after another, of which some are left, and the neighbours of these: the place before each, and the one after
@@ -55,9 +56,7 @@ impl LinkedPlaces {
     {
         let positions = all_positions(alloc, arcs)?;
         let fixed = vec![in alloc; false; positions.len()]?;
-        let befores = befores_of(alloc, arcs)?;
-        let afters = afters_of(alloc, arcs)?;
-        let neighbours = side_by_side(alloc, &befores, &afters)?;
+        let neighbours = all_neighbours(alloc, arcs)?;
         let places = ShownPlaces::of(alloc, positions, &neighbours, no_crossings)?;
         Ok(LinkedPlaces {
             places,
@@ -140,6 +139,7 @@ impl LinkedPlaces {
         ensures value { result ≡ entry_at self.now.positions before place after }
         ensures below { result.area < area_limit }
     {
+        self.law();
         let at = self.position(place);
         let first = self.position(before);
         let last = self.position(after);
@@ -147,9 +147,9 @@ impl LinkedPlaces {
         Entry {
             area,
             at,
-            place,
-            before,
-            after,
+            place: place as u32,
+            before: before as u32,
+            after: after as u32,
         }
     }
 
@@ -186,17 +186,17 @@ impl LinkedPlaces {
         ensures current { result ≡ true → IsCurrent self.now entry.now }
         ensures stale { result ≡ false → IsCurrent self.now entry.now → ⊥ }
     {
-        let place = entry.place;
+        let place = entry.place as usize;
         if place >= self.len() {
             return false;
         }
         if !self.is_left(place) || self.is_fixed(place) {
             return false;
         }
-        if self.before(place) != entry.before {
+        if self.before(place) != entry.before as usize {
             return false;
         }
-        self.after(place) == entry.after
+        self.after(place) == entry.after as usize
     }
 
     /// The corner at a place, as the index is asked for it.
@@ -217,6 +217,20 @@ impl LinkedPlaces {
         ensures { self.new ≡ self.old }
     {
         self.places.renew(alloc, &self.neighbours)
+    }
+
+    /// Looks at what the searches of these corners begin with: memory brings it for all of them at once, and has it at hand when each comes.
+    pub fn look_ahead(&mut self, coming: &[Reverse<Entry>])
+        ensures { self.new ≡ self.old }
+    {
+        let mut steps = 0u64;
+        'coming: for Reverse(entry) in coming {
+            if self.is_current(entry) {
+                let corner = self.corner(entry.place as usize);
+                steps = steps.saturating_add(self.places.least_steps(&corner));
+            }
+        }
+        self.places.spend(steps);
     }
 
     /// A place that is left and blocks a corner, where crossings are to be avoided. The index is readied for the search, whose steps are then spent.

@@ -1,9 +1,6 @@
 // The neighbours of places.
-ghost use Rattle.std.specs.Prelude.{◌≡◌, ◌<◌, IfOk, length, slice_index, slice_index_or, slice_set};
+ghost use Rattle.std.specs.Prelude.{◌≡◌, ◌<◌, length, slice_index, slice_index_or, slice_set};
 ghost use Rattle.guarded_reduction.specs.SideBySide.{afters_in, befores_in};
-
-use owned_values::Memory;
-use std::alloc::Global;
 
 /// The place before a place, and the one after it, side by side, so that they are waited for once; where there is none, the place itself.
 #[derive(Clone, Copy, Debug, PartialEq, Eq)]
@@ -62,33 +59,4 @@ pub fn set_after(neighbours: &mut Vec<Neighbours>, place: usize, after: u32)
     ensures afters { afters_in neighbours.new.items ≡ slice_set (afters_in neighbours.old.items) place after }
 {
     neighbours[place].after = after;
-}
-
-/// A place in short. For more there is no memory.
-fn short(place: usize) -> Result<u32, Memory>
-    ensures { IfOk result (λ n. n ≡ place) }
-{
-    match u32::try_from(place) {
-        Ok(place) => Ok(place),
-        Err(_) => Err(Memory),
-    }
-}
-
-/// The neighbours in these two lists, side by side.
-pub fn side_by_side(
-    alloc: Global,
-    befores: &[usize],
-    afters: &[usize],
-) -> Result<Vec<Neighbours>, Memory>
-    requires { length afters.now ≡ length befores.now }
-    ensures befores { IfOk result (λ all. befores_in all.items ≡ befores.now) }
-    ensures afters { IfOk result (λ all. afters_in all.items ≡ afters.now) }
-{
-    let mut all = Vec::with_capacity(alloc, befores.len())?;
-    'places: for place in 0..befores.len() {
-        let before = short(befores[place])?;
-        let after = short(afters[place])?;
-        all.push(Neighbours { before, after })?;
-    }
-    Ok(all)
 }

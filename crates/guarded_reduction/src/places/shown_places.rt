@@ -8,6 +8,7 @@ ghost use Rattle.guarded_reduction.specs.PlacedLists.{all_placed, without_placed
 use crate::index::blocking::Blocked;
 use crate::index::box_tree::BoxTree;
 use crate::index::cell_lists::{CellLists, cell_lists_of};
+use crate::index::corner::{Corner, reach_of};
 use crate::places::neighbours::Neighbours;
 use geometry::Position;
 use owned_values::Memory;
@@ -150,6 +151,15 @@ impl ShownPlaces {
         let tree = cells.in_boxes(alloc)?;
         self.places = Places::Boxed(tree);
         Ok(())
+    }
+
+    /// As many steps as a search of the corner takes in cells, at least.
+    pub fn least_steps(&self, corner: &Corner) -> u64 {
+        match &self.places {
+            Places::Listed { .. } => 0,
+            Places::Celled(cells) => cells.least_steps(corner.at, &reach_of(corner)),
+            Places::Boxed(_) => 0,
+        }
     }
 
     /// So many steps have been taken.

@@ -31,6 +31,9 @@ fn is_on_heap(sorted: &[Reverse<Entry>], heap: &BinaryHeap<Reverse<Entry>>) -> b
     last.cmp(top).is_lt()
 }
 
+/// So many corners are looked ahead at, all at once.
+const AHEAD: usize = 16;
+
 /// Corners that are to be looked at. Those that are known when a round begins are sorted once, which takes less time than a heap of them all; those
 /// that come later are put on a heap. Contracts see all of them, in no order.
 #[derive(Drop)]
@@ -76,6 +79,17 @@ impl CornerQueue {
         corners.sort_unstable();
         self.heap.clear();
         self.sorted = corners;
+    }
+
+    /// Those that were sorted and come next, once for so many of them that were taken out; else none.
+    pub fn coming(&self) -> &[Reverse<Entry>] {
+        let many = self.sorted.len();
+        let from = if many % AHEAD == 0 {
+            many.saturating_sub(AHEAD)
+        } else {
+            many
+        };
+        self.sorted.split_at(from).1
     }
 
     /// Puts one more corner among the others.

@@ -6,7 +6,7 @@ use geometry::Position;
 pub struct Entry {
     pub area: u128,
     pub at: Position,
-    pub place: usize,
-    pub before: usize,
-    pub after: usize,
+    pub place: u32,
+    pub before: u32,
+    pub after: u32,
 }

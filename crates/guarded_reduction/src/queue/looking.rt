@@ -75,18 +75,20 @@ pub fn next_corner(
     let mut held = places.len();
     let mut last = held;
     'entries: while let Some(Reverse(entry)) = queue.pop() {
+        places.look_ahead(queue.coming());
+        let place = entry.place as usize;
         // (equal entries come off the queue one after another)
-        if entry.place == held {
+        if place == held {
             continue;
         }
         if !places.is_current(&entry) {
             continue;
         }
-        let Some(holder) = holder_of(alloc, places, entry.place, last)? else {
+        let Some(holder) = holder_of(alloc, places, place, last)? else {
             return Ok(Some(entry));
         };
-        wait_on(waiting, places, entry.place, holder)?;
-        held = entry.place;
+        wait_on(waiting, places, place, holder)?;
+        held = place;
         last = holder;
     }
     Ok(None)
@@ -113,11 +115,12 @@ pub fn next_going(
     ensures same { IfOk result (λ found. IfNone found (rings.new ≡ rings.old)) }
 {
     'corners: while let Some(entry) = next_corner(alloc, queue, waiting, places, threshold)? {
-        if rings.keeps(places, entry.place) {
-            rings.remove(places, entry.place);
+        let place = entry.place as usize;
+        if rings.keeps(places, place) {
+            rings.remove(places, place);
             return Ok(Some(entry));
         }
-        places.fix(entry.place);
+        places.fix(place);
     }
     Ok(None)
 }

@@ -62,9 +62,10 @@ pub fn take_out(
     ensures below { OnOk result (AreBelow places.old → AreBelow places.new) }
 {
     places.law();
-    places.remove(entry.place);
-    push_corner(queue, places, threshold, entry.before)?;
-    push_corner(queue, places, threshold, entry.after)?;
-    push_waiting(queue, places, waiting, threshold, entry.place)?;
+    let place = entry.place as usize;
+    places.remove(place);
+    push_corner(queue, places, threshold, entry.before as usize)?;
+    push_corner(queue, places, threshold, entry.after as usize)?;
+    push_waiting(queue, places, waiting, threshold, place)?;
     Ok(())
 }

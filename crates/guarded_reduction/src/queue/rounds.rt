@@ -23,7 +23,7 @@ const FEW: usize = 8192;
 const SAMPLES: usize = 512;
 
 /// In each round go about as many corners as those of these samples that have the least areas stand for.
-const LEAST: usize = 32;
+const LEAST: usize = 64;
 
 /// The threshold of a round is higher than the one before by as much as this part of that at least, so that there are some five hundred rounds at most.
 const STEP: u128 = 8;

@@ -12,6 +12,6 @@ invariant_of-result c =
     let many : c.len.result ≡ length c.in_ok-places.places.positions = omega (arith, c.len.ensures, c.in_ok-positions.positions.ok, ap (λ (x : Placed). length x.positions) c.in_ok-places.ensures) in
     subst IsWhole
     (sym (first_is c.in_ok-places.places.indexed c.args.arcs.now c.in_ok-places.places.positions c.in_ok-places.places.left (befores_in c.in_ok-neighbours.neighbours.items) (afters_in c.in_ok-neighbours.neighbours.items) c.in_ok-fixed.fixed.items (ap (λ (x : Placed). x.positions) c.in_ok-places.ensures ∙ same)
-    (ap (λ (x : Placed). x.left) c.in_ok-places.ensures ∙ ap (λ (x : Placed). x.left) (ap (λ ps. all_placed c.args.no_crossings ps) (sym (ap (λ (x : Placed). x.positions) c.in_ok-places.ensures)))) (c.in_ok-neighbours.ensures.befores ∙ c.deref.ensures.value ∙ c.in_ok-befores.ensures) (c.in_ok-neighbours.ensures.afters ∙ c.deref-2.ensures.value ∙ c.in_ok-afters.ensures)
+    (ap (λ (x : Placed). x.left) c.in_ok-places.ensures ∙ ap (λ (x : Placed). x.left) (ap (λ ps. all_placed c.args.no_crossings ps) (sym (ap (λ (x : Placed). x.positions) c.in_ok-places.ensures)))) c.in_ok-neighbours.ensures.befores c.in_ok-neighbours.ensures.afters
     (c.in_ok-fixed.ensures.items_if_clones_equal (λ y e. e) ∙ ap (λ n. replicate n false) many)))
-    (first_whole c.in_ok-places.places.indexed c.args.arcs.now (subst (λ (ps : List Point). length ps < 2 ^ 60) same c.in_ok-positions.ensures.few))
+    (first_whole c.in_ok-places.places.indexed c.args.arcs.now (subst (λ (ps : List Point). length ps < 2 ^ 32) same c.in_ok-positions.ensures.few))

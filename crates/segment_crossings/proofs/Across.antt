@@ -2,8 +2,8 @@
 use Rattle.std.proofs.Common.{◌≡◌, ℕ, zero, suc, ◌+◌, ◌-◌, ◌<◌, ◌≤◌, List, length, map, drop, refl, ap, arith}
 use Rattle.guarded_meaning.specs.Segments.{bad_pairs}
 use Rattle.segment_crossings.specs.declared.line.Line.{Line}
-use Rattle.segment_crossings.specs.Lines.{as_segment, bad_across, bad_from, bad_inside, line_at}
-use Rattle.segment_crossings.proofs.Lines.{NoneBadWithin, later_fewer, none_ahead, pairs_ahead, skipped}
+use Rattle.segment_crossings.specs.Lines.{Each, as_segment, bad_across, bad_from, bad_inside, line_at}
+use Rattle.segment_crossings.proofs.Lines.{IsClear, later_fewer, none_ahead, pairs_ahead, skipped}
 
 -- no more from a later rank on
 pub across_fewer : (ls : List Line) (n r o e : ℕ) → o ≤ e → bad_across ls r n e ≤ bad_across ls r n o
@@ -13,7 +13,7 @@ across_fewer ls (suc n) r o e h =
     let g = across_fewer ls n (r + 1) o e h in
     omega (arith, f, g)
 
-pub across_skipped : (ls : List Line) (n r o e : ℕ) → o ≤ e → ((i : ℕ) → r ≤ i → i < r + n → NoneBadWithin ls (line_at ls i) o e) → bad_across ls r n o ≡ bad_across ls r n e
+pub across_skipped : (ls : List Line) (n r o e : ℕ) → o ≤ e → ((i : ℕ) → r ≤ i → i < r + n → Each (IsClear (line_at ls i)) ls o e) → bad_across ls r n o ≡ bad_across ls r n e
 across_skipped ls zero r o e h none = refl
 across_skipped ls (suc n) r o e h none =
     let f = skipped ls (line_at ls r) o e h (none r (omega arith) (omega arith)) in

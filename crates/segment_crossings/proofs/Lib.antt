@@ -1,11 +1,11 @@
 pub mod Across
 pub mod Apart
 pub mod Beside
-pub mod Blocks
 pub mod Counts
 pub mod Crossings
 pub mod Gathered
 pub mod Lines
+pub mod Marks
 pub mod Sided
 pub mod Stretches
 pub mod Trees

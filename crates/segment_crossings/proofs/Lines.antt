@@ -5,12 +5,12 @@ use Rattle.std.proofs.Math.Seq.{drop-cons}
 use Rattle.std.proofs.lemmas.List.{drop_all}
 use Rattle.guarded_meaning.specs.Segments.{Segment, meets_badly, bad_pairs}
 use Rattle.segment_crossings.specs.declared.line.Line.{Line}
-use Rattle.segment_crossings.specs.Lines.{as_segment, bad_among, bad_from, line_at, no_line}
+use Rattle.segment_crossings.specs.Lines.{Each, as_segment, bad_among, bad_from, line_at, no_line}
 use Rattle.segment_crossings.proofs.Counts.{one, bad_more}
 
--- none of these ranks is that of a segment that meets this one badly
-pub record NoneBadWithin (ls : List Line) (l : Line) (first end : ℕ) : Type 0 where
-  pub none : (r : ℕ) → first ≤ r → r < end → r < length ls → meets_badly (as_segment l) (as_segment (line_at ls r)) ≡ false
+-- the segment doesn't meet it badly
+abbrev pub IsClear : Line → Segment → Type 0
+IsClear l t = meets_badly (as_segment l) t ≡ false
 
 pub ahead : (ls : List Line) (r : ℕ) → r < length ls → drop r ls ≡ line_at ls r ∷ drop (r + 1) ls
 unfolding line_at
@@ -23,25 +23,25 @@ pub none_ahead : (ls : List Line) (l : Line) (r : ℕ) → length ls ≤ r → b
 none_ahead ls l r h = ap (λ ks. bad_among (as_segment l) (map as_segment ks)) (drop_all r ls h)
 
 -- none of the next k meets it badly
-skip_many : (ls : List Line) (l : Line) (k r : ℕ) → NoneBadWithin ls l r (r + k) → bad_from ls l r ≡ bad_from ls l (r + k)
+skip_many : (ls : List Line) (l : Line) (k r : ℕ) → Each (IsClear l) ls r (r + k) → bad_from ls l r ≡ bad_from ls l (r + k)
 skip_many ls l zero r h = ap (bad_from ls l) (omega arith)
 skip_many ls l (suc k) r h = on (skip_many ls l k (r + 1) rest) (cases_lt r (length ls))
   where
-    rest : NoneBadWithin ls l (r + 1) (r + 1 + k)
-    rest = record { none = λ q a b w. h.none q (omega (arith, a)) (omega (arith, b)) w }
+    rest : Each (IsClear l) ls (r + 1) (r + 1 + k)
+    rest q a b = h q (omega (arith, a)) (omega (arith, b))
 
     on : bad_from ls l (r + 1) ≡ bad_from ls l (r + 1 + k) → (r < length ls) ⊎ (length ls ≤ r) → bad_from ls l r ≡ bad_from ls l (r + suc k)
     on g (inl w) =
         let e = one_ahead ls l r w in
-        let f = ap one (h.none r (omega arith) (omega arith) w) in
+        let f = ap one (h r (omega arith) (omega arith)) in
         let i : bad_from ls l (r + 1 + k) ≡ bad_from ls l (r + suc k) = ap (bad_from ls l) (omega arith) in
         omega (arith, e, f, g, i)
     on g (inr w) = none_ahead ls l r w ∙ sym (none_ahead ls l (r + suc k) (omega (arith, w)))
 
-pub skipped : (ls : List Line) (l : Line) (r e : ℕ) → r ≤ e → NoneBadWithin ls l r e → bad_from ls l r ≡ bad_from ls l e
+pub skipped : (ls : List Line) (l : Line) (r e : ℕ) → r ≤ e → Each (IsClear l) ls r e → bad_from ls l r ≡ bad_from ls l e
 skipped ls l r e h n =
     let f : r + (e - r) ≡ e = omega (arith, h) in
-    skip_many ls l (e - r) r (subst (NoneBadWithin ls l r) (sym f) n) ∙ ap (bad_from ls l) f
+    skip_many ls l (e - r) r (subst (Each (IsClear l) ls r) (sym f) n) ∙ ap (bad_from ls l) f
 
 one_fewer : (ls : List Line) (l : Line) (r : ℕ) → bad_from ls l (r + 1) ≤ bad_from ls l r
 one_fewer ls l r = on (cases_lt r (length ls))
@@ -74,7 +74,7 @@ pub no_pairs_ahead : (ls : List Line) (r : ℕ) → length ls ≤ r → bad_pair
 no_pairs_ahead ls r h = ap (λ ks. bad_pairs (map as_segment ks)) (drop_all r ls h)
 
 -- what holds of each up to a rank, and of the one of the rank
-pub one_more : (P : Segment → Type 0) (ls : List Line) (first rank : ℕ) (l : Line) → l ≡ line_at ls rank → ((r : ℕ) → first ≤ r → r < rank → P (as_segment (line_at ls r))) → P (as_segment l) → (r : ℕ) → first ≤ r → r < rank + 1 → P (as_segment (line_at ls r))
+pub one_more : (P : Segment → Type 0) (ls : List Line) (first rank : ℕ) (l : Line) → l ≡ line_at ls rank → Each P ls first rank → P (as_segment l) → Each P ls first (rank + 1)
 one_more P ls first rank l e before here r a b = on (cases_lt r rank)
   where
     on : (r < rank) ⊎ (rank ≤ r) → P (as_segment (line_at ls r))

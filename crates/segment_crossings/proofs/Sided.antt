@@ -12,7 +12,7 @@ use Rattle.guarded_meaning.proofs.Pasch.{swapped, touches_passes}
 use Rattle.guarded_meaning.proofs.Sides.{flat_says}
 use Rattle.guarded_meaning.proofs.Step.{Parted, on_turned, others_turned, touches_says}
 use Rattle.planar_predicates.proofs.Flat.{flat_first, flat_second}
-use Rattle.segment_crossings.specs.Blocks.{Off}
+use Rattle.segment_crossings.specs.Marks.{Off}
 use Rattle.segment_crossings.proofs.Apart.{never}
 use Rattle.segment_crossings.proofs.Beside.{beside_never}
 

@@ -1,6 +1,5 @@
-pub mod Blocks
 pub mod Crossings
 pub mod Gathering
 pub mod Lines
-pub mod Strips
+pub mod Marks
 pub mod Trees

@@ -1,5 +1,5 @@
 -- The segments of arcs.
-use Rattle.std.specs.Prelude.{ℕ, zero, suc, ◌+◌, ◌-◌, pos, List, length, map, drop, slice_index_or}
+use Rattle.std.specs.Prelude.{ℕ, zero, suc, ◌+◌, ◌-◌, ◌<◌, ◌≤◌, pos, List, length, map, drop, slice_index_or}
 use Rattle.std.specs.List.{filter}
 use Rattle.geometry.specs.Points.{Point}
 use Rattle.guarded_meaning.specs.Segments.{Segment, segment, meets_badly}
@@ -18,6 +18,10 @@ no_line = record { from = no_point; to = no_point }
 
 unfoldable pub line_at : List Line → ℕ → Line
 line_at ls i = slice_index_or ls i no_line
+
+-- so is the segment of each rank from one on, before another
+abbrev pub Each : (Segment → Type 0) → List Line → ℕ → ℕ → Type 0
+Each P ls first end = (r : ℕ) → first ≤ r → r < end → P (as_segment (line_at ls r))
 
 -- how many of these meet it badly
 abbrev pub bad_among : Segment → List Segment → ℕ

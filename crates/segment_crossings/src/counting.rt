@@ -4,8 +4,7 @@ ghost use Rattle.guarded_meaning.specs.Segments.{bad_pairs};
 ghost use Rattle.segment_crossings.specs.Lines.{as_segment};
 ghost use Rattle.segment_crossings.specs.Trees.{IsNode, IsTree, bad_between, bad_in, bad_within};
 
-use crate::block::are_apart;
-use crate::line::{Line, is_bad_pair, read_line};
+use crate::line::{Line, are_apart, is_bad_pair, read_line};
 use crate::run::Run;
 use crate::tree::{Node, Tree, is_clear_of, parts_of};
 
@@ -57,7 +56,7 @@ pub fn count_under(tree: &Tree, node: &Node, line: &Line, sofar: u64, limit: u64
     requires sofar { sofar ≤ limit }
     ensures { result ≡ min limit (sofar + bad_in tree.now.lines.items line.now node.now.run) }
 {
-    if sofar == limit || is_clear_of(node, line) {
+    if sofar == limit || is_clear_of(tree, node, line) {
         return sofar;
     }
     match parts_of(tree, node) {
@@ -108,7 +107,7 @@ fn count_across(
         return sofar;
     }
     *steps -= 1;
-    if are_apart(&node.block, &other.block) {
+    if are_apart(node.extent, other.extent) {
         return sofar;
     }
     if node.run.len() >= other.run.len() {
@@ -176,8 +175,5 @@ pub fn count_pairs(tree: &Tree, limit: u64, steps: &mut u64) -> u64
     ensures kept { tree.now.is_crowded ≡ true → 0 < steps.old → 0 < steps.new }
     ensures count { 0 < steps.new → result ≡ min limit (bad_pairs (map as_segment tree.now.lines.items)) }
 {
-    match &tree.root {
-        Some(root) => count_inside(tree, root, 0, limit, steps),
-        None => 0,
-    }
+    count_inside(tree, &tree.root, 0, limit, steps)
 }

@@ -1,13 +1,15 @@
 // Segments of arcs.
 ghost use Rattle.std.specs.Prelude.{◌≡◌, ◌<◌, true, false, length};
-ghost use Rattle.geometry.specs.Points.{IsPosition};
-ghost use Rattle.planar_predicates.specs.Extents.{HoldsPoint};
-ghost use Rattle.segment_crossings.specs.Blocks.{Off};
+ghost use Rattle.geometry.specs.Points.{Point};
 ghost use Rattle.segment_crossings.specs.Lines.{as_segment, line_at};
+ghost use Rattle.segment_crossings.specs.Marks.{HasPosition, IsIn, Off};
+ghost use Rattle.guarded_meaning.specs.Segments.{Segment};
 ghost use Rattle.guarded_meaning.specs.Segments as spec;
 
 use geometry::{Position, is_same};
-use planar_predicates::{Extent, around, is_left, is_right, joined, meets, meets_badly};
+use planar_predicates::{
+    Extent, around, empty_extent, is_left, is_right, joined, meets, meets_badly,
+};
 
 /// A segment of an arc.
 #[derive(Clone, Copy, Debug, PartialEq, Eq)]
@@ -25,22 +27,30 @@ pub fn read_line(lines: &[Line], rank: usize) -> &Line
     &lines[rank]
 }
 
-/// The ends of a segment are positions. A call does nothing.
-pub fn ends_are_positions(line: &Line)
-    ensures from { IsPosition line.now.from }
-    ensures to { IsPosition line.now.to }
+/// The box with a position more.
+#[tactic(auto, using(planar_predicates::proofs::Boxes::holds_in))]
+pub fn extent_with(e: Extent, p: Position) -> Extent
+    ensures position { HasPosition result p }
+    ensures kept { (q : Point) → HasPosition e q → HasPosition result q }
 {
-    let _ = (line.from.x(), line.from.y());
-    let _ = (line.to.x(), line.to.y());
+    let _ = (p.x(), p.y());
+    joined(e, around(p))
 }
 
 /// The box round a segment.
-#[tactic(auto, using(planar_predicates::proofs::Boxes::holds_in))]
 pub fn extent_of(line: &Line) -> Extent
-    ensures from { HoldsPoint result line.now.from }
-    ensures to { HoldsPoint result line.now.to }
+    ensures { IsIn result (as_segment line.now) }
 {
-    joined(around(line.from), around(line.to))
+    extent_with(extent_with(empty_extent(), line.from), line.to)
+}
+
+/// No two segments, one in each box, meet badly, since the boxes lie apart, if the answer is yes.
+#[inline(always)]
+#[tactic(auto, using(crate::proofs::Marks::extents_apart))]
+pub fn are_apart(e: Extent, f: Extent) -> bool
+    ensures { result ≡ true → (s t : Segment) → IsIn e s → IsIn f t → spec.meets_badly s t ≡ false }
+{
+    !meets(e, f)
 }
 
 /// The position is to the left of the segment's line, or to the right.
@@ -76,6 +86,6 @@ fn lies_aside(line: &Line, other: &Line) -> bool
 pub fn is_bad_pair(line: &Line, other: &Line) -> bool
     ensures { result ≡ spec.meets_badly (as_segment line.now) (as_segment other.now) }
 {
-    meets(extent_of(other), extent_of(line))
+    !are_apart(extent_of(line), extent_of(other))
         && (!lies_aside(line, other) && meets_badly(line.from, line.to, other.from, other.to))
 }

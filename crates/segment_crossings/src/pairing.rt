@@ -36,10 +36,7 @@ fn is_alone(tree: &Tree, line: &Line) -> bool
     requires { IsTree tree.now }
     ensures { result ≡ true → bad_from tree.now.lines.items line.now 0 ≤ 1 }
 {
-    match &tree.root {
-        Some(root) => count_under(tree, root, line, 0, 2) < 2,
-        None => true,
-    }
+    count_under(tree, &tree.root, line, 0, 2) < 2
 }
 
 /// Puts the pairs of the segment of this rank and later ones after the others, up to so many in all.

@@ -1,10 +1,10 @@
 // Segments one after another.
-ghost use Rattle.std.specs.Prelude.{◌≡◌, ℕ, ◌-◌, ◌<◌, ◌≤◌, length};
-ghost use Rattle.segment_crossings.specs.Blocks.{Covers};
-ghost use Rattle.segment_crossings.specs.Lines.{as_segment, line_at};
+ghost use Rattle.std.specs.Prelude.{◌≡◌, ◌-◌, ◌≤◌, length};
+ghost use Rattle.segment_crossings.specs.Lines.{Each};
+ghost use Rattle.segment_crossings.specs.Marks.{IsIn};
 
-use crate::block::{Block, block_of, block_of_both};
-use crate::line::{Line, read_line};
+use crate::line::{Line, extent_of, read_line};
+use planar_predicates::{Extent, empty_extent, joined};
 
 /// Segments from a rank on, before another.
 #[derive(Clone, Copy, Debug, PartialEq, Eq)]
@@ -23,15 +23,14 @@ impl Run {
     }
 }
 
-/// What is known of the segments of a run.
-pub fn block_round(lines: &[Line], run: Run) -> Block
-    requires some { run.first < run.end }
-    requires within { run.end ≤ length lines.now }
-    ensures { (r : ℕ) → run.first ≤ r → r < run.end → Covers result (as_segment (line_at lines.now r)) }
+/// The box round the segments of a run.
+pub fn extent_round(lines: &[Line], run: Run) -> Extent
+    requires { run.end ≤ length lines.now }
+    ensures { Each (IsIn result) lines.now run.first run.end }
 {
-    let mut block = block_of(read_line(lines, run.first));
-    for rank in run.first + 1..run.end {
-        block = block_of_both(&block, &block_of(read_line(lines, rank)));
+    let mut extent = empty_extent();
+    for rank in run.first..run.end {
+        extent = joined(extent, extent_of(read_line(lines, rank)));
     }
-    block
+    extent
 }

@@ -1,44 +1,44 @@
 // Segments in a tree of runs.
-ghost use Rattle.std.specs.Prelude.{◌≡◌, ◌<◌, ◌≤◌, true, false, ℕ, IfOk, OnOk, length, map};
+ghost use Rattle.std.specs.Prelude.{◌≡◌, ◌<◌, ◌≤◌, true, IfOk, OnOk, length, map};
 ghost use Rattle.std.specs.List.{All};
-ghost use Rattle.std.specs.Option.{IfNone, IfSome};
+ghost use Rattle.std.specs.Option.{IfSome};
 ghost use Rattle.guarded_meaning.specs.Arcs.{segments};
-ghost use Rattle.guarded_meaning.specs.Segments.{Segment, meets_badly};
 ghost use Rattle.segment_crossings.specs.Gathering.{AreSame};
-ghost use Rattle.segment_crossings.specs.Lines.{as_segment, line_at};
-ghost use Rattle.segment_crossings.specs.Strips.{IsBetween};
-ghost use Rattle.segment_crossings.specs.Trees.{AreParts, Holds, IsNode, IsRoot, IsTree};
+ghost use Rattle.segment_crossings.specs.Lines.{as_segment};
+ghost use Rattle.segment_crossings.specs.Marks.{IsMark};
+ghost use Rattle.segment_crossings.specs.Trees.{AreParts, IsNode, IsTree, bad_in};
 
-use crate::block::{Block, block_of_both, is_clear};
 use crate::gathering::{Gathered, lines_in_order};
-use crate::line::Line;
-use crate::run::{Run, block_round};
-use crate::strip::{Strip, is_beside, strip_round};
+use crate::line::{Line, are_apart, extent_of};
+use crate::mark::{Mark, is_off, mark_over, rules_out};
+use crate::run::{Run, extent_round};
 use geometry::Position;
 use owned_values::{Items, Memory};
+use planar_predicates::{Extent, joined};
 use std::alloc::Global;
 
 /// So many segments are not parted.
 const FEW: usize = 8;
 
-/// The segments of a run, with what is known of them: a block, and where segments are crowded a strip that holds them. The node of this number and the
-/// next one have the parts of its run, unless its segments are few.
+/// The segments of a run, with the box round them. The node before this one and the one of another number have the parts of its run, unless its segments
+/// are few: then there is none of that number.
 #[derive(Clone, Copy, Debug, PartialEq, Eq)]
 pub struct Node {
     pub run: Run,
-    pub parts: Option<usize>,
-    pub block: Block,
-    pub strip: Option<Strip>,
+    pub number: usize,
+    pub first: usize,
+    pub extent: Extent,
 }
 
-/// The segments of arcs in an order in which near ones are close together, or near ones of about the same length, if they are crowded; the node of all
-/// of them, if there are any; and the nodes under it.
+/// The segments of arcs in an order in which near ones are close together, or near ones of about the same length, if they are crowded; the nodes of runs
+/// of them, that of all of them also by itself; and if they are crowded, a mark for each node.
 #[derive(Drop)]
 pub struct Tree {
     pub is_crowded: bool,
     pub lines: Vec<Line>,
     pub nodes: Vec<Node>,
-    pub root: Option<Node>,
+    pub marks: Vec<Mark>,
+    pub root: Node,
 }
 
 /// Two nodes that have the parts of a run.
@@ -46,34 +46,6 @@ pub struct Tree {
 pub struct Parts<'a> {
     pub first: &'a Node,
     pub second: &'a Node,
-}
-
-/// A strip that holds the segments of a run, where they are crowded; else none.
-fn strip_over(lines: &[Line], run: Run, is_crowded: bool) -> Option<Strip>
-    requires some { run.first < run.end }
-    requires within { run.end ≤ length lines.now }
-    ensures { (r : ℕ) → run.first ≤ r → r < run.end → IfSome result (λ w. IsBetween w (as_segment (line_at lines.now r))) }
-{
-    if is_crowded {
-        Some(strip_round(lines, run))
-    } else {
-        None
-    }
-}
-
-/// A node without parts.
-fn leaf_over(lines: &[Line], run: Run, is_crowded: bool) -> Node
-    requires some { run.first < run.end }
-    requires within { run.end ≤ length lines.now }
-    ensures node { IsNode lines.now result }
-    ensures run { result.run ≡ run }
-{
-    Node {
-        run,
-        parts: None,
-        block: block_round(lines, run),
-        strip: strip_over(lines, run, is_crowded),
-    }
 }
 
 /// How many of so many stretches are in the first half, as `arrange` halves them: elsewhere a half would have some of what lies in the other.
@@ -89,7 +61,7 @@ fn half_of(n: usize) -> usize
 
 /// The rank that a stretch begins with, if it is inside the run, and this has many segments.
 fn cut_at(starts: &[usize], half: usize, run: Run) -> Option<usize>
-    requires { run.first < run.end }
+    requires { run.first ≤ run.end }
     ensures { IfSome result (λ m. (run.first < m) × (m < run.end)) }
 {
     let rank = *starts.get(half)?;
@@ -100,15 +72,14 @@ fn cut_at(starts: &[usize], half: usize, run: Run) -> Option<usize>
     }
 }
 
-/// The node of a run, whose stretches begin with these ranks. The nodes under it are put after the others.
+/// The node of a run, whose stretches begin with these ranks. It is put after the nodes under it, and these after the others.
 fn node_over(
     lines: &[Line],
     starts: &[usize],
     run: Run,
-    is_crowded: bool,
     nodes: &mut Vec<Node>,
 ) -> Result<Node, Memory>
-    requires some { run.first < run.end }
+    requires order { run.first ≤ run.end }
     requires within { run.end ≤ length lines.now }
     requires nodes { All (IsNode lines.now) nodes.old.items }
     ensures node { IfOk result (λ n. IsNode lines.now n) }
@@ -118,7 +89,16 @@ fn node_over(
     let half = half_of(starts.len());
     let middle = match cut_at(starts, half, run) {
         Some(middle) => middle,
-        None => return Ok(leaf_over(lines, run, is_crowded)),
+        None => {
+            let leaf = Node {
+                run,
+                number: nodes.len(),
+                first: usize::MAX,
+                extent: extent_round(lines, run),
+            };
+            nodes.push(leaf)?;
+            return Ok(leaf);
+        }
     };
     let (front, back) = starts.split_at(half);
     let before = Run {
@@ -129,17 +109,32 @@ fn node_over(
         first: middle,
         end: run.end,
     };
-    let first = node_over(lines, front, before, is_crowded, nodes)?;
-    let second = node_over(lines, back, after, is_crowded, nodes)?;
-    let at = nodes.len();
-    nodes.push(first)?;
-    nodes.push(second)?;
-    Ok(Node {
+    let first = node_over(lines, front, before, nodes)?;
+    let second = node_over(lines, back, after, nodes)?;
+    let node = Node {
         run,
-        parts: Some(at),
-        block: block_of_both(&first.block, &second.block),
-        strip: strip_over(lines, run, is_crowded),
-    })
+        number: nodes.len(),
+        first: first.number,
+        extent: joined(first.extent, second.extent),
+    };
+    nodes.push(node)?;
+    Ok(node)
+}
+
+/// The marks of nodes, each by the segment in the middle of its run.
+fn marks_of(alloc: Global, lines: &[Line], nodes: &[Node]) -> Result<Vec<Mark>, Memory>
+    requires { All (IsNode lines.now) nodes.now }
+    ensures { IfOk result (λ marks. All (IsMark lines.now) marks.items) }
+{
+    let mut marks = Vec::new(alloc);
+    'nodes: for node in nodes {
+        let run = node.run;
+        let Some(along) = lines.get(run.first + run.len() / 2) else {
+            return Ok(marks);
+        };
+        marks.push(mark_over(lines, run, *along))?;
+    }
+    Ok(marks)
 }
 
 /// The segments of arcs in a tree.
@@ -150,43 +145,28 @@ pub fn tree_of(alloc: Global, arcs: &[Items<Position>], is_crowded: bool) -> Res
 {
     let Gathered { lines, starts } = lines_in_order(alloc, arcs, is_crowded)?;
     let mut nodes = Vec::new(alloc);
-    let root = root_over(&lines, &starts, is_crowded, &mut nodes)?;
-    Ok(Tree {
-        is_crowded,
-        lines,
-        nodes,
-        root,
-    })
-}
-
-/// The node of all segments, if there are any.
-fn root_over(
-    lines: &[Line],
-    starts: &[usize],
-    is_crowded: bool,
-    nodes: &mut Vec<Node>,
-) -> Result<Option<Node>, Memory>
-    requires nodes { All (IsNode lines.now) nodes.old.items }
-    ensures some { IfOk result (λ root. IfSome root (IsRoot lines.now)) }
-    ensures none { IfOk result (λ root. IfNone root (length lines.now ≡ 0)) }
-    ensures nodes { OnOk result (All (IsNode lines.now) nodes.new.items) }
-{
-    if lines.is_empty() {
-        return Ok(None);
-    }
     let all = Run {
         first: 0,
         end: lines.len(),
     };
-    let root = node_over(lines, starts, all, is_crowded, nodes)?;
-    Ok(Some(root))
+    let root = node_over(&lines, &starts, all, &mut nodes)?;
+    let marked = if is_crowded { nodes.len() } else { 0 };
+    let marks = marks_of(alloc, &lines, &nodes[..marked])?;
+    Ok(Tree {
+        is_crowded,
+        lines,
+        nodes,
+        marks,
+        root,
+    })
 }
 
-/// The first run ends where the second begins, and both are a third one, if the answer is yes.
+/// The first run ends where the second begins, both are a third one, and neither is empty, if the answer is yes.
 fn are_parts(run: Run, first: Run, second: Run) -> bool
     ensures { result ≡ true → AreParts run first second }
 {
-    first.first == run.first && (first.end == second.first && second.end == run.end)
+    (first.first == run.first && (first.end == second.first && second.end == run.end))
+        && (first.first < first.end && second.first < second.end)
 }
 
 /// The nodes that have the parts of a node's run, if it has any.
@@ -196,9 +176,8 @@ pub fn parts_of<'a>(tree: &'a Tree, node: &Node) -> Option<Parts<'a>>
     ensures first { IfSome result (λ p. IsNode tree.now.lines.items p.first.now) }
     ensures second { IfSome result (λ p. IsNode tree.now.lines.items p.second.now) }
 {
-    let at = node.parts?;
-    let first = tree.nodes.get(at)?;
-    let second = tree.nodes.get(at.saturating_add(1))?;
+    let first = tree.nodes.get(node.first)?;
+    let second = tree.nodes.get(node.number.saturating_sub(1))?;
     if are_parts(node.run, first.run, second.run) {
         Some(Parts { first, second })
     } else {
@@ -207,14 +186,20 @@ pub fn parts_of<'a>(tree: &'a Tree, node: &Node) -> Option<Parts<'a>>
 }
 
 /// No segment of a node meets this one badly, if the answer is yes.
-pub fn is_clear_of(node: &Node, line: &Line) -> bool
-    ensures { result ≡ true → (t : Segment) → Holds node.now t → meets_badly (as_segment line.now) t ≡ false }
+pub fn is_clear_of(tree: &Tree, node: &Node, line: &Line) -> bool
+    requires tree { IsTree tree.now }
+    requires node { IsNode tree.now.lines.items node.now }
+    ensures { result ≡ true → bad_in tree.now.lines.items line.now node.now.run ≡ 0 }
 {
-    if is_clear(&node.block, line) {
+    if are_apart(extent_of(line), node.extent) {
         return true;
     }
-    match &node.strip {
-        Some(strip) => is_beside(strip, line),
+    match tree.marks.get(node.number) {
+        Some(mark) => {
+            mark.run.first == node.run.first
+                && (mark.run.end == node.run.end
+                    && (is_off(&node.extent, line) || rules_out(mark, line)))
+        }
         None => false,
     }
 }

@@ -29,9 +29,16 @@ usage() {
     exit 2
 }
 
+# Whether this can be the folder below which all goes: a word that begins with a dash would be an option of what it is given to.
+is_prefix() {
+    [ -n "$1" ] && [ "${1#-}" = "$1" ]
+}
+
+# Puts a file in place. Everybody can read it, whatever the umask is, in the folders that are made for it; those that exist stay as they are.
 put() {
-    mkdir -p "$(dirname "$prefix/$3")"
-    install -m "$1" "$2" "$prefix/$3"
+    folder=$(dirname "$prefix/$3")
+    [ -d "$folder" ] || install -d -m 755 "$folder"
+    install -m "$1" -- "$2" "$prefix/$3"
     echo "$prefix/$3"
 }
 
@@ -55,12 +62,12 @@ take_away() {
 }
 
 if [ "${1:-}" = --uninstall ]; then
-    if [ $# -ne 2 ] || [ -z "$2" ]; then usage; fi
+    if [ $# -ne 2 ] || ! is_prefix "$2"; then usage; fi
     prefix=$2
     take_away
     exit
 fi
-if [ $# -lt 1 ] || [ $# -gt 2 ] || [ -z "$1" ] || [ "${1#-}" != "$1" ]; then usage; fi
+if [ $# -lt 1 ] || [ $# -gt 2 ] || ! is_prefix "$1"; then usage; fi
 prefix=$1
 program=${2:-}
 if [ -z "$program" ]; then

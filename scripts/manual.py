@@ -202,13 +202,21 @@ _mapchain_files() {
     mapfile -t COMPREPLY < <(compgen -f -- "$1")
 }
 
-# The files and folders for what stands after = in a word that is not parted there.
+# The files and folders for what stands after = in a text that is not parted there. What was typed of name and folder stays as it is, and what
+# comes after it is quoted; but where a quotation mark is open, as a second argument says, bash itself quotes the whole of it.
 _mapchain_layer_files() {
-    local name=${1%%=*} file
+    local start=${1%%=*}= typed=${1#*=} file slash
+    if [ "$2" ]; then
+        compopt -o filenames
+    elif [[ $typed == */* ]]; then
+        start+=${typed%/*}/
+    fi
     while IFS= read -r file; do
-        if [ -d "$file" ]; then file=$file/; fi
-        COMPREPLY+=("$name=$file")
-    done < <(compgen -f -- "${1#*=}")
+        slash=
+        if [ -d "$file" ]; then slash=/; fi
+        if [ -z "$2" ]; then printf -v file %q "${file##*/}"; fi
+        COMPREPLY+=("$start$file$slash")
+    done < <(compgen -f -- "$typed")
     if [ ${#COMPREPLY[@]} = 1 ] && [[ ${COMPREPLY[0]} == */ ]]; then compopt -o nospace; fi
 }
 
@@ -217,8 +225,10 @@ _mapchain_words() {
 }
 
 _mapchain() {
-    local word=${COMP_WORDS[COMP_CWORD]} at=$((COMP_CWORD - 1)) command= i
+    local word=${COMP_WORDS[COMP_CWORD]} at=$((COMP_CWORD - 1)) command= quoted= i
     COMPREPLY=()
+    # Where a quotation mark is open, the text to complete, $2, begins behind it.
+    if [[ ${COMP_LINE:0:COMP_POINT} == *[\"\']"$2" ]]; then quoted=yes; fi
     for ((i = 1; i < COMP_CWORD; i++)); do
         case ${COMP_WORDS[i]} in
             -*) ;;
@@ -256,9 +266,11 @@ BASH_FILES = """                *) _mapchain_files "$word" ;;"""
 BASH_LAYERS = """                *)
                     if [ "$before" = = ]; then
                         _mapchain_files "$word"
-                    elif [[ $word == *=* ]]; then
-                        _mapchain_layer_files "$word"
-                    else
+                    elif [[ $2 == *=* ]]; then
+                        _mapchain_layer_files "$2" "$quoted"
+                    elif [[ $quoted && $word == *=* ]]; then
+                        _mapchain_files "$2"
+                    elif [ -z "$quoted" ]; then
                         _mapchain_layers "$word"
                     fi
                     ;;"""

@@ -28,12 +28,18 @@ crate_lines() {
 
 # The folders of the files that the program is made of.
 source_folders() {
-    crate_lines | sed 's|:.*||; s|.*|crates/&/src crates/&/specs crates/&/proofs|'
+    crate_lines | sed 's|:.*||' | while read -r crate; do
+        for part in src specs proofs; do
+            if [ -d "$root/crates/$crate/$part" ]; then echo "crates/$crate/$part"; fi
+        done
+    done
 }
 
-# Whether a source is newer than a file. A folder is newer where a file in it came or went.
+# Whether a source is newer than a file, by its time or by that of its last change, which is noted where a file is written, named, or put
+# there with an older time. A folder is newer where a file in it came or went. Where `find` can't tell, a source counts as newer.
 is_older_than_sources() {
-    [ -n "$(cd "$root" && find crates.txt $(source_folders) -newer "$1" -print 2>/dev/null | head -n 1)" ]
+    newer=$(cd "$root" && find crates.txt $(source_folders) \( -newer "$1" -o -newercm "$1" \) -print 2>/dev/null) || return 0
+    [ -n "$newer" ]
 }
 
 sum_of() {
@@ -73,6 +79,11 @@ told() {
     sed -n "s/^$1 //p" "$record" 2>/dev/null
 }
 
+# Whether this is a file that may be run.
+is_program() {
+    [ -f "$1" ] && [ -x "$1" ]
+}
+
 is_released() {
     [ -f "$released" ] && [ "$(told sources)" = "$(sum_of_sources)" ]
 }
@@ -110,6 +121,7 @@ follow() {
 # Proves and builds the program, by `rt ci` over a copy of just the crates that it is made of, without their must-fail edits.
 # With the word --anew all is proved from nothing, else over what earlier runs on this machine proved of the same files.
 prove_and_build() {
+    [ ! -d "$built" ] || fail 125 "crates/mapchain/out/mapchain is a folder, so no program can be built there"
     command -v rt >/dev/null || fail 127 "the program has to be proved and built, and the toolchain's command 'rt' isn't on PATH"
     room=$(mktemp -d) || fail 125 "there is no room for a temporary folder"
     trap 'rm -rf "$room"' EXIT
@@ -136,10 +148,12 @@ prove_and_build() {
         fail 125 "the program isn't proved"
     fi
     # A source that was saved while rt ran is newer than the program.
-    mkdir -p "$(dirname "$built")"
-    cp "$room/crates/mapchain/out/mapchain" "$built.new"
-    touch -r "$room/crates.txt" "$built.new"
-    mv -f "$built.new" "$built"
+    {
+        mkdir -p "$(dirname "$built")" &&
+            cp "$room/crates/mapchain/out/mapchain" "$built.new" &&
+            touch -r "$room/crates.txt" "$built.new" &&
+            mv -f "$built.new" "$built"
+    } || fail 125 "the program can't be put into crates/mapchain/out"
     keep_verdict "$room/log"
     echo "mapchain: proved and built after $(($(date +%s) - began)) seconds" >&2
     rm -rf "$room"
@@ -147,10 +161,11 @@ prove_and_build() {
 }
 
 # Chooses the program that ./mapchain runs: the one that was built here, where no source is newer; else the released one, where it
-# was made of these very sources and is whole; else one that is proved and built first.
+# was made of these very sources and is whole; else one that is proved and built first. It is said, with status 125, where the released
+# one would be run and may not: its permission takes a word, and a proof takes half an hour.
 choose_program() {
     program=$built
-    if [ -x "$built" ] && ! is_older_than_sources "$built"; then
+    if is_program "$built" && ! is_older_than_sources "$built"; then
         return
     fi
     if ! is_released; then
@@ -158,6 +173,7 @@ choose_program() {
     elif ! is_whole; then
         echo "mapchain: release/mapchain isn't the program whose sum release/record has, so it isn't run" >&2
     else
+        is_program "$released" || fail 125 "release/mapchain may not be run: it takes 'chmod +x release/mapchain', and a file system that runs programs"
         program=$released
         return
     fi

@@ -19,7 +19,7 @@ case $# in
         ;;
 esac
 
-[ -x "$built" ] || fail 1 "no program was built here: run .ci/run or scripts/prove.sh first"
+is_program "$built" || fail 1 "no program was built here: run .ci/run or scripts/prove.sh first"
 ! is_older_than_sources "$built" || fail 1 "a source is newer than the program that was built here"
 program=$(sum_of "$built")
 verdict=$(sed -n "s/^$program //p" "$beside/verdict" 2>/dev/null)

@@ -15,7 +15,7 @@ is complained of. A picture that the README shows, as docs/areas.svg, has to be 
 An entry of docs/FAULTS.md is a heading of the third level, and names a fault line of docs/FORMATS.md, without its `error:` and its
 numbers. Each fault line has one entry, each entry a fault line, and some command of the entry ends with it; but for the line of which
 docs/FORMATS.md says that it was not seen so far. The status is 0 where all of this is so, and where of each document as many commands were run
-as scripts/commands.txt has for it.
+as scripts/commands.txt has for it, and README.md says how many commands that has in all.
 """
 import os
 import re
@@ -26,7 +26,7 @@ from pathlib import Path
 
 sys.dont_write_bytecode = True
 
-from pages import ROOT, bytes_of, missed, note, path_of, words_of
+from pages import ROOT, bytes_of, missed, note, noted, path_of, words_of
 
 README = ROOT / "README.md"
 FAULTS = ROOT / "docs" / "FAULTS.md"
@@ -185,6 +185,15 @@ def try_faults(program, room):
     return faults
 
 
+def is_counted():
+    """Whether README.md says how many commands scripts/commands.txt has, of all documents and worked examples."""
+    said = f"{sum(noted().values()):,} commands"
+    if said in README.read_text():
+        return True
+    print(f"README.md: it doesn't say '{said}', as scripts/commands.txt has them")
+    return False
+
+
 def is_document(path):
     """Whether this is the path of a document."""
     return path in map(path_of, (README, FAULTS))
@@ -197,7 +206,8 @@ def main():
     ran = {path_of(path): each.ran for path, each in zip((README, FAULTS), tried)}
     if writes:
         note(ran, is_document)
-    sys.exit(1 if missed(ran, is_document) or any(each.otherwise or not each.ran for each in tried) else 0)
+    is_right = is_counted()
+    sys.exit(1 if missed(ran, is_document) or not is_right or any(each.otherwise or not each.ran for each in tried) else 0)
 
 
 if __name__ == "__main__":

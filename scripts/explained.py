@@ -7,9 +7,7 @@ The second word is how many layers and how many topologies there are, the third 
 standard error have to be the same, each line after that has to begin with two blanks, and the report has to hold the status and these lines,
 with those of lost features that standard error leaves out.
 The features of which an explanation says that nothing of their geometry is left have to be those of which a line or a ring was dropped and
-which are written without any, and the report has their number. Through a pipe, which can't be read once more, status and standard output have to be the same, and all lines, where
-a topology is built or simplified; else each line of the explanation has to be one of those of before, but for the place of what is malformed, of
-which the byte is known. At its end it prints how many runs there were, and how many faults had no line but that of their file.
+which are written without any, and the report has their number. Through a pipe all has to be the same. At its end it prints how many runs there were, and how many faults had no line but that of their file.
 """
 import json
 import os
@@ -70,13 +68,8 @@ def piped_difference(program, words, folder, status, output, error, lines):
     ended = run(program, [through[0], "--explain", *through[1:]], folder, (folder / name).read_bytes())
     if ended[:2] != (status, output) or not ended[2].startswith(error):
         return f"otherwise through a pipe: {ended[0]}, {ended[2]!r}"
-    said = ended[2][len(error) :].splitlines()
-    if status == 0 and words[0] in ("build", "simplify") and said != lines:
-        return f"through a pipe it says {said!r}"
-    for line in said:
-        if line.replace("/dev/stdin", name) not in lines and not re.fullmatch(r"  byte \d+: .+", line):
-            return f"through a pipe it says {line!r}"
-    return ""
+    said = ended[2][len(error) :].replace("/dev/stdin", name).splitlines()
+    return "" if said == lines else f"through a pipe it says {said!r}"
 
 
 def difference(program, words, folder):

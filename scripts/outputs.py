@@ -111,6 +111,13 @@ def plain(words):
     return run.returncode, run.stdout, run.stderr
 
 
+def piped(words, path):
+    """The same of a run to which the bytes of this file come by a pipe."""
+    with open(path, "rb") as file:
+        run = subprocess.run([PROGRAM, *words], input=file.read(), capture_output=True, timeout=120)
+    return run.returncode, run.stdout, run.stderr
+
+
 def write_fault(code, sent):
     return f"error: {code} Write sent {sent}\n".encode()
 
@@ -332,17 +339,37 @@ def try_losses():
             with open("run.json", "rb") as file:
                 report = file.read()
             expect(f"losses of {command}", (0, True), (status, said.endswith(explanations[command])))
-            with open(source, "rb") as file:
-                cat = subprocess.Popen(["cat"], stdin=file, stdout=subprocess.PIPE)
-                run = subprocess.run([PROGRAM, *words, named % "/dev/stdin"], stdin=cat.stdout, capture_output=True, timeout=120)
-                cat.wait()
-            expect(f"losses of {command} through a pipe", (status, output, said), (run.returncode, run.stdout, run.stderr))
+            expect(f"losses of {command} through a pipe", (status, output, said), piped([*words, named % "/dev/stdin"], source))
             with open("run.json", "rb") as file:
                 expect(f"the report of {command} through a pipe", report, file.read())
             changed = [(source, output, 0o644)]
             try_run(f"losses of {command} onto its input", [*words, "-o", source, named % source], (0, said), changed)
             with open("run.json", "rb") as file:
                 expect(f"the report of {command} onto its input", report, file.read())
+
+
+def try_piped_faults():
+    """What `--explain` and `--report` say of what came by a pipe and is refused: what they say of a file with these bytes."""
+    with new_folder():
+        for command in (["build"], ["simplify"], ["geo", "--object", "b"], ["stat"], ["stat", "--crossings"]):
+            named = "a=%s" if command == ["build"] else "%s"
+            for path in ("no-json", "no-map"):
+                try_piped_fault([*command, "--explain", "--report", "run.json", named], path)
+        try_piped_fault(["build", "--explain", "--report", "run.json", "a=line", "b=%s"], "topology")
+        try_piped_fault(["geo", "--explain", "--report", "run.json", "--object", "b", "%s"], "topology")
+
+
+def try_piped_fault(words, path):
+    """The same of these words, of which the last has a place for this file, or for the pipe. More is said than which file it is."""
+    status, _, said = plain([*words[:-1], words[-1] % path])
+    with open("run.json", "rb") as file:
+        report = file.read()
+    name = f"{' '.join(words)} of {path}"
+    expect(name, (1, True), (status, said.count(b"\n") > 2))
+    ended = piped([*words[:-1], words[-1] % "/dev/stdin"], path)
+    expect(f"{name} through a pipe", (status, b"", said), (*ended[:2], ended[2].replace(b"/dev/stdin", path.encode())))
+    with open("run.json", "rb") as file:
+        expect(f"the report of {name} through a pipe", report, file.read().replace(b"/dev/stdin", path.encode()))
 
 
 def try_standard_output():
@@ -673,6 +700,7 @@ PARTS = (
     (try_standard_streams, 144),
     (try_words, 24),
     (try_losses, 24),
+    (try_piped_faults, 36),
     (try_standard_output, 4),
     (try_unreported, 4),
     (try_too_many_open, 1),

@@ -392,24 +392,16 @@ def fail(words, number, ended):
     sys.exit(1)
 
 
-def without_column(text):
-    """The same with the byte of a fault in place of its line and column, and without where what isn't ended begins: that of a file that can't be read
-    once more."""
-    begins = r"the array begins at line \d+, column \d+ \(byte \d+\)"
-    text = re.sub(rf'  {begins}\n|,"{begins}"', "", text)
-    return re.sub(r"line \d+, column \d+ \((byte \d+)\)", r"\1", text)
-
-
 def explained_less(error):
     """The same with as many lines of its explanation or fewer of the last ones."""
     lines = error.splitlines(True)
     first = next((at for at, line in enumerate(lines) if line.startswith("  ")), len(lines))
-    return [*("".join(lines[:end]) for end in range(first, len(lines) + 1)), without_column(error)]
+    return ["".join(lines[:end]) for end in range(first, len(lines) + 1)]
 
 
 def reported_less(report):
-    """The same without its explanation, with all of it, or with less of what it says of a place."""
-    return [report, report and re.sub(r'"explanation":\[.*\]', '"explanation":[]', report), report and without_column(report)]
+    """The same with its explanation or without."""
+    return [report, report and re.sub(r'"explanation":\[.*\]', '"explanation":[]', report)]
 
 
 def of_memory(run, code):

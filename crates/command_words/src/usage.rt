@@ -180,9 +180,8 @@ const REPORT_HELP: &str = "Write a report of the run to a file, as a JSON object
 const REPORT_LONG_HELP: &str =
     "Write a report of the run to FILE when the run ends, whether it is done or not, as a
 JSON object: the exit status, the fault, the counts, how many features lost all of their
-geometry, and all lines of '--explain', for which a file that is refused is read once
-more. docs/FORMATS.md describes it. FILE is replaced, or written itself, as by '-o', and
-left as it is where it is the FILE of '-o'";
+geometry, and all lines of '--explain'. docs/FORMATS.md describes it. FILE is replaced,
+or written itself, as by '-o', and left as it is where it is the FILE of '-o'";
 
 const EXPLAIN_HELP: &str = "Explain in words what is wrong, or what was left out";
 
@@ -191,8 +190,7 @@ const EXPLAIN_LONG_HELP: &str =
 far as that can be found out. Where all is done, say below the report, if there is one,
 how much was kept, which area was chosen for a share, which features lost all of their
 geometry, and what was left out of the layers (ten lines of a kind, and how many more);
-of 'mapchain stat', what is in the topology. A file that is refused is read once more
-for it; where all is done, none is";
+of 'mapchain stat', what is in the topology";
 
 const QUIET_HELP: &str = "Leave out the report, where all is done";
 

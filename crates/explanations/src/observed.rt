@@ -26,6 +26,8 @@ struct Seen {
     layers: usize,
     /// All lines, once the topology is written or counted.
     lines: String,
+    /// The bytes that were refused, or none.
+    refused: &'static [u8],
     /// Whether memory was refused for some of it.
     is_short: bool,
 }
@@ -122,7 +124,7 @@ impl Seen {
     }
 }
 
-/// What was seen of a run, for the explanation of what was built, simplified or counted: nothing of it is read again.
+/// What was seen of a run, for the explanation of how it came out: nothing is read again for it.
 #[derive(Drop)]
 pub struct Observed {
     /// Nothing where nobody asks for it.
@@ -142,6 +144,7 @@ impl Observed {
                 inputs: InputLines::none(alloc),
                 layers: 0,
                 lines: String::new(alloc),
+                refused: &[],
                 is_short: false,
             }),
         }
@@ -153,6 +156,14 @@ impl Observed {
         match &mut self.seen {
             Some(seen) => seen.take_lines(alloc),
             None => Err(AllocError),
+        }
+    }
+
+    /// The bytes that were refused, or none.
+    pub fn refused_bytes(&self) -> &'static [u8] {
+        match &self.seen {
+            Some(seen) => seen.refused,
+            None => &[],
         }
     }
 }
@@ -172,7 +183,13 @@ impl Watch for Observed {
         }
     }
 
-    fn asks_for_features(&self) -> bool {
+    fn refused(&mut self, bytes: &'static [u8]) {
+        if let Some(seen) = &mut self.seen {
+            seen.refused = bytes;
+        }
+    }
+
+    fn asks_for_more(&self) -> bool {
         self.seen.is_some()
     }
 

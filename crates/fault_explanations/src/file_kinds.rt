@@ -5,7 +5,7 @@ use topojson_decoder::shown;
 /// What the system says of a path.
 #[derive(Clone, Copy, Debug, PartialEq, Eq)]
 pub enum FileKind {
-    /// A file whose bytes can be read again.
+    /// A file that can be opened.
     Regular,
     /// There is nothing of this name.
     Missing,

@@ -173,32 +173,16 @@ fn malformed(
     Ok(lines)
 }
 
-/// What this fault says of bytes that can't be read once more.
-fn unread_fault(alloc: Global, fault: JsonFault) -> Result<String, AllocError> {
-    match fault {
-        JsonFault::Memory => Ok(String::new(alloc)),
-        JsonFault::NotUtf8 { at } => format!(in alloc; "  byte {at}: the bytes are no UTF-8\n"),
-        JsonFault::Malformed { at, why } => {
-            let words = words(why);
-            format!(in alloc; "  byte {at}: {words}\n")
-        }
-    }
-}
-
-/// What is wrong with bytes for which this fault was answered, and which are none where they can't be read once more. `sequence` is said of
-/// JSON texts one after another.
+/// What is wrong with bytes for which this fault was answered. `sequence` is said of JSON texts one after another.
 pub(crate) fn json_fault(
     alloc: Global,
-    bytes: Option<&[u8]>,
+    bytes: &[u8],
     deepest: u32,
     sequence: &str,
     fault: JsonFault,
 ) -> Result<String, AllocError>
     requires { deepest ≤ 255 }
 {
-    let Some(bytes) = bytes else {
-        return unread_fault(alloc, fault);
-    };
     match fault {
         JsonFault::Memory => Ok(String::new(alloc)),
         JsonFault::NotUtf8 { at } => {

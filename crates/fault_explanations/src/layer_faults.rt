@@ -134,15 +134,12 @@ fn layer_lines(
 fn geo_fault(
     alloc: Global,
     exact: bool,
-    bytes: Option<&[u8]>,
+    bytes: &[u8],
     fault: GeoFault,
 ) -> Result<String, AllocError> {
     if fault.kind == GeoFaultKind::Memory {
         return Ok(String::new(alloc));
     }
-    let Some(bytes) = bytes else {
-        return Ok(String::new(alloc));
-    };
     let Some(value) = tree(alloc, bytes, LAYER_DEPTH)? else {
         return Ok(String::new(alloc));
     };
@@ -153,15 +150,14 @@ fn geo_fault(
 }
 
 /// Why this layer is refused, with this fault: its name and its file, the feature that the fault is in, the place in it and what is
-/// wrong there, as far as that is found out. `bytes` are those of its file, which is read with this `exact`, or none where they can't be
-/// read once more.
+/// wrong there, as far as that is found out. `bytes` are those of its file, which was read with this `exact`, or none where it couldn't be read.
 pub fn layer_fault(
     alloc: Global,
     layer: usize,
     name: &str,
     path: &str,
     exact: bool,
-    bytes: Option<&[u8]>,
+    bytes: &[u8],
     fault: &BuildFault,
 ) -> Result<String, AllocError> {
     let lines = match fault {

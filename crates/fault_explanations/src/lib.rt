@@ -1,5 +1,5 @@
 //! What is said beside a fault, in lines for a person: why an input, an area, a share or an output is refused, where in a file a fault is
-//! and what is wrong there, and what a file is that is no JSON. It reads the bytes of an input once more, as a tree of `json_reading`, and goes
+//! and what is wrong there, and what a file is that is no JSON. It reads the bytes of an input as a tree of `json_reading`, and goes
 //! the way of `geojson_meaning` and `topojson_decoder` through it; it says nothing where it finds another fault than the one that was answered.
 //! The program calls a function for each outcome. Each line begins with two blanks and ends with a line feed. Contracts say where a byte stands
 //! (`place_in`) and what a file begins as (`form_of`); the sentences have none.

@@ -246,14 +246,7 @@ fn topo_fault(alloc: Global, value: &Json, fault: TopoFault) -> Result<String, A
 }
 
 /// What is wrong with the value that the bytes spell, for which this fault was answered.
-fn value_fault(
-    alloc: Global,
-    bytes: Option<&[u8]>,
-    fault: &FileFault,
-) -> Result<String, AllocError> {
-    let Some(bytes) = bytes else {
-        return Ok(String::new(alloc));
-    };
+fn value_fault(alloc: Global, bytes: &[u8], fault: &FileFault) -> Result<String, AllocError> {
     let Some(value) = tree(alloc, bytes, TOPOLOGY_DEPTH)? else {
         return Ok(String::new(alloc));
     };
@@ -265,11 +258,11 @@ fn value_fault(
 }
 
 /// Why the file of this path is refused, with this fault: the place of the fault and what is wrong there, as far as that is found out.
-/// `bytes` are those of the file, or none where they can't be read once more.
+/// `bytes` are those of the file, or none where it couldn't be read.
 pub fn topology_fault(
     alloc: Global,
     path: &str,
-    bytes: Option<&[u8]>,
+    bytes: &[u8],
     fault: &FileFault,
 ) -> Result<String, AllocError> {
     let lines = match fault {

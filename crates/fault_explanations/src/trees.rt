@@ -1,4 +1,4 @@
-// Texts read once more, as trees.
+// Texts as trees.
 ghost use Rattle.std.specs.Prelude.{◌≤◌};
 
 use json_reading::{Fault, JsonFault, Why, parse, skip, value_at};

@@ -4,7 +4,7 @@ ghost use Rattle.inputs.specs.Reading.{IsLayerOf, ReadsLayer};
 ghost use Rattle.inputs.specs.Sources.{plus, AllReadTo, FailsToReadAll};
 
 use crate::fault::BuildFault;
-use crate::watch::Watch;
+use crate::watch::{Watch, show_refused};
 use byte_ends::{Feed, MAX_INPUT, ReadFault, Source, read_all};
 use extraction::ExtractedLayer;
 use geojson_meaning::{Counts, GeoFaultKind};
@@ -70,6 +70,7 @@ fn read_source<R: Feed, K: Watch>(
     };
     let read = layer_of(alloc, &bytes, layer, exact);
     show(alloc, &bytes, &read, watch);
+    show_refused(bytes, &read, watch);
     read
 }
 

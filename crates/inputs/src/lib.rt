@@ -18,4 +18,4 @@ pub use file_fault::FileFault;
 pub use layer_laws::{layers_have_one_outcome, read_layers_are_the_outcome};
 pub use layer_reading::read_layers;
 pub use names::check_names;
-pub use watch::{Unwatched, Watch};
+pub use watch::{Unwatched, Watch, show_refused};

@@ -15,8 +15,11 @@ pub trait Watch {
     /// The file of a topology is read, which these bytes spell.
     fn file_read(&mut self, _alloc: Global, _bytes: &[u8]) {}
 
-    /// Whether more is asked of a topology that is counted than its counts.
-    fn asks_for_features(&self) -> bool {
+    /// A call fails at these bytes, the last that were read, which stay to the end of the process.
+    fn refused(&mut self, _bytes: &'static [u8]) {}
+
+    /// Whether more is asked than a report or a fault: the bytes that are refused, and the geometries of a topology that is counted.
+    fn asks_for_more(&self) -> bool {
         false
     }
 
@@ -42,6 +45,13 @@ pub trait Watch {
 
     /// What is left of the topology of a file is written, without these lines and rings, in reading order.
     fn simplified(&mut self, _alloc: Global, _topology: &Topology, _dropped: &[Dropped]) {}
+}
+
+/// Shows bytes that were read, where that failed and more is asked. They stay to the end of the process then.
+pub fn show_refused<T, E, K: Watch>(bytes: Vec<u8>, read: &Result<T, E>, watch: &mut K) {
+    if read.is_err() && watch.asks_for_more() {
+        watch.refused(bytes.leak());
+    }
 }
 
 /// Nobody looks on.

@@ -149,7 +149,7 @@ impl Files for System<'_> {
         self.notes.note_sources(sources);
     }
 
-    fn look(&mut self, path: &str) -> FileKind {
+    fn look(&self, path: &str) -> FileKind {
         if self.is_full {
             return FileKind::TooManyOpen;
         }

@@ -82,10 +82,6 @@ holds_after : (report : Option (List ℕ)) (a b c : FileState) → b.contents �
 holds_after None a b c e h = h ∙ e
 holds_after (Some path) a b c e h = λ other but. h other but ∙ ap (λ (x : List ℕ → Option (List ℕ)). x other) e
 
-one_after : (a b c : FileState) → b.counts.outputs ≡ a.counts.outputs → AtMostOne b c → AtMostOne a c
-one_after a b c e (inl h) = inl (h ∙ e)
-one_after a b c e (inr h) = inr (subst (λ (o : OutputCounts). SettlesOne o c.counts.outputs) e h)
-
 -- all that changes are counts of outputs
 only_outputs : (then after next : FileState) (path : List ℕ) → after ≡ next → next.contents ≡ then.contents → SettlesOne then.counts.outputs next.counts.outputs
     → Followed then after (Some path)
@@ -114,12 +110,7 @@ reports_to then after (Some path) explains outcome text old new status h = repor
 
 explained : (then after : FileState) (detail : Detail) (outcome : Outcome) (old new : Drained) (status : ℕ)
     → IsExplained (used then after) detail outcome old new status → Followed then after detail.report
-explained then after detail outcome old new status h =
-    let follows = reports_to h.reread after detail.report detail.explains outcome h.explanation h.explained new status h.reports in
-    record {
-      holds = holds_after detail.report then h.reread after h.reads.contents follows.holds;
-      outputs = one_after then h.reread after h.reads.outputs follows.outputs;
-    }
+explained then after detail outcome old new status h = reports_to then after detail.report detail.explains outcome h.explanation h.explained new status h.reports
 
 followed : (explains : Bool) (report : Option (List ℕ)) (then after : FileState) (detail : Detail) (outcome : Outcome) (old new : Drained) (status : ℕ)
     → detail.report ≡ report → Follows explains report (used then after) detail outcome old new status → Followed then after report

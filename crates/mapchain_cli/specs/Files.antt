@@ -146,12 +146,3 @@ pub record Keeps (path : List ℕ) (ended : Ended) (old new : FileState) : Type 
 abbrev pub HoldsBut : Option (List ℕ) → FileState → FileState → Type 0
 HoldsBut None old new = new.contents ≡ old.contents
 HoldsBut (Some path) old new = (other : List ℕ) → other ≢ path → new.contents other ≡ old.contents other
-
--- ---- files that are only read
-
--- files were opened, or not, and nothing else was done
-pub record OnlyReads (files : FileUse) : Type 0 where
-  pub contents : files.after.contents ≡ files.before.contents
-  pub outputs : files.after.counts.outputs ≡ files.before.counts.outputs
-  pub pending : files.after.pending ≡ files.before.pending
-  pub noted : files.after.noted ≡ files.before.noted

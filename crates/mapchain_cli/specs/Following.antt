@@ -13,7 +13,7 @@ use Rattle.reports.specs.RunReports.{run_text}
 use Rattle.reports.specs.declared.run_report.RunFault.{RunFault}
 use Rattle.reports.specs.declared.run_report.RunFault.TheVariants as fault
 use Rattle.reports.specs.declared.run_report.RunReport.{RunReport}
-use Rattle.mapchain_cli.specs.Files.{FileState, FileUse, IsFresh, Keeps, OnlyReads, begun, discarded, not_kept, used}
+use Rattle.mapchain_cli.specs.Files.{FileState, FileUse, IsFresh, Keeps, begun, discarded, not_kept, used}
 use Rattle.mapchain_cli.specs.Notes.{ended_of}
 use Rattle.mapchain_cli.specs.Outputs.{IsPerformed}
 use Rattle.mapchain_cli.specs.Performing.{Outcome, Streams, status_after, printed_unless_quiet}
@@ -115,20 +115,12 @@ ReportsTo (Some path) files explains outcome explanation old new status = IsRepo
 
 -- ---- an explanation, and then the report
 
--- where what was asked for is done nothing is read again
-abbrev pub ReadsNothing : Outcome → FileState → FileState → Type 0
-ReadsNothing (Ok report) old new = new ≡ old
-ReadsNothing (Err ending) old new = Unit {0}
-
--- files are only read for an explanation, if at all, which is reported in brief where that is asked, and the report of the run has all of it
+-- no file is opened for an explanation, which is reported in brief where that is asked, and the report of the run has all of it
 pub record IsExplained (files : FileUse) (detail : Detail) (outcome : Outcome) (old new : Drained) (status : ℕ) : Type 0 where
   pub explanation : List ℕ
-  pub reread : FileState
-  pub reads : OnlyReads (used files.before reread)
-  pub unread : ReadsNothing outcome files.before reread
   pub explained : Drained
   pub prints : PrintsIf detail.explains old explained explanation
-  pub reports : ReportsTo detail.report (used reread files.after) detail.explains outcome explanation explained new status
+  pub reports : ReportsTo detail.report files detail.explains outcome explanation explained new status
 
 -- nothing more is done where nothing is asked
 abbrev pub Follows : Bool → Option (List ℕ) → FileUse → Detail → Outcome → Drained → Drained → ℕ → Type 0

@@ -1,11 +1,7 @@
 // What is said in words of how a request came out.
-ghost use Rattle.std.specs.Prelude.{◌≡◌};
-ghost use Rattle.mapchain_cli.specs.Files.{OnlyReads, used};
-ghost use Rattle.mapchain_cli.specs.Following.{ReadsNothing};
-
 use crate::ending::Ending;
 use crate::files::Files;
-use byte_ends::{MAX_INPUT, ReadFault, read_all};
+use byte_ends::ReadFault;
 use command_words::{Order, Request};
 use explanations::{Observed, built};
 use fault_explanations::{
@@ -15,17 +11,6 @@ use fault_explanations::{
 use inputs::{BuildFault, FileFault};
 use reports::Report;
 use std::alloc::{AllocError, Global};
-
-/// The bytes of a file, read once more where it is a regular file that can be read, and isn't the one that the output has replaced.
-fn read_again<F: Files>(alloc: Global, path: &str, files: &mut F) -> Option<Vec<u8>>
-    ensures { OnlyReads (used (F.state files.old) (F.state files.new)) }
-{
-    if files.look(path) != FileKind::Regular {
-        return None;
-    }
-    let mut source = files.open(path)?;
-    read_all(alloc, &mut source, MAX_INPUT).ok()
-}
 
 /// What a path was to be by which there is no file, as a line, if it shows that.
 fn path_tip(path: &str, is_layer: bool) -> &'static str {
@@ -43,10 +28,8 @@ fn explain_unread<F: Files>(
     alloc: Global,
     path: &str,
     is_layer: bool,
-    files: &mut F,
-) -> Result<String, AllocError>
-    ensures { OnlyReads (used (F.state files.old) (F.state files.new)) }
-{
+    files: &F,
+) -> Result<String, AllocError> {
     let kind = files.look(path);
     let mut text = unopened(alloc, path, kind)?;
     if kind == FileKind::Missing {
@@ -77,16 +60,15 @@ fn layer_in(fault: &BuildFault) -> Option<usize> {
     }
 }
 
-/// Why one of these layers is refused.
+/// Why one of these layers is refused, of which these are the bytes, or none where it couldn't be read.
 fn explain_layer<F: Files>(
     alloc: Global,
     layers: &[(&str, &str)],
     exact: bool,
+    refused: &[u8],
     fault: &BuildFault,
-    files: &mut F,
-) -> Result<String, AllocError>
-    ensures { OnlyReads (used (F.state files.old) (F.state files.new)) }
-{
+    files: &F,
+) -> Result<String, AllocError> {
     let Some(layer) = layer_in(fault) else {
         return Ok(String::new(alloc));
     };
@@ -103,34 +85,31 @@ fn explain_layer<F: Files>(
         if path.is_empty() {
             return format!(in alloc; "  layer {layer} needs a path behind its =\n");
         }
-        let refused = layer_fault(alloc, layer, name, path, exact, None, fault);
-        return joined(refused, explain_unread(alloc, path, true, files));
+        let unread = layer_fault(alloc, layer, name, path, exact, refused, fault);
+        return joined(unread, explain_unread(alloc, path, true, files));
     }
-    let bytes = read_again(alloc, path, files);
-    layer_fault(alloc, layer, name, path, exact, bytes.as_deref(), fault)
+    layer_fault(alloc, layer, name, path, exact, refused, fault)
 }
 
-/// Why the file of a topology is refused.
+/// Why the file of a topology is refused, of which these are the bytes, or none where it couldn't be read.
 fn explain_file<F: Files>(
     alloc: Global,
     path: &str,
+    refused: &[u8],
     fault: &FileFault,
-    files: &mut F,
-) -> Result<String, AllocError>
-    ensures { OnlyReads (used (F.state files.old) (F.state files.new)) }
-{
+    files: &F,
+) -> Result<String, AllocError> {
     if matches!(fault, FileFault::Read(ReadFault::Read)) {
         if path.is_empty() {
             return String::from_str(alloc, "  the path of the file is empty\n");
         }
-        let refused = topology_fault(alloc, path, None, fault);
-        return joined(refused, explain_unread(alloc, path, false, files));
+        let unread = topology_fault(alloc, path, refused, fault);
+        return joined(unread, explain_unread(alloc, path, false, files));
     }
-    let bytes = read_again(alloc, path, files);
-    topology_fault(alloc, path, bytes.as_deref(), fault)
+    topology_fault(alloc, path, refused, fault)
 }
 
-/// What is said of a request that is done, of which nothing is read again.
+/// What is said of a request that is done.
 fn explain_done(
     alloc: Global,
     report: &Option<Report>,
@@ -192,27 +171,26 @@ fn explain_unwritten<F: Files>(
     }
 }
 
-/// Why an order isn't done.
+/// Why an order isn't done, where these are the bytes that were refused, if any were.
 fn explain_refused<F: Files>(
     alloc: Global,
     order: &Order<'_>,
     ending: &Ending,
-    files: &mut F,
-) -> Result<String, AllocError>
-    ensures { OnlyReads (used (F.state files.old) (F.state files.new)) }
-{
+    refused: &[u8],
+    files: &F,
+) -> Result<String, AllocError> {
     if is_unwritten(ending) {
         return explain_unwritten(alloc, order.output, files);
     }
     let request = &order.request;
     match (request, ending) {
         (Request::Build { layers, exact, .. }, Ending::Refused(fault)) => {
-            explain_layer(alloc, layers.as_slice(), *exact, fault, files)
+            explain_layer(alloc, layers.as_slice(), *exact, refused, fault, files)
         }
         (
             Request::Geo { path, .. } | Request::Simplify { path, .. } | Request::Stat { path, .. },
             Ending::FileRefused(fault),
-        ) => explain_file(alloc, path, fault, files),
+        ) => explain_file(alloc, path, refused, fault, files),
         _ => explain_words(alloc, request, ending),
     }
 }
@@ -221,9 +199,7 @@ fn explain_refused<F: Files>(
 const MOST_PARTS: u32 = 1000;
 
 /// How many new files of other runs stand beside the file of this path, before one is begun for this run.
-fn parts_beside<F: Files>(alloc: Global, path: &str, files: &mut F) -> Result<u32, AllocError>
-    ensures { F.state files.new ≡ F.state files.old }
-{
+fn parts_beside<F: Files>(alloc: Global, path: &str, files: &F) -> Result<u32, AllocError> {
     'parts: for number in 0..MOST_PARTS {
         let part = format!(in alloc; "{path}.{number}.part")?;
         if files.look(part.as_str()) != FileKind::Regular {
@@ -234,13 +210,7 @@ fn parts_beside<F: Files>(alloc: Global, path: &str, files: &mut F) -> Result<u3
 }
 
 /// Which new files of other runs stand beside the file of this path.
-fn explain_parts_of<F: Files>(
-    alloc: Global,
-    path: &str,
-    files: &mut F,
-) -> Result<String, AllocError>
-    ensures { F.state files.new ≡ F.state files.old }
-{
+fn explain_parts_of<F: Files>(alloc: Global, path: &str, files: &F) -> Result<String, AllocError> {
     let count = parts_beside(alloc, path, files)?;
     other_parts(alloc, path, count)
 }
@@ -257,10 +227,8 @@ fn unnamed_report<'a>(order: &Order<'a>) -> Option<&'a str> {
 fn explain_parts<F: Files>(
     alloc: Global,
     order: &Order<'_>,
-    files: &mut F,
-) -> Result<String, AllocError>
-    ensures { F.state files.new ≡ F.state files.old }
-{
+    files: &F,
+) -> Result<String, AllocError> {
     let beside_output = match order.output {
         Some(path) => other_parts(alloc, path, files.other_parts()),
         None => Ok(String::new(alloc)),
@@ -277,14 +245,11 @@ fn explain<F: Files>(
     order: &Order<'_>,
     outcome: &Result<Option<Report>, Ending>,
     observed: &mut Observed,
-    files: &mut F,
-) -> Result<String, AllocError>
-    ensures reads { OnlyReads (used (F.state files.old) (F.state files.new)) }
-    ensures unread { ReadsNothing outcome.now (F.state files.old) (F.state files.new) }
-{
+    files: &F,
+) -> Result<String, AllocError> {
     let said = match outcome {
         Ok(report) => explain_done(alloc, report, observed),
-        Err(ending) => explain_refused(alloc, order, ending, files),
+        Err(ending) => explain_refused(alloc, order, ending, observed.refused_bytes(), files),
     };
     joined(said, explain_parts(alloc, order, files))
 }
@@ -295,11 +260,8 @@ pub(crate) fn explanation_of<F: Files>(
     order: &Order<'_>,
     outcome: &Result<Option<Report>, Ending>,
     observed: &mut Observed,
-    files: &mut F,
-) -> String
-    ensures reads { OnlyReads (used (F.state files.old) (F.state files.new)) }
-    ensures unread { ReadsNothing outcome.now (F.state files.old) (F.state files.new) }
-{
+    files: &F,
+) -> String {
     explain(alloc, order, outcome, observed, files).unwrap_or(String::new(alloc))
 }
 

@@ -18,7 +18,7 @@ use effective_area::HeapLinks;
 use explanations::Observed;
 use inputs::FileFault;
 use mapchain_engine::{
-    Guards, Level, simplify_watched, stat_watched, stat_with_crossings_watched, to_geo,
+    Guards, Level, simplify_watched, stat_watched, stat_with_crossings_watched, to_geo_watched,
 };
 use reports::{Report, Summary, summary_text};
 use std::alloc::Global;
@@ -39,6 +39,7 @@ fn open_file<F: Files>(path: &str, files: &mut F) -> Result<Source<F::R>, FileFa
 /// Decodes the object of this name.
 pub(crate) fn decode_object<F: Files, V: Drain>(
     alloc: Global,
+    observed: &mut Observed,
     name: &str,
     path: &str,
     files: &mut F,
@@ -49,7 +50,7 @@ pub(crate) fn decode_object<F: Files, V: Drain>(
         (λ s u. IsGeoFault name.now s u out.old out.new) e) }
 {
     let mut source = open_file(path, files)?;
-    let decoded = to_geo(alloc, &mut source, name, out);
+    let decoded = to_geo_watched(alloc, &mut source, name, out, observed);
     files.done_with(&source);
     decoded?;
     Ok(())

@@ -42,9 +42,8 @@ pub trait Files {
         // What they are now is noted, and nothing else changes.
         ensures noted { state self.new ≡ done_with_all sources.now.items (state self.old) };
 
-    /// What a path names, as far as that is known. A file that an output has replaced is no regular one, as it isn't what was read.
-    fn look(&mut self, path: &str) -> FileKind
-        ensures same { state self.new ≡ state self.old };
+    /// What a path names, as far as that is known. A file that an output has replaced is no regular one, as it isn't another run's.
+    fn look(&self, path: &str) -> FileKind;
 
     /// Begins an output that is to take the place of the file of this path, or of none yet, or nothing where that can't be. The file
     /// stays as it is.

@@ -158,7 +158,7 @@ pub(crate) fn answer<F: Files, V: Drain>(
             Ok(Some(report))
         }
         Request::Geo { name, path } => {
-            decode_object(alloc, name, path, files, out)?;
+            decode_object(alloc, observed, name, path, files, out)?;
             Ok(None)
         }
         Request::Stat { crossings, path } => {

@@ -14,7 +14,7 @@ ghost use Rattle.mapchain_engine.specs.Geo.{features_text, IsDecoded, IsGeoFault
 use crate::file_laws::decoded_text_is_utf8;
 use crate::file_reading::{bytes_of, spelled_of};
 use byte_ends::{Drain, Feed, Sink, Source, flush_after};
-use inputs::FileFault;
+use inputs::{FileFault, Unwatched, Watch};
 use std::alloc::Global;
 use std::mem;
 use topojson_types::{TopoObject, Topology, named_object};
@@ -66,7 +66,6 @@ fn decode<W: Drain>(
 /// object a Feature; each line and ring is its arcs, forwards or reversed, put together. On each fault but `Write` the sink is as
 /// it was. On `Write` it took a prefix of the text, of the length that is reported. At `Ok` the sink is flushed. The memory of the
 /// topology and of its text, from which lines and properties are copied, is left to the end of the process.
-#[tactic(auto, using(crate::proofs::FilesDecided::found_fails, crate::proofs::ObjectsFound::fails, crate::proofs::ObjectsFound::fails_decoding))]
 pub fn to_geo<R: Feed, W: Drain>(
     alloc: Global,
     source: &mut Source<R>,
@@ -81,7 +80,29 @@ pub fn to_geo<R: Feed, W: Drain>(
     ensures decided { (bytes : List ℕ) (outcome : Result (List ℕ) Fault) → source.old.left ≡ Some bytes → FileHasOutcome (object_text name.now) bytes outcome
         → FollowsText sink.old sink.new outcome result }
 {
+    to_geo_watched(alloc, source, name, sink, &mut Unwatched)
+}
+
+/// The same, with the same contract, and a `Watch` looks on.
+#[tactic(auto, using(crate::proofs::FilesDecided::found_fails, crate::proofs::ObjectsFound::fails, crate::proofs::ObjectsFound::fails_decoding))]
+pub fn to_geo_watched<R: Feed, W: Drain, K: Watch>(
+    alloc: Global,
+    source: &mut Source<R>,
+    name: &str,
+    sink: &mut Sink<W>,
+    watch: &mut K,
+) -> Result<u64, FileFault>
+    ensures written { IfOk result (λ sent. IsDecoded name.now source.old source.new sink.old sink.new sent) }
+    ensures refused { IfErr result (λ e. IsGeoFault name.now source.old source.new sink.old sink.new e) }
+    ensures decided { (bytes : List ℕ) (outcome : Result (List ℕ) Fault) → source.old.left ≡ Some bytes → FileHasOutcome (object_text name.now) bytes outcome
+        → FollowsText sink.old sink.new outcome result }
+{
     let bytes = bytes_of(alloc, source)?;
     // (as in building)
-    decode(alloc, bytes.leak(), name, sink)
+    let lasting: &'static [u8] = bytes.leak();
+    let decoded = decode(alloc, lasting, name, sink);
+    if decoded.is_err() {
+        watch.refused(lasting);
+    }
+    decoded
 }

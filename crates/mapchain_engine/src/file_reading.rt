@@ -6,7 +6,7 @@ ghost use Rattle.mapchain_engine.specs.Files.{FailsToGive, IsKeptOf, IsNoTopolog
 
 use byte_ends::{Feed, MAX_INPUT, ReadFault, Source, read_all};
 use geojson_types::Counts;
-use inputs::{FileFault, Watch};
+use inputs::{FileFault, Watch, show_refused};
 use json_reading::JsonFault;
 use std::alloc::Global;
 use topojson_decoder::{
@@ -115,7 +115,11 @@ pub(crate) fn read_watched<R: Feed, K: Watch>(
     ensures { ReadsTopology source.old source.new result }
 {
     match bytes_of(alloc, source) {
-        Ok(bytes) => topology_of_watched(alloc, &bytes, watch),
+        Ok(bytes) => {
+            let read = topology_of_watched(alloc, &bytes, watch);
+            show_refused(bytes, &read, watch);
+            read
+        }
         Err(fault) => Err(fault),
     }
 }
@@ -131,7 +135,11 @@ pub(crate) fn read_kept<R: Feed, K: Watch>(
     ensures { ReadsKept keeping source.old source.new result }
 {
     match bytes_of(alloc, source) {
-        Ok(bytes) => kept_of(alloc, keeping, &bytes, watch),
+        Ok(bytes) => {
+            let kept = kept_of(alloc, keeping, &bytes, watch);
+            show_refused(bytes, &kept, watch);
+            kept
+        }
         Err(fault) => Err(fault),
     }
 }

@@ -25,7 +25,7 @@ mod summarising;
 pub use build_laws::read_layers_are_taken;
 pub use building::{build, build_watched};
 pub use crossings::{stat_with_crossings, stat_with_crossings_watched};
-pub use decoding::to_geo;
+pub use decoding::{to_geo, to_geo_watched};
 pub use effective_area::threshold;
 pub use file_laws::{decoded_text_is_utf8, features_are_one_outcome, summary_is_one_outcome};
 pub use geojson_types::{Address, Cause, Dropped};

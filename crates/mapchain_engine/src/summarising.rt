@@ -120,7 +120,7 @@ fn stat_shapes<R: Feed, K: Watch>(
     Ok(summary?)
 }
 
-/// The same as `stat`, with the same contract, and a `Watch` looks on. The geometries of features are kept in memory only where it asks for features.
+/// The same as `stat`, with the same contract, and a `Watch` looks on. The geometries of features are kept in memory only where it asks for more.
 pub fn stat_watched<R: Feed, K: Watch>(
     alloc: Global,
     source: &mut Source<R>,
@@ -131,7 +131,7 @@ pub fn stat_watched<R: Feed, K: Watch>(
     ensures decided { (bytes : List ℕ) (outcome : Result Counted Fault) → source.old.left ≡ Some bytes → FileHasOutcome summarised bytes outcome
         → FollowsSummary outcome result }
 {
-    if watch.asks_for_features() {
+    if watch.asks_for_more() {
         stat_shapes(alloc, source, watch)
     } else {
         stat(alloc, source)

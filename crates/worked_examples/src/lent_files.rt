@@ -138,13 +138,9 @@ impl<'a> LentFiles<'a> {
         Some(Source::new(FromRead::new(reader)))
     }
 
-    /// Whether the page has a file of this name, which is no folder, and which the run hasn't replaced.
+    /// Whether the page has a file of this name, which is no folder.
     pub fn has_file(&self, path: &str) -> bool {
-        let is_replaced = match &self.kept {
-            Some(kept) => kept.name.as_str() == path,
-            None => false,
-        };
-        !is_replaced && !self.is_folder(path) && self.files.bytes(path).is_some()
+        !self.is_folder(path) && self.files.bytes(path).is_some()
     }
 
     /// Whether the file of this name is a folder.

@@ -85,7 +85,7 @@ impl<'a> mapchain_cli::Files for PageFiles<'a> {
         self.notes.note_sources(sources);
     }
 
-    fn look(&mut self, path: &str) -> FileKind {
+    fn look(&self, path: &str) -> FileKind {
         if self.files.is_folder(path) {
             return FileKind::Folder;
         }

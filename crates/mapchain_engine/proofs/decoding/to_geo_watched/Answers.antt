@@ -1,7 +1,7 @@
 use Rattle.std.proofs.lemmas.Result.{err_from_is_err_and}
 use Rattle.mapchain_engine.proofs.FilesDecided.{found_fails}
 use Rattle.mapchain_engine.proofs.ObjectsFound.{fails_decoding}
-use Rattle.mapchain_engine.proofs.decoding.to_geo.Goals as goal
+use Rattle.mapchain_engine.proofs.decoding.to_geo_watched.Goals as goal
 
 -- ---- the source isn't read to its end
 
@@ -15,4 +15,4 @@ returns-in_err-bytes-clause-decided g c bytes outcome left comes =
 
 pub returns-clause-decided : goal.returns-clause-decided
 returns-clause-decided g c bytes outcome left comes =
-    c.decode.ensures.decided c.args.source.now c.bytes_of.new.source (rw c.leak.ensures.value c.in_ok-bytes.ensures) bytes outcome left comes
+    c.decode-decoded.ensures.decided c.args.source.now c.bytes_of.new.source (rw c.leak-lasting.ensures.value c.in_ok-bytes.ensures) bytes outcome left comes

@@ -1,5 +1,5 @@
 -- Lines and rings whose positions are passed one after the other: until there are enough of them, or to sum up the area of a ring.
-use Rattle.std.specs.Prelude.{◌≡◌, ℕ, ◌-◌, ◌*◌, ◌^◌, ◌≤◌, ◌==◌, ℤ, ◌+ℤ◌, unsigned_abs, Bool, ◌&&◌, List, [], ◌∷◌, ◌++◌, Option, None, Some, length, reverse, if◌then◌else◌}
+use Rattle.std.specs.Prelude.{◌≡◌, ℕ, ◌-◌, ◌*◌, ◌^◌, ◌≤◌, ◌==◌, ℤ, ◌+ℤ◌, min, unsigned_abs, Bool, ◌&&◌, List, [], ◌∷◌, ◌++◌, Option, None, Some, length, reverse, if◌then◌else◌}
 use Rattle.geometry.specs.Areas.{Passed, shoelace, sum_after, most_turned}
 use Rattle.geometry.specs.Points.{Point}
 use Rattle.geometry.specs.Rings.{same}
@@ -18,6 +18,10 @@ unpassed closed = record { last = None; missing = if closed then 4 else 2 }
 abbrev pub new_after : Option Point → List Point → ℕ
 new_after None ps = length (clean ps)
 new_after (Some p) ps = length (clean_from p ps) - 1
+
+-- how many positions an arc is left with, with equal neighbours as one: no more than six count
+abbrev pub counted : List Point → ℕ
+counted ps = min (length (clean ps)) 6
 
 -- how many are missing when these are passed
 abbrev pub missing_after : Need → List Point → ℕ

@@ -1,4 +1,4 @@
-// How much rings enclose that are rebuilt of their arcs.
+// How much rings enclose that are rebuilt of their arcs, and whether they have too few positions.
 ghost use Rattle.std.specs.Prelude.{◌≡◌, ◌+◌, ◌≤◌, ◌<◌, IfOk, drop, get_or, length, map, nat_lt, unsigned_abs};
 ghost use Rattle.std.specs.List.{AllByRecursion};
 ghost use Rattle.topo_model.specs.Passing.{directed, goes_on, is_sum, most_of_arc, Sums};
@@ -6,7 +6,9 @@ ghost use Rattle.geometry.specs.Areas.{shoelace, sum_limit, twice_ring_area};
 ghost use Rattle.geometry.specs.Joins.{arc_at, stitched};
 ghost use Rattle.geometry.specs.Points.{IsPosition};
 ghost use Rattle.geometry.specs.Units.{threshold_limit};
+ghost use Rattle.junctions.specs.Cleaning.{clean, is_short};
 
+use crate::counting::{counts_of, index_in, is_short_rebuilt};
 use geojson_types::Position;
 use geometry::{RingSum, is_same};
 use json_value::Items;
@@ -21,7 +23,7 @@ fn position_at(arc: &[Cell], reversed: bool, k: usize) -> Position
     requires within { k < length arc.now }
     ensures { result ≡ get_or (directed reversed arc.now) k result }
 {
-    let i = if reversed { arc.len() - 1 - k } else { k };
+    let i = index_in(arc.len(), reversed, k);
     let cell = arc[i];
     Position::at(cell.x(), cell.y())
 }
@@ -77,36 +79,40 @@ fn pass_summed(sum: &mut RingSum, arc: &[Cell], line: &RingSum, reversed: bool, 
     sum.pass_line(line, reversed, end);
 }
 
-/// Arcs, with what the positions of each add up to, or of none. With that a ring takes a step for each of its arcs, however long they are.
+/// Arcs, with how many positions each is left with, and what these add up to, or of none. With that a ring takes a step for each of its arcs,
+/// however long they are.
 #[derive(Drop)]
 pub struct SummedArcs<'a> {
     arcs: &'a [Items<Cell>],
     sums: Vec<RingSum>,
+    counts: Vec<u8>,
 }
 
 impl<'a> Model for SummedArcs<'a> {
-    ghost use Rattle.std.specs.Prelude.{List};
+    ghost use Rattle.std.specs.Prelude.{◌≡◌, List, map};
     ghost use Rattle.std.specs.List.{AllByRecursion};
     ghost use Rattle.geometry.specs.Points.{IsPosition, Point};
-    ghost use Rattle.topo_model.specs.Passing.{AreSums};
+    ghost use Rattle.topo_model.specs.Passing.{AreSums, counted};
 
     ghost Value = { List (List Point) };
 
     ghost view = { λ s. s.arcs.now };
 
-    ghost invariant = { λ s. AllByRecursion (λ arc. AllByRecursion IsPosition arc) s.arcs.now × AreSums s.arcs.now s.sums.items };
+    ghost invariant = { λ s. AllByRecursion (λ arc. AllByRecursion IsPosition arc) s.arcs.now × AreSums s.arcs.now s.sums.items × (s.counts.items ≡ map counted s.arcs.now) };
 }
 
 impl<'a> SummedArcs<'a> {
     /// These arcs, of which none is summed up.
-    pub fn unsummed(alloc: Global, arcs: &'a [Items<Cell>]) -> SummedArcs<'a>
+    pub fn unsummed(alloc: Global, arcs: &'a [Items<Cell>]) -> Result<SummedArcs<'a>, Memory>
         requires { AllByRecursion (λ arc. AllByRecursion IsPosition arc) arcs.now }
-        ensures { result ≡ arcs.now }
+        ensures { IfOk result (λ s. s ≡ arcs.now) }
     {
-        SummedArcs {
+        let counts = counts_of(alloc, arcs)?;
+        Ok(SummedArcs {
             arcs,
             sums: Vec::new(alloc),
-        }
+            counts,
+        })
     }
 
     /// These arcs, each of which is summed up.
@@ -118,14 +124,16 @@ impl<'a> SummedArcs<'a> {
         'arcs: for arc in arcs {
             sums.push(sum_of(arc.as_slice()))?;
         }
-        Ok(SummedArcs { arcs, sums })
+        let counts = counts_of(alloc, arcs)?;
+        Ok(SummedArcs { arcs, sums, counts })
     }
 
-    /// The arcs.
-    pub fn arcs(&self) -> &'a [Items<Cell>]
-        ensures { result.now ≡ self.now }
+    /// Whether an open line that is rebuilt of the arcs with these indexes, with equal neighbours as one position, is left with fewer
+    /// than two positions, or a ring with fewer than four.
+    pub fn is_short(&self, closed: bool, refs: &[ArcRef]) -> bool
+        ensures { result ≡ is_short closed (clean (stitched (map (arc_at self.now) refs.now))) }
     {
-        self.arcs
+        is_short_rebuilt(closed, refs, self.arcs, &self.counts)
     }
 
     /// Passes those of the arc that an index names.

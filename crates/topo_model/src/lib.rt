@@ -12,6 +12,7 @@
 
 mod assembling;
 mod choosing;
+mod counting;
 mod draft_laws;
 mod draft_uses;
 mod enclosing;

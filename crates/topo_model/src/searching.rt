@@ -7,7 +7,6 @@ ghost use Rattle.build_meaning.specs.Protected.{greatest_ring};
 ghost use Rattle.topo_model.specs.Searching.{all_met, at_way, encloses_less as is_less, met};
 
 use crate::enclosing::SummedArcs;
-use crate::rebuilding::is_short_rebuilt;
 use geojson_types::Geometry;
 use geometry::RingSum;
 use json_value::Items;
@@ -74,7 +73,7 @@ fn meet_ring(
 ) -> Result<(), Memory>
     ensures { OnOk result (best.new ≡ met arcs.now best.old (record { path = way.now; part = refs.now })) }
 {
-    if is_short_rebuilt(true, refs, arcs.arcs()) {
+    if arcs.is_short(true, refs) {
         return Ok(());
     }
     let sum = arcs.ring_sum(refs);

@@ -2,7 +2,7 @@ use Rattle.std.proofs.Common.{nat_lt, drop, map, ap, arith}
 use Rattle.geometry.specs.Joins.{arc_at, stitched}
 use Rattle.topo_model.specs.Passing.{missing_after, unpassed}
 use Rattle.topo_model.proofs.Passed.{later_left, later_passed, later_all, enough_seen, all_seen}
-use Rattle.topo_model.proofs.rebuilding.is_short_rebuilt.Goals as goal
+use Rattle.topo_model.proofs.counting.is_short_rebuilt.Goals as goal
 
 pub returns-then-need-eq0 : goal.returns-then-need-eq0
 returns-then-need-eq0 c =

@@ -63,7 +63,7 @@ _mapchain() {
     fi
     case $before in
         --output | --report | -o) _mapchain_files "$word"; return ;;
-        --grid | --keep | --min-area | --min-ring-area | --object) return ;;
+        --grid | --keep | --max-positions | --min-area | --min-ring-area | --object) return ;;
     esac
     case $command in
         '') _mapchain_words "$word" 'build simplify geo stat help --help --version' ;;
@@ -91,7 +91,7 @@ _mapchain() {
             ;;
         geo)
             case $word in
-                -*) _mapchain_words "$word" '--object -o --output --report --explain --help' ;;
+                -*) _mapchain_words "$word" '--object --max-positions -o --output --report --explain --help' ;;
                 *) _mapchain_files "$word" ;;
             esac
             ;;

@@ -36,6 +36,7 @@ complete -c mapchain -n '__fish_seen_subcommand_from simplify' -l report -r -F -
 complete -c mapchain -n '__fish_seen_subcommand_from simplify' -l explain -d 'Explain in words what is wrong, or what was left out'
 complete -c mapchain -n '__fish_seen_subcommand_from simplify' -s q -l quiet -d 'Leave out the report, where all is done'
 complete -c mapchain -n '__fish_seen_subcommand_from geo' -l object -x -d 'The name of the object'
+complete -c mapchain -n '__fish_seen_subcommand_from geo' -l max-positions -x -d 'Refuse an object whose features have more than N positions'
 complete -c mapchain -n '__fish_seen_subcommand_from geo' -s o -l output -r -F -d 'Write the output to a file in place of standard output'
 complete -c mapchain -n '__fish_seen_subcommand_from geo' -l report -r -F -d 'Write a report of the run to a file, as a JSON object'
 complete -c mapchain -n '__fish_seen_subcommand_from geo' -l explain -d 'Explain in words what is wrong, or what was left out'

@@ -237,7 +237,7 @@ LINE_COUNTED = '{"rounded":0,"extra":0,"empty":0,"dropped":[],"lost":0,"arcs":1,
 LINE_LAYER = layer(("LineString", "[[0,0],[1.5,0.25]]"))
 SUMMARY = 'objects 1\n"land" 3\narcs 2\npositions 7\ngrid no\n'
 CONTENTS = (
-    'object "land": LineString 1, Polygon 1, null 1',
+    'object "land": LineString 1, Polygon 1, null 1, 7 positions decoded',
     "x goes from 0 to 30, and y from 0 to 10",
     "arcs of two features or more 0, of one 2, of none 0",
 )

@@ -1,5 +1,5 @@
 -- What the getters of a parse read.
-use Rattle.std.proofs.Common.{◌≡◌, ◌⊎◌, ◌∙◌, ◌≤◌, ◌^◌, ℕ, List, [], ◌∷◌, Bool, true, false, cond, Option, Some, None, Result, Ok, Err, map, option_map, refl, sym, ap, ap₂, subst, arith, inl, inr, Bor}
+use Rattle.std.proofs.Common.{◌≡◌, ◌⊎◌, ◌∙◌, ◌-◌, ◌≤◌, ◌^◌, ℕ, List, [], ◌∷◌, Bool, true, false, cond, Option, Some, None, Result, Ok, Err, map, option_map, refl, sym, ap, ap₂, subst, arith, inl, inr, Bor}
 use Rattle.std.specs.Option.{unwrap_or, option_and_then}
 use Rattle.std.specs.Str.Parse.{ParsesUnsigned, digits_value, without_leading_plus}
 use Rattle.clap.specs.Matches.{TriesOne, first_value, matched_of, raw_values}
@@ -14,13 +14,14 @@ use Rattle.clap.specs.declared.error.kind.ErrorKind.{ErrorKind}
 use Rattle.clap.specs.declared.error.kind.ErrorKind.TheVariants.{OutOfMemory}
 use Rattle.std.specs.List.{list_all}
 use Rattle.std.specs.Prelude.{◌&&◌, codes, is_some}
+use Rattle.std.specs.Result.{result_ok}
 use Rattle.std.proofs.lemmas.Bool.{and_right}
 use Rattle.command_words.specs.Faults.{IsBuildFault, IsFaultBy, IsLayersFault, is_help, is_memory, is_refused}
 use Rattle.command_words.specs.declared.words_fault.WordsFault.{WordsFault}
 use Rattle.command_words.specs.declared.words_fault.WordsFault.TheVariants.{Help, Memory, NoEquals, Refused}
 use Rattle.clap.proofs.WalkLemmas.{first_value-rows, raw_values-rows}
 use Rattle.clap.proofs.ValueTestLemmas.{accepts-Accepts, Accepts-accepts}
-use Rattle.command_words.specs.Asked.{area_in, build, build_in, build_on, cells_of, exact_in, explains_in, grid_at, grid_in, has_both, keep_in, keep_shapes_in, layer_words, layers_in, no_crossings_in, ring_area_in, where_none}
+use Rattle.command_words.specs.Asked.{area_in, build, build_in, build_on, cells_of, exact_in, explains_in, grid_at, grid_in, has_both, keep_in, keep_shapes_in, layer_words, layers_in, most_in, no_crossings_in, number_at, number_in, ring_area_in, where_none, whole_number}
 
 now_or : (r : Option (Bor Text)) (x e : Bor Text) → x ≡ unwrap_or r e → x.now ≡ unwrap_or (option_map (λ s. s.now) r) e.now
 now_or None x e is = ap (λ (y : Bor Text). y.now) is
@@ -46,15 +47,31 @@ read_all_or f id r x e given is none =
 
 -- ---- the grid
 
-pub in_range : (t : Text) (n : ℕ) → n ≡ digits_value 10 (without_leading_plus t) → is_unsigned_in 2 (10 ^ 9) t ≡ true → cells_of t ≡ Some n
-in_range t n is h = rw h (ap (λ k. Some k) (sym is))
+pub in_range : (least most : ℕ) (t : Text) (n : ℕ) → n ≡ digits_value 10 (without_leading_plus t) → is_unsigned_in least most t ≡ true → number_in least most t ≡ Some n
+in_range least most t n is h = rw h (ap (λ k. Some k) (sym is))
 
-out_of_range : (t : Text) → (is_unsigned_in 2 (10 ^ 9) t ≡ true → ⊥) → grid_at (Some t) ≡ None
-out_of_range t not = go (is_unsigned_in 2 (10 ^ 9) t) refl
+out_of_range : (least most : ℕ) (t : Text) → (is_unsigned_in least most t ≡ true → ⊥) → number_in least most t ≡ None
+out_of_range least most t not = go (is_unsigned_in least most t) refl
   where
-    go : (b : Bool) → is_unsigned_in 2 (10 ^ 9) t ≡ b → grid_at (Some t) ≡ None
+    go : (b : Bool) → is_unsigned_in least most t ≡ b → number_in least most t ≡ None
     go true e = absurd (not e)
     go false e = rw e refl
+
+-- ---- a whole number
+
+pub whole_read : {E : Type 0} (t : Text) (r : Result ℕ E) → ParsesUnsigned 64 10 t r → result_ok r ≡ whole_number t
+whole_read t (Ok n) p =
+    let v : n ≡ digits_value 10 (without_leading_plus t) = p.1 in
+    sym (in_range 0 (2 ^ 64 - 1) t n v (Accepts-accepts false (Unsigned 0 (2 ^ 64 - 1)) t (p.0.0, p.0.1, omega arith, omega (arith, p.0.1))))
+whole_read t (Err e) p = sym (out_of_range 0 (2 ^ 64 - 1) t (λ h. let a = accepts-Accepts false (Unsigned 0 (2 ^ 64 - 1)) t h in p (a.0, a.1)))
+
+-- the number of positions of an argument that was looked up
+pub most_given : (f : Found) (r o : Option (Bor Text)) → option_map (λ s. s.now) r ≡ first_value f (codes "max-positions") → r ≡ o
+    → number_at whole_number (option_map (λ s. s.now) o) ≡ most_in (rows_of f)
+most_given f r o given is =
+    ap (λ (q : Option (Bor Text)). number_at whole_number (option_map (λ s. s.now) q)) (sym is) ∙ ap (number_at whole_number) (given ∙ first_value-rows f (codes "max-positions"))
+
+-- ---- the grid of a text
 
 module _ {E : Type 0} (G : List ℕ → Result ℕ E → Type 0) (only : (t : List ℕ) (x : Result ℕ E) → G t x → ParsesUnsigned 32 10 t x) where
   pub no_grid : (o : Option Text) (r : Result (Option ℕ) E) → r ≡ Ok None → ((t : Text) → o ≡ Some t → TriesOne G t r) → grid_at o ≡ Some None
@@ -71,7 +88,7 @@ module _ {E : Type 0} (G : List ℕ → Result ℕ E → Type 0) (only : (t : Li
       let p = parsed t r n is (h t refl) in
       let v : n ≡ digits_value 10 (without_leading_plus t) = p.1 in
       let test : is_unsigned_in 2 (10 ^ 9) t ≡ true = Accepts-accepts false (Unsigned 2 (10 ^ 9)) t (p.0.0, omega arith, omega arith, omega arith) in
-      ap (option_map (λ k. Some k)) (in_range t n v test)
+      ap (option_map (λ k. Some k)) (in_range 2 (10 ^ 9) t n v test)
 
   pub refused_grid : (o : Option Text) (r : Result (Option ℕ) E) (n : ℕ) → r ≡ Ok (Some n) → (o ≡ None → r ≡ Ok None) → ((t : Text) → o ≡ Some t → TriesOne G t r)
       → (2 ≤ n → n ≤ 1000000000 → ⊥) → grid_at o ≡ None
@@ -79,13 +96,13 @@ module _ {E : Type 0} (G : List ℕ → Result ℕ E → Type 0) (only : (t : Li
   refused_grid (Some t) r n is none h out =
       let p = parsed t r n is (h t refl) in
       let v : n ≡ digits_value 10 (without_leading_plus t) = p.1 in
-      out_of_range t (λ e. let a = accepts-Accepts false (Unsigned 2 (10 ^ 9)) t e in out (omega (arith, a.2)) (omega (arith, a.3)))
+      ap (option_map (λ k. Some k)) (out_of_range 2 (10 ^ 9) t (λ e. let a = accepts-Accepts false (Unsigned 2 (10 ^ 9)) t e in out (omega (arith, a.2)) (omega (arith, a.3))))
 
   pub unread_grid : (o : Option Text) (r : Result (Option ℕ) E) (e : E) → r ≡ Err e → (o ≡ None → r ≡ Ok None) → ((t : Text) → o ≡ Some t → TriesOne G t r) → grid_at o ≡ None
   unread_grid None r e is none h = let bad : r ≡ Ok None = none refl in cc
   unread_grid (Some t) r e is none h =
       let p = only t (Err e) (subst (TriesOne G t) is (h t refl)) in
-      out_of_range t (λ e₂. let a = accepts-Accepts false (Unsigned 2 (10 ^ 9)) t e₂ in p (a.0, omega (arith, a.3)))
+      ap (option_map (λ k. Some k)) (out_of_range 2 (10 ^ 9) t (λ e₂. let a = accepts-Accepts false (Unsigned 2 (10 ^ 9)) t e₂ in p (a.0, omega (arith, a.3))))
 
 -- whether an argument has a value
 pub is_given : (f : Found) (id : Text) (r : Option (Bor Text)) → option_map (λ s. s.now) r ≡ first_value f id → is_some (first_of id (rows_of f)) ≡ is_some r

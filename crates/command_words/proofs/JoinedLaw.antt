@@ -70,7 +70,9 @@ joined_same (simplify area keep ring_area no_crossings keep_shapes path, output)
     let levels = level_word area keep ∷ rings in
     ap (λ ws. codes "simplify" ∷ ws)
     (same_output output levels levels (same_level rings rings (same_ring_area rest rest same ring_area) area keep))
-joined_same (geo name path, output) = ap (λ ws. codes "geo" ∷ ws) (same_after (and_value (codes "output") output (value_word (codes "object") name ∷ codes "--" ∷ path ∷ [])))
+joined_same (geo name most path, output) =
+    let rest = and_value (codes "max-positions") (option_map decimal most) (codes "--" ∷ path ∷ []) in
+    ap (λ ws. codes "geo" ∷ ws) (same_after (and_value (codes "output") output (value_word (codes "object") name ∷ rest)))
 joined_same (stat crossings path, output) = ap (λ ws. codes "stat" ∷ ws) (same_after (and_value (codes "output") output (and_flag (codes "crossings") crossings (codes "--" ∷ path ∷ []))))
 
 joined_apart : (o : Ordered) → joined (written_apart o) ≡ written o
@@ -93,7 +95,7 @@ joined_apart (simplify area keep ring_area no_crossings keep_shapes path, output
     ap (λ ws. codes "simplify" ∷ ws)
     (same_output output (level_apart area keep apart) (level_word area keep ∷ rings)
     (joined_level apart rings (joined_ring_area rest rest same ring_area) area keep))
-joined_apart (geo name path, output) = joined_same (geo name path, output)
+joined_apart (geo name most path, output) = joined_same (geo name most path, output)
 joined_apart (stat crossings path, output) = joined_same (stat crossings path, output)
 
 -- the words that are written for a request, in each of the two spellings, ask for it once they are joined

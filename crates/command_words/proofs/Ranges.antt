@@ -9,7 +9,7 @@ use Rattle.clap.specs.Simple.{subcommand_of}
 use Rattle.clap.specs.Walk.{Row, Text, one_of}
 use Rattle.clap.specs.declared.builder.value_parser.ValueParser.TheVariants.{Unsigned}
 use Rattle.clap.proofs.ValueTestLemmas.{accepts-Accepts}
-use Rattle.command_words.specs.Asked.{Asked, Ordered, area_in, asked, asked_in, build, build_in, build_on, cells_of, geo, grid_at, grid_in, has_both, keep_in, keep_shapes_in, kinds_of, layers_in, no_crossings_in, order_of, ordered, ordered_in, output_in, ring_area_in, simplify, simplify_in, stat, stat_in, text_of, where_none}
+use Rattle.command_words.specs.Asked.{Asked, Ordered, area_in, asked, asked_in, build, build_in, build_on, cells_of, geo, geo_in, grid_at, grid_in, has_both, keep_in, keep_shapes_in, kinds_of, layers_in, most_in, no_crossings_in, order_of, ordered, ordered_in, output_in, ring_area_in, simplify, simplify_in, stat, stat_in, text_of, where_none}
 use Rattle.command_words.specs.CommandLine.{program_app}
 use Rattle.command_words.specs.Requests.{IsCells, IsInRange}
 use Rattle.command_words.specs.declared.request.Order.{Order}
@@ -20,7 +20,7 @@ use Rattle.command_words.specs.declared.request.Request.TheVariants.{Build}
 abbrev Fits : Asked → Type 0
 Fits (build layers exact grid area keep ring_area no_crossings keep_shapes) = IfSome grid IsCells
 Fits (simplify area keep ring_area no_crossings keep_shapes path) = Unit {0}
-Fits (geo name path) = Unit {0}
+Fits (geo name most path) = Unit {0}
 Fits (stat crossings path) = Unit {0}
 
 cells_in_range : (text : Text) → IfSome (cells_of text) IsCells
@@ -56,20 +56,27 @@ built_in_range rows =
 simplify_in_range : (rows : List Row) → IfSome (simplify_in rows) Fits
 simplify_in_range rows = either (has_both rows) None (Some (simplify (area_in rows) (keep_in rows) (ring_area_in rows) (no_crossings_in rows) (keep_shapes_in rows) (text_of (codes "file") rows))) tt tt
 
+geo_in_range : (rows : List Row) → IfSome (geo_in rows) Fits
+geo_in_range rows = go (most_in rows)
+  where
+    go : (o : Option (Option ℕ)) → IfSome (option_map (λ most. geo (text_of (codes "object") rows) most (text_of (codes "file") rows)) o) Fits
+    go None = tt
+    go (Some most) = tt
+
 command_in_range : (found : Text × List Row) → IfSome (asked_in found) Fits
 command_in_range found =
     let rows = found.1 in
     let built = built_in_range rows in
-    let decoded = geo (text_of (codes "object") rows) (text_of (codes "file") rows) in
+    let decoded = geo_in rows in
     let counted = stat_in rows in
     let is_simplify = bytes_eq found.0 (codes "simplify") in
     let is_geo = bytes_eq found.0 (codes "geo") in
     let is_stat = bytes_eq found.0 (codes "stat") in
     let last : Option Asked = if is_stat then Some counted else None in
-    let third : Option Asked = if is_geo then Some decoded else last in
+    let third : Option Asked = if is_geo then decoded else last in
     let second : Option Asked = if is_simplify then simplify_in rows else third in
     either (bytes_eq found.0 (codes "build")) (build_in rows) second built
-    (either is_simplify (simplify_in rows) third (simplify_in_range rows) (either is_geo (Some decoded) last tt (either is_stat (Some counted) None tt tt)))
+    (either is_simplify (simplify_in rows) third (simplify_in_range rows) (either is_geo decoded last (geo_in_range rows) (either is_stat (Some counted) None tt tt)))
 
 with_output : (output : Option Text) (o : Option Asked) → IfSome o Fits → IfSome (option_map (λ a. (a, output)) o) (λ (x : Ordered). Fits x.0)
 with_output output None h = tt

@@ -1,5 +1,5 @@
 -- What is written is what is asked for.
-use Rattle.std.proofs.Common.{◌≡◌, ◌∙◌, ◌+◌, ◌<◌, ◌==◌, ◌++◌, ℕ, suc, List, [], ◌∷◌, Bool, true, false, Option, Some, None, cond, length, map, take, drop, refl, sym, ap, ap₂, arith, subst, lt-ltb, length-append}
+use Rattle.std.proofs.Common.{◌≡◌, ◌∙◌, ◌+◌, ◌-◌, ◌<◌, ◌==◌, ◌++◌, ℕ, suc, List, [], ◌∷◌, Bool, true, false, Option, Some, None, cond, length, map, take, drop, refl, sym, ap, ap₂, arith, subst, lt-ltb, length-append}
 use Rattle.std.proofs.Common.{ℤ, ◌≤◌, ◌^◌}
 use Rattle.std.specs.Prelude.{FitsSigned, IfSome, decimal, nat_lt, option_map, neg_ℤ, pos, unwrap_or, ◌≤ℤ◌}
 use Rattle.std.specs.Int.{w64}
@@ -15,7 +15,7 @@ use Rattle.std.specs.List.{position, position_or_len}
 use Rattle.clap.specs.Lexer.{has_byte, without_minus}
 use Rattle.clap.specs.Walk.{Text}
 use Rattle.command_words.specs.LayerWords.{equals_sign}
-use Rattle.command_words.specs.Asked.{and_layer, Ordered, build, cells_of, geo, grid_at, layer_of, layers_of, order_of, simplify, stat}
+use Rattle.command_words.specs.Asked.{and_layer, Ordered, build, cells_of, geo, grid_at, layer_of, layers_of, number_in, order_of, simplify, stat}
 use Rattle.command_words.specs.Written.{HasPlainNames, IsWritable, layer_word, written}
 use Rattle.command_words.proofs.Laws.{geo_law, stat_law}
 use Rattle.command_words.proofs.SimplifyLaw.{simplify_law}
@@ -83,12 +83,15 @@ cells_taken t n h v low high =
     Accepts-accepts false (Signed (pos 2) (pos 1000000000)) t
     (subst (IsNumeral 10) (sym bare) h, subst (FitsSigned w64) (sym value) small, subst (λ (z : ℤ). pos 2 ≤ℤ z) (sym value) least, subst (λ (z : ℤ). z ≤ℤ pos 1000000000) (sym value) most)
 
-cells_read : (t : Text) (n : ℕ) → IsNumeral 10 t → digits_value 10 t ≡ n → 2 ≤ n → n ≤ 1000000000 → cells_of (without_minus t) ≡ Some n
-cells_read t n h v low high =
+number_read : (least most : ℕ) (t : Text) (n : ℕ) → IsNumeral 10 t → digits_value 10 t ≡ n → least ≤ n → n ≤ most → n < 2 ^ 64 → number_in least most t ≡ Some n
+number_read least most t n h v low high small =
     let s = no_sign t h in
     let value : digits_value 10 (without_leading_plus t) ≡ n = ap (digits_value 10) s.1 ∙ v in
-    ap cells_of s.2 ∙ in_range t n (sym value)
-    (Accepts-accepts false (Unsigned 2 (10 ^ 9)) t (subst (IsNumeral 10) (sym s.1) h, omega arith, omega arith, omega arith))
+    in_range least most t n (sym value)
+    (Accepts-accepts false (Unsigned least most) t (subst (IsNumeral 10) (sym s.1) h, omega (arith, small), omega arith, omega arith))
+
+cells_read : (t : Text) (n : ℕ) → IsNumeral 10 t → digits_value 10 t ≡ n → 2 ≤ n → n ≤ 1000000000 → cells_of (without_minus t) ≡ Some n
+cells_read t n h v low high = ap cells_of (no_sign t h).2 ∙ number_read 2 (10 ^ 9) t n h v low (omega arith) (omega arith)
 
 -- a number of cells is taken, and read back
 grid_taken : (grid : Option ℕ) → IfSome grid IsCells → IfSome (option_map decimal grid) (λ c. is_taken c ≡ true)
@@ -122,5 +125,10 @@ asked_as_written (build (layer ∷ layers) exact grid area (Some share) ring_are
 asked_as_written (simplify area None ring_area no_crossings keep_shapes path, output) can = simplify_law output (Some area) None ring_area path no_crossings keep_shapes refl
 asked_as_written (simplify area (Some share) ring_area no_crossings keep_shapes path, output) can =
     simplify_law output None (Some share) ring_area path no_crossings keep_shapes refl ∙ (λ i. Some (simplify (sym can i) (Some share) ring_area no_crossings keep_shapes path, output))
-asked_as_written (geo name path, output) can = geo_law output name path
+asked_as_written (geo name None path, output) can = geo_law output None name path
+asked_as_written (geo name (Some n) path, output) can =
+    let d = decimal_is_IsNumeral n can in
+    geo_law output (Some (decimal n)) name path
+    ∙ ap (λ (o : Option ℕ). option_map (λ a. (a, output)) (option_map (λ m. geo name m path) (option_map (λ k. Some k) o)))
+    (number_read 0 (2 ^ 64 - 1) (decimal n) n d.0 d.1 (omega arith) (omega (arith, can)) (omega (arith, can)))
 asked_as_written (stat crossings path, output) can = stat_law output crossings path

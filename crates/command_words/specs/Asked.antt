@@ -1,5 +1,5 @@
 -- What the words after the program's name ask for.
-use Rattle.std.specs.Prelude.{◌≡◌, ◌⊎◌, ◌+◌, ◌^◌, ◌==◌, ℕ, Bool, is_some, ◌&&◌, List, [], ◌∷◌, map, take, drop, codes, Option, Some, None}
+use Rattle.std.specs.Prelude.{◌≡◌, ◌⊎◌, ◌+◌, ◌-◌, ◌^◌, ◌==◌, ℕ, Bool, is_some, ◌&&◌, List, [], ◌∷◌, map, take, drop, codes, Option, Some, None}
 use Rattle.std.specs.Prelude.{Result, Ok, Err, if◌then◌else◌, option_map, option_and_then, unwrap_or}
 use Rattle.std.specs.List.{position}
 use Rattle.std.specs.Str.{bytes_eq}
@@ -25,8 +25,8 @@ pub data Asked : Type 0 where
   build : List (Text × Text) → Bool → Option ℕ → Text → Option Text → Text → Bool → Bool → Asked
   -- the area, the share, the ring area, whether no crossing may be made, whether shapes stay, and the file
   simplify : Text → Option Text → Text → Bool → Bool → Text → Asked
-  -- the object and the file
-  geo : Text → Text → Asked
+  -- the object, the most positions that its features may have, and the file
+  geo : Text → Option ℕ → Text → Asked
   -- whether crossings are counted, and the file
   stat : Bool → Text → Asked
 
@@ -36,7 +36,7 @@ asked (Build layers exact grid area keep ring_area no_crossings keep_shapes) =
     build (map (λ l. (l.0.now, l.1.now)) layers.items) exact grid area.now (option_map (λ k. k.now) keep) ring_area.now no_crossings keep_shapes
 asked (Simplify area keep ring_area no_crossings keep_shapes path) =
     simplify area.now (option_map (λ k. k.now) keep) ring_area.now no_crossings keep_shapes path.now
-asked (Geo name path) = geo name.now path.now
+asked (Geo name most path) = geo name.now most path.now
 asked (Stat crossings path) = stat crossings path.now
 
 -- what is asked for, and the file that the output goes to, if it isn't standard output
@@ -62,9 +62,17 @@ abbrev pub layers_of : List Text → Option (List (Text × Text))
 layers_of [] = Some []
 layers_of (word ∷ words) = and_layer (layer_of word) (layers_of words)
 
+-- a whole number in this range
+abbrev pub number_in : ℕ → ℕ → Text → Option ℕ
+number_in least most text = if is_unsigned_in least most text then Some (digits_value 10 (without_leading_plus text)) else None
+
 -- a number of cells, from 2 to 10^9
 abbrev pub cells_of : Text → Option ℕ
-cells_of text = if is_unsigned_in 2 (10 ^ 9) text then Some (digits_value 10 (without_leading_plus text)) else None
+cells_of text = number_in 2 (10 ^ 9) text
+
+-- a whole number, up to 2^64 - 1
+abbrev pub whole_number : Text → Option ℕ
+whole_number text = number_in 0 (2 ^ 64 - 1) text
 
 -- ---- what was found for the arguments of a command
 
@@ -103,9 +111,13 @@ crossings_in rows = bytes_eq (text_of (codes "crossings") rows) (codes "true")
 abbrev pub exact_in : List Row → Bool
 exact_in rows = bytes_eq (text_of (codes "exact") rows) (codes "true")
 
+-- the number of a text, if one is given
+abbrev pub number_at : (Text → Option ℕ) → Option Text → Option (Option ℕ)
+number_at number None = Some None
+number_at number (Some text) = option_map (λ n. Some n) (number text)
+
 abbrev pub grid_at : Option Text → Option (Option ℕ)
-grid_at None = Some None
-grid_at (Some text) = option_map (λ n. Some n) (cells_of text)
+grid_at given = number_at cells_of given
 
 abbrev pub grid_in : List Row → Option (Option ℕ)
 grid_in rows = grid_at (one_of (codes "grid") rows)
@@ -130,6 +142,14 @@ abbrev pub simplify_in : List Row → Option Asked
 simplify_in rows = if has_both rows then None
     else Some (simplify (area_in rows) (keep_in rows) (ring_area_in rows) (no_crossings_in rows) (keep_shapes_in rows) (text_of (codes "file") rows))
 
+-- the most positions that the features of an object may have, if any are given
+abbrev pub most_in : List Row → Option (Option ℕ)
+most_in rows = number_at whole_number (first_of (codes "max-positions") rows)
+
+-- what `geo` asks for, which takes a number of positions alone
+abbrev pub geo_in : List Row → Option Asked
+geo_in rows = option_map (λ most. geo (text_of (codes "object") rows) most (text_of (codes "file") rows)) (most_in rows)
+
 abbrev pub stat_in : List Row → Asked
 stat_in rows = stat (crossings_in rows) (text_of (codes "file") rows)
 
@@ -138,7 +158,7 @@ abbrev pub asked_in : Text × List Row → Option Asked
 asked_in found =
     if bytes_eq found.0 (codes "build") then build_in found.1
     else (if bytes_eq found.0 (codes "simplify") then simplify_in found.1
-    else (if bytes_eq found.0 (codes "geo") then Some (geo (text_of (codes "object") found.1) (text_of (codes "file") found.1))
+    else (if bytes_eq found.0 (codes "geo") then geo_in found.1
     else (if bytes_eq found.0 (codes "stat") then Some (stat_in found.1)
     else None)))
 

@@ -22,6 +22,10 @@ object_rule = record (new_rule (codes "object")) {
   required = true;
 }
 
+-- the option --max-positions N
+abbrev pub most_rule : Rule
+most_rule = record (new_rule (codes "max-positions")) { long = Some (codes "max-positions"); value_names = 1 }
+
 -- the option --min-area A
 abbrev pub area_rule : Rule
 area_rule = record (new_rule (codes "min-area")) { long = Some (codes "min-area"); value_names = 1 }
@@ -107,9 +111,9 @@ build_app = with_rule (with_rule (with_common (with_rule (with_reducing (with_ru
 abbrev pub simplify_app : App
 simplify_app = with_rule (with_rule (with_common (with_reducing (new_app (codes "simplify")))) quiet_rule) file_rule
 
--- geo --object NAME FILE, with the common options
+-- geo --object NAME [--max-positions N] FILE, with the common options
 abbrev pub geo_app : App
-geo_app = with_rule (with_common (with_rule (new_app (codes "geo")) object_rule)) file_rule
+geo_app = with_rule (with_common (with_rule (with_rule (new_app (codes "geo")) object_rule) most_rule)) file_rule
 
 -- stat [--crossings] FILE, with the common options
 abbrev pub stat_app : App

@@ -1,5 +1,5 @@
 -- What is said of words that ask for nothing that can be done.
-use Rattle.std.specs.Prelude.{◌≡◌, ◌⊎◌, ◌||◌, ℕ, Bool, true, false, not, List, [], ◌++◌, codes, decimal, if◌then◌else◌, is_some, Option, Some, None}
+use Rattle.std.specs.Prelude.{◌≡◌, ◌⊎◌, ℕ, Bool, true, false, not, List, [], ◌++◌, codes, decimal, if◌then◌else◌, is_some, Option, Some, None}
 use Rattle.std.specs.List.{list_all, position}
 use Rattle.std.specs.Str.{bytes_eq}
 use Rattle.std.specs.String.{string_bytes}
@@ -10,7 +10,7 @@ use Rattle.clap.specs.Values.{kind_of}
 use Rattle.clap.specs.Walk.{Row, Text}
 use Rattle.clap.specs.declared.error.kind.ErrorKind.{ErrorKind}
 use Rattle.clap.specs.declared.error.kind.ErrorKind.TheVariants as kind
-use Rattle.command_words.specs.Asked.{explains_in, grid_in, has_both, kinds_of, layer_words}
+use Rattle.command_words.specs.Asked.{explains_in, grid_in, has_both, kinds_of, layer_words, most_in}
 use Rattle.command_words.specs.CommandLine.{program_app}
 use Rattle.command_words.specs.LayerWords.{equals_sign}
 use Rattle.command_words.specs.declared.words_fault.WordsFault.{WordsFault}
@@ -66,12 +66,13 @@ IsCommandFault found Memory = Unit {0}
 IsCommandFault None fault = ⊥
 IsCommandFault (Some found) fault = (bytes_eq found.0 (codes "build") ≡ true) × IsBuildFault found.1 fault
 
--- no command is found, or `build` or `simplify` with a share beside an area
+-- no command is found, or `build` or `simplify` with a share beside an area, or `geo` with a number of positions that is none
 abbrev pub is_refused : Option (Text × List Row) → Bool
 is_refused None = true
 is_refused (Some found) = if bytes_eq found.0 (codes "build") then has_both found.1
     else (if bytes_eq found.0 (codes "simplify") then has_both found.1
-    else not (bytes_eq found.0 (codes "geo") || bytes_eq found.0 (codes "stat")))
+    else (if bytes_eq found.0 (codes "geo") then not (is_some (most_in found.1))
+    else not (bytes_eq found.0 (codes "stat"))))
 
 -- ---- all words
 

@@ -11,5 +11,5 @@ IsCells n = (2 ≤ n) × (n ≤ 10 ^ 9)
 abbrev pub IsInRange : Request → Type 0
 IsInRange (Build layers exact grid area keep ring_area no_crossings keep_shapes) = IfSome grid IsCells
 IsInRange (Simplify area keep ring_area no_crossings keep_shapes path) = Unit {0}
-IsInRange (Geo name path) = Unit {0}
+IsInRange (Geo name most path) = Unit {0}
 IsInRange (Stat crossings path) = Unit {0}

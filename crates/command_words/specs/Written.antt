@@ -1,5 +1,5 @@
 -- Words that ask for a request, whatever it is.
-use Rattle.std.specs.Prelude.{IfSome, decimal, ◌≡◌, ◌<◌, ◌++◌, Bool, true, false, List, [], ◌∷◌, length, map, codes, Option, Some, None, option_map}
+use Rattle.std.specs.Prelude.{IfSome, decimal, ◌≡◌, ◌<◌, ◌^◌, ◌++◌, Bool, true, false, List, [], ◌∷◌, length, map, codes, Option, Some, None, option_map}
 use Rattle.clap.specs.Lexer.{has_byte, usize_max}
 use Rattle.clap.specs.Walk.{Text}
 use Rattle.command_words.specs.LayerWords.{equals_sign}
@@ -43,7 +43,8 @@ written (build layers exact grid area keep ring_area no_crossings keep_shapes, o
 written (simplify area keep ring_area no_crossings keep_shapes path, output) =
     codes "simplify" ∷ and_value (codes "output") output
     (level_word area keep ∷ ring_area_word ring_area ∷ and_flag (codes "no-crossings") no_crossings (and_flag (codes "keep-shapes") keep_shapes (codes "--" ∷ path ∷ [])))
-written (geo name path, output) = codes "geo" ∷ and_value (codes "output") output (value_word (codes "object") name ∷ codes "--" ∷ path ∷ [])
+written (geo name most path, output) = codes "geo" ∷ and_value (codes "output") output
+    (value_word (codes "object") name ∷ and_value (codes "max-positions") (option_map decimal most) (codes "--" ∷ path ∷ []))
 written (stat crossings path, output) = codes "stat" ∷ and_value (codes "output") output (and_flag (codes "crossings") crossings (codes "--" ∷ path ∷ []))
 
 -- the words of a level, with a value that may be any text as a word of its own
@@ -61,7 +62,7 @@ written_apart (build layers exact grid area keep ring_area no_crossings keep_sha
 written_apart (simplify area keep ring_area no_crossings keep_shapes path, output) =
     codes "simplify" ∷ and_value (codes "output") output
     (level_apart area keep (ring_area_apart ring_area (and_flag (codes "no-crossings") no_crossings (and_flag (codes "keep-shapes") keep_shapes (codes "--" ∷ path ∷ [])))))
-written_apart (geo name path, output) = written (geo name path, output)
+written_apart (geo name most path, output) = written (geo name most path, output)
 written_apart (stat crossings path, output) = written (stat crossings path, output)
 
 -- no name has an `=`
@@ -70,10 +71,10 @@ HasPlainNames [] = Unit {0}
 HasPlainNames (layer ∷ layers) = (has_byte equals_sign layer.0 ≡ false) × HasPlainNames layers
 
 -- a request that `written` writes: a build has a layer or more, a grid from 2 to 10^9 cells if any, and beside a share
--- an area of 0; so has simplifying
+-- an area of 0; so has simplifying; a number of positions is under 2^64
 abbrev pub IsWritable : Asked → Type 0
 IsWritable (build layers exact grid area keep ring_area no_crossings keep_shapes) = IfSome grid IsCells × (0 < length layers) × (length layers < usize_max)
     × HasPlainNames layers × IfSome keep (λ _. area ≡ codes "0")
 IsWritable (simplify area keep ring_area no_crossings keep_shapes path) = IfSome keep (λ _. area ≡ codes "0")
-IsWritable (geo name path) = Unit {0}
+IsWritable (geo name most path) = IfSome most (λ n. n < 2 ^ 64)
 IsWritable (stat crossings path) = Unit {0}

@@ -1,8 +1,8 @@
 // The commands that take the file of a topology, and their help.
 ghost use Rattle.std.specs.Prelude.{IfOk};
-ghost use Rattle.command_words.specs.CommandLine.{IsApp, IsRule, crossings_rule, file_rule, geo_app, keep_rule, object_rule, simplify_app, stat_app};
+ghost use Rattle.command_words.specs.CommandLine.{IsApp, IsRule, crossings_rule, file_rule, geo_app, keep_rule, most_rule, object_rule, simplify_app, stat_app};
 
-use crate::commands::{Help, command, flag};
+use crate::commands::{Help, command, flag, option_with};
 use crate::usage::{quiet, with_argument, with_common, with_reducing};
 use clap::{Arg, Command};
 use std::alloc::{AllocError, Global};
@@ -18,6 +18,9 @@ pub(crate) const STAT: &str = "stat";
 
 /// The option of `geo` that names the object.
 pub(crate) const OBJECT: &str = "object";
+
+/// The option of `geo` that bounds the positions.
+pub(crate) const MOST: &str = "max-positions";
 
 /// The option of `stat` that counts crossings.
 pub(crate) const CROSSINGS: &str = "crossings";
@@ -67,6 +70,15 @@ something is refused it takes nothing, and standard error says what.",
 };
 
 const OBJECT_HELP: &str = "The name of the object";
+
+const MOST_HELP: &str = "Refuse an object whose features have more than N positions";
+
+const MOST_LONG_HELP: &str =
+    "Refuse an object whose features have more than N positions, before anything is written.
+A line of a topology can name an arc as often as it likes, so that a small file may
+stand for very large features: a bound is for files of unknown origin. N is a whole
+number, at most 18446744073709551615. 'mapchain stat --explain' says of each object how
+many positions its features have";
 
 const STAT_HELP: Help = Help {
     about: "Count what is in a topology",
@@ -128,12 +140,20 @@ fn object<'a>(alloc: Global) -> Arg<'a>
         .help(OBJECT_HELP)
 }
 
-/// The command line of `geo`.
-pub(crate) fn geo<'a>(alloc: Global) -> Result<Command<'a>, AllocError>
-    ensures { IfOk result (λ c. IsApp c geo_app) }
+/// The option of `geo` that bounds the positions. It takes any text, as that of an area does.
+pub(crate) fn most<'a>(alloc: Global) -> Arg<'a>
+    ensures { IsRule result most_rule }
+{
+    option_with(alloc, MOST, "N", MOST_HELP, MOST_LONG_HELP)
+}
+
+/// The command line of `geo`, with this option that bounds the positions.
+pub(crate) fn geo<'a>(alloc: Global, most: Arg<'a>) -> Result<Command<'a>, AllocError>
+    ensures { IsRule most.entry most_rule → IfOk result (λ c. IsApp c geo_app) }
 {
     let command = with_argument(Ok(command(alloc, GEO, GEO_HELP)), object(alloc));
-    with_argument(with_common(alloc, command), file(alloc))
+    let command = with_common(alloc, with_argument(command, most));
+    with_argument(command, file(alloc))
 }
 
 /// The option of `stat` that counts crossings.

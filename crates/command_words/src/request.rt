@@ -8,15 +8,15 @@ ghost use Rattle.clap.specs.Walk.{Row, Text};
 ghost use Rattle.clap.specs.declared.error.kind.ErrorKind.TheVariants.{OutOfMemory};
 ghost use Rattle.command_words.specs.declared.words_fault.WordsFault.TheVariants.{GridRange, Memory};
 ghost use Rattle.command_words.specs.Asked as spec;
-ghost use Rattle.command_words.specs.Asked.{Answers, area_in, asked, asked_in, build_in, crossings_in, entries_of, exact_in, grid_in};
+ghost use Rattle.command_words.specs.Asked.{Answers, area_in, asked, asked_in, build_in, crossings_in, entries_of, exact_in, geo_in, grid_in};
 ghost use Rattle.command_words.specs.Asked.{Ordered, detail, detail_of, explains_in, keep_in, keep_shapes_in, kinds_of, order_of, ordered};
-ghost use Rattle.command_words.specs.Asked.{no_crossings_in, output_in, quiet_in, report_in, ring_area_in, simplify_in, text_of};
+ghost use Rattle.command_words.specs.Asked.{most_in, no_crossings_in, output_in, quiet_in, report_in, ring_area_in, simplify_in, text_of};
 ghost use Rattle.command_words.specs.CommandLine.{IsApp, program_app};
 ghost use Rattle.command_words.specs.Faults as faults;
 ghost use Rattle.command_words.specs.Faults.{IsBuildFault, IsCommandFault, IsFaultBy, IsFaultOf};
 ghost use Rattle.command_words.specs.Written.{IsWritable, written};
 
-use crate::file_usage::{CROSSINGS, FILE, GEO, OBJECT, SIMPLIFY, STAT};
+use crate::file_usage::{CROSSINGS, FILE, GEO, MOST, OBJECT, SIMPLIFY, STAT};
 use crate::layer_words::names_and_paths;
 use crate::refusing::refusal;
 use crate::usage::{
@@ -66,6 +66,8 @@ pub enum Request<'a> {
     /// The features of the object of this name, of the topology in the file of this path.
     Geo {
         name: &'a str,
+        /// As many positions as they may have, if that is bounded.
+        most: Option<u64>,
         path: &'a str,
     },
     /// What is in the topology in the file of this path.
@@ -128,6 +130,23 @@ fn ring_area_of<'a>(arguments: &ArgMatches<'a>) -> &'a str
     ensures { result.now ≡ ring_area_in (entries_of arguments.now) }
 {
     arguments.get_str(RING_AREA).unwrap_or("0")
+}
+
+/// The whole number that a text is, if it is one that is taken.
+fn whole_number(text: &str) -> Option<u64>
+    ensures { result ≡ spec.whole_number text.now }
+{
+    text.parse::<u64>().ok()
+}
+
+/// The most positions that are asked for, if any; none where they are no number.
+fn most_of(arguments: &ArgMatches<'_>) -> Option<Option<u64>>
+    ensures { result ≡ most_in (entries_of arguments.now) }
+{
+    match arguments.get_str(MOST) {
+        None => Some(None),
+        Some(text) => Some(Some(whole_number(text)?)),
+    }
 }
 
 /// The file for the output, if one is given.
@@ -252,6 +271,19 @@ fn simplify_request<'a>(arguments: &ArgMatches<'a>) -> Option<Request<'a>>
     })
 }
 
+/// What the command that decodes an object asks for, unless the positions that it is given are no number.
+fn geo_request<'a>(arguments: &ArgMatches<'a>) -> Option<Request<'a>>
+    ensures asked { geo_in (entries_of arguments.now) ≡ option_map asked result }
+    ensures unread { result ≡ None → most_in (entries_of arguments.now) ≡ None }
+{
+    let most = most_of(arguments)?;
+    Some(Request::Geo {
+        name: text_of(arguments, OBJECT),
+        most,
+        path: text_of(arguments, FILE),
+    })
+}
+
 /// What a command of this name asks for, if there is one.
 fn request_in<'a>(
     alloc: Global,
@@ -270,9 +302,7 @@ fn request_in<'a>(
         return Ok(simplify_request(arguments));
     }
     if name == GEO {
-        let name = text_of(arguments, OBJECT);
-        let path = text_of(arguments, FILE);
-        return Ok(Some(Request::Geo { name, path }));
+        return Ok(geo_request(arguments));
     }
     if name == STAT {
         let crossings = has_crossings(arguments);

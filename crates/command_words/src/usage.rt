@@ -5,10 +5,10 @@ ghost use Rattle.clap.specs.Simple.{App, with_rule, with_subcommand};
 ghost use Rattle.clap.specs.Walk.{Rule};
 ghost use Rattle.command_words.specs.CommandLine as spec;
 ghost use Rattle.command_words.specs.CommandLine.{IsApp, IsRule, area_rule, bare_app, build_app, exact_rule, grid_rule};
-ghost use Rattle.command_words.specs.CommandLine.{explain_rule, keep_rule, keep_shapes_rule, layers_rule, no_crossings_rule, output_rule, program_app, quiet_rule, report_rule, ring_area_rule};
+ghost use Rattle.command_words.specs.CommandLine.{explain_rule, keep_rule, keep_shapes_rule, layers_rule, most_rule, no_crossings_rule, output_rule, program_app, quiet_rule, report_rule, ring_area_rule};
 
 use crate::commands::{Help, command, flag, option_with};
-use crate::file_usage::{GEO, SIMPLIFY, STAT, geo, simplify, stat};
+use crate::file_usage::{GEO, SIMPLIFY, STAT, geo, most, simplify, stat};
 use clap::builder::ValueParser;
 use clap::{Arg, Command, value_parser};
 use std::alloc::{AllocError, Global};
@@ -236,17 +236,18 @@ pub(crate) fn with_argument<'a>(
     command?.arg(argument)
 }
 
-/// The command line of the program, with these options of `build` and of `simplify` that keep a share.
+/// The command line of the program, with these options of `build` and of `simplify` that keep a share, and of `geo` that bounds the positions.
 fn program_with<'a>(
     alloc: Global,
     build_keep: Arg<'a>,
     simplify_keep: Arg<'a>,
+    most: Arg<'a>,
 ) -> Result<Command<'a>, AllocError>
-    ensures { IsRule build_keep.entry keep_rule → IsRule simplify_keep.entry keep_rule → IfOk result (λ c. IsApp c program_app) }
+    ensures { IsRule build_keep.entry keep_rule → IsRule simplify_keep.entry keep_rule → IsRule most.entry most_rule → IfOk result (λ c. IsApp c program_app) }
 {
     let program = with_command(bare(alloc), build(alloc, build_keep));
     let program = with_command(program, simplify(alloc, simplify_keep));
-    let program = with_command(program, geo(alloc));
+    let program = with_command(program, geo(alloc, most));
     with_command(program, stat(alloc))
 }
 
@@ -258,25 +259,28 @@ pub(crate) fn command_named<'a>(
     let command = match name {
         BUILD => build(alloc, keep(alloc))?.bin_name("mapchain build")?,
         SIMPLIFY => simplify(alloc, keep(alloc))?.bin_name("mapchain simplify")?,
-        GEO => geo(alloc)?.bin_name("mapchain geo")?,
+        GEO => geo(alloc, most(alloc))?.bin_name("mapchain geo")?,
         STAT => stat(alloc)?.bin_name("mapchain stat")?,
         _ => return Ok(None),
     };
     Ok(Some(command))
 }
 
-/// The command line of the program. It takes a share beside an area, which `build_request` and `simplify_request` refuse.
+/// The command line of the program. It takes a share beside an area, which `build_request` and `simplify_request` refuse, and any text for a
+/// number of positions, which `geo_request` reads.
 pub(crate) fn program<'a>(alloc: Global) -> Result<Command<'a>, AllocError>
     ensures { IfOk result (λ c. IsApp c program_app) }
 {
-    program_with(alloc, keep(alloc), keep(alloc))
+    program_with(alloc, keep(alloc), keep(alloc), most(alloc))
 }
 
-/// The command line of the program, which refuses a share beside an area. What is said of refused words is said by it.
+/// The command line of the program, which refuses a share beside an area, and a number of positions that is none. What is said of refused words
+/// is said by it.
 pub(crate) fn telling_program<'a>(alloc: Global) -> Result<Command<'a>, AllocError> {
     let build_keep = keep(alloc).conflicts_with(AREA)?;
     let simplify_keep = keep(alloc).conflicts_with(AREA)?;
-    program_with(alloc, build_keep, simplify_keep)
+    let most = most(alloc).value_parser(value_parser!(u64));
+    program_with(alloc, build_keep, simplify_keep, most)
 }
 
 /// The numbers of cells that a grid may have along each axis.

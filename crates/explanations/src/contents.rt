@@ -3,7 +3,7 @@ use crate::brief::OBJECT_BEGINNING;
 use crate::building::decimal_of_units;
 use crate::owners::{count_owners, owners_of};
 use geojson_types::{Geometry, Position};
-use reports::features_in;
+use reports::{decoded_positions, features_in};
 use std::alloc::{AllocError, Global};
 use topojson_decoder::quoted;
 use topojson_types::{TopoFeature, TopoObject, TopoShape, Topology, Transform};
@@ -58,16 +58,31 @@ fn types_text(alloc: Global, features: &[TopoFeature]) -> Result<String, AllocEr
     Ok(text)
 }
 
+/// How many positions the features of an object have when they are decoded, where these aren't only Points.
+fn positions_text(
+    alloc: Global,
+    topology: &Topology,
+    object: &TopoObject,
+) -> Result<String, AllocError> {
+    let count = decoded_positions(topology, object);
+    if count <= features_in(object).len() as u64 {
+        return Ok(String::new(alloc));
+    }
+    format!(in alloc; ", {count} positions decoded")
+}
+
 /// The line for an object of this name, of which this is said of its first properties.
 fn object_line(
     alloc: Global,
+    topology: &Topology,
     name: &str,
     object: &TopoObject,
     properties: &str,
 ) -> Result<String, AllocError> {
     let name = quoted(alloc, name)?;
     let types = types_text(alloc, features_in(object))?;
-    format!(in alloc; "{OBJECT_BEGINNING}{name}{types}{properties}\n")
+    let positions = positions_text(alloc, topology, object)?;
+    format!(in alloc; "{OBJECT_BEGINNING}{name}{types}{positions}{properties}\n")
 }
 
 /// The line for the least and the greatest coordinates.
@@ -99,8 +114,8 @@ fn arcs_line(alloc: Global, topology: &Topology) -> Result<String, AllocError> {
     format!(in alloc; "  arcs of two features or more {several}, of one {one}, of none {none}\n")
 }
 
-/// What is in a topology: the types of each object's features, and the properties of its first feature that has any, of which `samples` has
-/// what is said, object by object; the bounds of all positions; the step of the grid, if there is one; and how many arcs features share.
+/// What is in a topology: the types of each object's features, their positions, and the properties of its first feature that has any, of which
+/// `samples` has what is said, object by object; the bounds of all positions; the step of the grid, if there is one; and how many arcs features share.
 pub(crate) fn topology_lines(
     alloc: Global,
     topology: &Topology,
@@ -109,7 +124,7 @@ pub(crate) fn topology_lines(
     let mut lines = String::new(alloc);
     for (number, object) in topology.objects().iter().enumerate() {
         let sample = samples.get(number).map_or("", |sample| sample.as_str());
-        let line = object_line(alloc, object.0.as_str(), &object.1, sample)?;
+        let line = object_line(alloc, topology, object.0.as_str(), &object.1, sample)?;
         lines.push_str(line.as_str())?;
     }
     if let Some((least, greatest)) = topology.bounds() {

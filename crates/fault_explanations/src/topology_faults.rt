@@ -272,6 +272,9 @@ pub fn topology_fault(
         FileFault::Json(fault) => json_fault(alloc, bytes, TOPOLOGY_DEPTH, SEQUENCE, *fault)?,
         FileFault::Topo(_) => value_fault(alloc, bytes, fault)?,
         FileFault::NoObject => value_fault(alloc, bytes, fault)?,
+        FileFault::ManyPositions { count } => format!(in alloc;
+            "  the features of the object have {count} positions: --max-positions {count} lets them be written\n"
+        )?,
     };
     let path = shown(alloc, path)?;
     format!(in alloc; "  the file {path}\n{lines}")

@@ -19,6 +19,9 @@ pub enum FileFault {
     /// No object of the topology has the name.
     #[error("no object has the name")]
     NoObject,
+    /// The features of the object have so many positions, more than may be written.
+    #[error("the features have {count} positions")]
+    ManyPositions { count: u64 },
     /// The sink's device failed once it had taken this many bytes of the text.
     #[error("the device failed after {sent} bytes")]
     Write { sent: u64 },

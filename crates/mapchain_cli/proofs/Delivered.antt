@@ -50,5 +50,5 @@ kept_calls path fresh ended before opened after (Build layers exact grid area ke
     (options, olds, news, fits, opens, ap (λ (n : Noted). n.sources) noted ∙ are, called)
 kept_calls path fresh ended before opened after (Simplify area keep ring_area no_crossings keep_shapes path2) asked calls noted (level, old, new, fits, opens, is, called) =
     (level, old, new, fits, opens, ap (λ (n : Noted). n.source) noted ∙ is, called)
-kept_calls path fresh ended before opened after (Geo name path2) asked calls noted h = h
+kept_calls path fresh ended before opened after (Geo name most path2) asked calls noted h = h
 kept_calls path fresh ended before opened after (Stat crossings path2) asked calls noted h = h

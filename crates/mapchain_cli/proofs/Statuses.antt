@@ -18,7 +18,7 @@ use Rattle.inputs.specs.Sources.{Sources}
 use Rattle.reports.specs.declared.report.Report.{Report}
 use Rattle.mapchain_engine.specs.Building.{IsLateFault}
 use Rattle.mapchain_engine.specs.declared.options.Options.{Options}
-use Rattle.mapchain_engine.specs.Geo.{IsGeoFault}
+use Rattle.mapchain_engine.specs.Geo.{IsGeoFaultWithin}
 use Rattle.mapchain_engine.specs.Simplified.{IsSimplifyFault}
 use Rattle.mapchain_cli.specs.Asking.{guards_of, IsAnswered, IsRefused, RefusesBuild, RefusesTopology}
 use Rattle.mapchain_cli.specs.Endings.{IsSummaryFault, RefusesLayers}
@@ -47,28 +47,29 @@ build_keeps c request old new e h lt = absurd h
 
 -- where each fault but that of writing leaves standard output as it was, one with a status under 3 does
 file_keeps : (IsFault : FileFault → Type 0) (old new : Drained) → ((f : _) → IsFault (file.Read f) → new ≡ old) → ((f : _) → IsFault (file.Json f) → new ≡ old)
-    → ((f : _) → IsFault (file.Topo f) → new ≡ old) → (IsFault file.NoObject → new ≡ old) → (IsFault file.Memory → new ≡ old)
+    → ((f : _) → IsFault (file.Topo f) → new ≡ old) → (IsFault file.NoObject → new ≡ old) → ((n : _) → IsFault (file.ManyPositions n) → new ≡ old) → (IsFault file.Memory → new ≡ old)
     → (e : FileFault) → IsFault e → file_status_of e < 3 → new ≡ old
-file_keeps IsFault old new at_read at_json at_topo at_object at_memory (file.Write sent) h lt = absurd (omega arith)
-file_keeps IsFault old new at_read at_json at_topo at_object at_memory (file.Read fault) h lt = at_read fault h
-file_keeps IsFault old new at_read at_json at_topo at_object at_memory (file.Json fault) h lt = at_json fault h
-file_keeps IsFault old new at_read at_json at_topo at_object at_memory (file.Topo fault) h lt = at_topo fault h
-file_keeps IsFault old new at_read at_json at_topo at_object at_memory file.NoObject h lt = at_object h
-file_keeps IsFault old new at_read at_json at_topo at_object at_memory file.Memory h lt = at_memory h
+file_keeps IsFault old new at_read at_json at_topo at_object at_many at_memory (file.Write sent) h lt = absurd (omega arith)
+file_keeps IsFault old new at_read at_json at_topo at_object at_many at_memory (file.Read fault) h lt = at_read fault h
+file_keeps IsFault old new at_read at_json at_topo at_object at_many at_memory (file.Json fault) h lt = at_json fault h
+file_keeps IsFault old new at_read at_json at_topo at_object at_many at_memory (file.Topo fault) h lt = at_topo fault h
+file_keeps IsFault old new at_read at_json at_topo at_object at_many at_memory file.NoObject h lt = at_object h
+file_keeps IsFault old new at_read at_json at_topo at_object at_many at_memory (file.ManyPositions n) h lt = at_many n h
+file_keeps IsFault old new at_read at_json at_topo at_object at_many at_memory file.Memory h lt = at_memory h
 
 topology_keeps : (c : FileUse) (request : Request) (old new : Drained) (e : FileFault) → RefusesTopology c request old new e → file_status_of e < 3 → new ≡ old
 topology_keeps c (Build layers exact grid area keep ring_area no_crossings keep_shapes) old new e h lt = absurd h
 topology_keeps c (Simplify area keep ring_area no_crossings keep_shapes path) old new e h lt =
     elim h.4 [
       | inl k ↦ k.0
-      | inr k ↦ file_keeps (λ f. IsSimplifyFault (guards_of no_crossings keep_shapes) h.0 h.1 k.source_old k.source_new old new f) old new (λ f x. x.0) (λ f x. x.0) (λ f x. x.0) (λ x. x.0) (λ x. x.0) e k.fault lt
+      | inr k ↦ file_keeps (λ f. IsSimplifyFault (guards_of no_crossings keep_shapes) h.0 h.1 k.source_old k.source_new old new f) old new (λ f x. x.0) (λ f x. x.0) (λ f x. x.0) (λ x. x.0) (λ n x. x.0) (λ x. x.0) e k.fault lt
     ]
-topology_keeps c (Geo name path) old new e (inl h) lt = h.0
-topology_keeps c (Geo name path) old new e (inr h) lt =
-    file_keeps (λ f. IsGeoFault name.now h.source_old h.source_new old new f) old new (λ f x. x.0) (λ f x. x.0) (λ f x. x.0) (λ x. x.0) (λ x. x.0) e h.fault lt
+topology_keeps c (Geo name most path) old new e (inl h) lt = h.0
+topology_keeps c (Geo name most path) old new e (inr h) lt =
+    file_keeps (λ f. IsGeoFaultWithin most name.now h.source_old h.source_new old new f) old new (λ f x. x.0) (λ f x. x.0) (λ f x. x.0) (λ x. x.0) (λ n x. x.0) (λ x. x.0) e h.fault lt
 topology_keeps c (Stat crossings path) old new e (inl h) lt = h.0
 topology_keeps c (Stat crossings path) old new e (inr h) lt =
-    file_keeps (λ f. IsSummaryFault crossings old new h.source_old h.source_new f) old new (λ f x. x.0) (λ f x. x.0) (λ f x. x.0) (λ x. x.0) (λ x. x.0) e h.fault lt
+    file_keeps (λ f. IsSummaryFault crossings old new h.source_old h.source_new f) old new (λ f x. x.0) (λ f x. x.0) (λ f x. x.0) (λ x. x.0) (λ n x. x.0) (λ x. x.0) e h.fault lt
 
 keeps : (c : FileUse) (request : Request) (old new : Drained) (ending : Ending) → IsRefused c request old new ending → ending_status ending < 3 → new ≡ old
 keeps c request old new (Refused e) h lt = build_keeps c request old new e h lt
@@ -82,8 +83,8 @@ sound c (Build layers exact grid area keep ring_area no_crossings keep_shapes) o
 sound c (Build layers exact grid area keep ring_area no_crossings keep_shapes) old new None h = absurd h
 sound c (Simplify area keep ring_area no_crossings keep_shapes path) old new (Some report) h = (h.4.simplified.sound, h.4.simplified.flushed)
 sound c (Simplify area keep ring_area no_crossings keep_shapes path) old new None h = absurd h
-sound c (Geo name path) old new (Some report) h = absurd h
-sound c (Geo name path) old new None h = (h.decoded.written.sound, h.decoded.flushed)
+sound c (Geo name most path) old new (Some report) h = absurd h
+sound c (Geo name most path) old new None h = (h.decoded.written.sound, h.decoded.flushed)
 sound c (Stat crossings path) old new (Some report) h = absurd h
 sound c (Stat crossings path) old new None h = (h.sent.1, h.sent.2)
 

@@ -65,8 +65,8 @@ answered files (Build layers exact grid area keep ring_area no_crossings keep_sh
 answered files (Build layers exact grid area keep ring_area no_crossings keep_shapes) old new None h = absurd h
 answered files (Simplify area keep ring_area no_crossings keep_shapes path) old new (Some report) h = read_one files h.4.source_new h.4.once
 answered files (Simplify area keep ring_area no_crossings keep_shapes path) old new None h = absurd h
-answered files (Geo name path) old new (Some report) h = absurd h
-answered files (Geo name path) old new None h = read_one files h.source_new h.once
+answered files (Geo name most path) old new (Some report) h = absurd h
+answered files (Geo name most path) old new None h = read_one files h.source_new h.once
 answered files (Stat crossings path) old new (Some report) h = absurd h
 answered files (Stat crossings path) old new None h = read_one files h.source_new h.once
 
@@ -89,7 +89,7 @@ file_refused files path old new Fails e (inr h) = read_one files h.source_new h.
 topology_refused : (files : FileUse) (request : Request) (old new : Drained) (e : FileFault) → RefusesTopology files request old new e → Stays files
 topology_refused files (Build layers exact grid area keep ring_area no_crossings keep_shapes) old new e h = absurd h
 topology_refused files (Simplify area keep ring_area no_crossings keep_shapes path) old new e h = file_refused files path.now old new _ e h.4
-topology_refused files (Geo name path) old new e h = file_refused files path.now old new _ e h
+topology_refused files (Geo name most path) old new e h = file_refused files path.now old new _ e h
 topology_refused files (Stat crossings path) old new e h = file_refused files path.now old new _ e h
 
 memory_refused : (files : FileUse) (request : Request) (old new : Drained) → IsRefused files request old new Memory → Stays files

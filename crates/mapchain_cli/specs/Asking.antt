@@ -17,7 +17,7 @@ use Rattle.reports.specs.declared.report.Report.{Report}
 use Rattle.inputs.specs.Sources.{Sources}
 use Rattle.mapchain_engine.specs.Building.{CallsForLayers}
 use Rattle.mapchain_engine.specs.declared.options.Options.{Options}
-use Rattle.mapchain_engine.specs.Geo.{IsGeoFault}
+use Rattle.mapchain_engine.specs.Geo.{IsGeoFaultWithin}
 use Rattle.mapchain_engine.specs.Simplified.{CallsForTopology, IsSimplifyFault}
 use Rattle.mapchain_cli.specs.declared.ending.Ending.{Ending}
 use Rattle.mapchain_cli.specs.declared.ending.Ending.TheVariants.{BadArea, BadRingArea, BadShare, Refused, FileRefused, Memory}
@@ -56,7 +56,7 @@ IsAnswered files (Build layers exact grid area keep ring_area no_crossings keep_
 IsAnswered files (Simplify area keep ring_area no_crossings keep_shapes path) old new (Some report) =
     (level : Level) × (limit : ℕ) × IsLevelOf area.now keep level × (threshold_of ring_area.now ≡ Some limit)
     × SimplifiesOf files (guards_of no_crossings keep_shapes) level limit path.now old new report
-IsAnswered files (Geo name path) old new None = DecodesOf files name.now path.now old new
+IsAnswered files (Geo name most path) old new None = DecodesOf files name.now most path.now old new
 IsAnswered files (Stat crossings path) old new None = Summarises files crossings path.now old new
 IsAnswered files request old new report = ⊥
 
@@ -94,7 +94,7 @@ abbrev pub RefusesTopology : FileUse → Request → Drained → Drained → Fil
 RefusesTopology files (Simplify area keep ring_area no_crossings keep_shapes path) old new e =
     (level : Level) × (limit : ℕ) × IsLevelOf area.now keep level × (threshold_of ring_area.now ≡ Some limit)
     × RefusesFile files path.now old new (λ s u. IsSimplifyFault (guards_of no_crossings keep_shapes) level limit s u old new) e
-RefusesTopology files (Geo name path) old new e = RefusesFile files path.now old new (λ s u. IsGeoFault name.now s u old new) e
+RefusesTopology files (Geo name most path) old new e = RefusesFile files path.now old new (λ s u. IsGeoFaultWithin most name.now s u old new) e
 RefusesTopology files (Stat crossings path) old new e = RefusesFile files path.now old new (IsSummaryFault crossings old new) e
 RefusesTopology files request old new e = ⊥
 

@@ -1,5 +1,5 @@
 -- What is written where a request is done, and why one isn't: of which files, in the words of the crates that read them.
-use Rattle.std.specs.Prelude.{◌≡◌, ◌⊎◌, ℕ, Bool, true, List, length, map, None, Some, slice_get}
+use Rattle.std.specs.Prelude.{◌≡◌, ◌⊎◌, ℕ, Bool, true, List, length, map, Option, None, Some, slice_get}
 use Rattle.byte_ends.specs.Ends.{Fed, Drained, Takes}
 use Rattle.byte_ends.specs.Writes.{WritesPrefix}
 use Rattle.byte_ends.specs.declared.source.ReadFault.TheVariants as read
@@ -17,7 +17,7 @@ use Rattle.reports.specs.Summaries.{summary_text}
 use Rattle.mapchain_engine.specs.Building.{IsBuilt, IsLateFault}
 use Rattle.mapchain_engine.specs.declared.options.Options.{Options}
 use Rattle.mapchain_engine.specs.Files.{FailsToGive, IsReported}
-use Rattle.mapchain_engine.specs.Geo.{IsDecoded}
+use Rattle.mapchain_engine.specs.Geo.{IsDecodedWithin}
 use Rattle.mapchain_engine.specs.Simplified.{IsSimplified}
 use Rattle.mapchain_cli.specs.Files.{AreOpened, FileUse, IsOpened, Layers, ReadsAll, ReadsOne, RefusedAfter}
 
@@ -40,14 +40,14 @@ pub record SimplifiesOf (files : FileUse) (guards : Guards) (level : Level) (rin
   pub once : ReadsOne source_new files
   pub simplified : IsSimplified guards level ring_limit source_old source_new old new report
 
--- the text of the features of an object of this name was written, of the topology of the file of this path
-pub record DecodesOf (files : FileUse) (name path : List ℕ) (old new : Drained) : Type 0 where
+-- the text of the features of an object of this name was written, which have no more positions than this, of the topology of the file of this path
+pub record DecodesOf (files : FileUse) (name : List ℕ) (most : Option ℕ) (path : List ℕ) (old new : Drained) : Type 0 where
   pub source_old : Fed
   pub source_new : Fed
   pub opened : IsOpened files.before.contents path source_old
   pub once : ReadsOne source_new files
   pub sent : ℕ
-  pub decoded : IsDecoded name source_old source_new old new sent
+  pub decoded : IsDecodedWithin most name source_old source_new old new sent
 
 -- all of the text of this summary was taken and flushed
 abbrev pub SendsSummary : Drained → Drained → Summary → Type 0

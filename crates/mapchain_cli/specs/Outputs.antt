@@ -18,7 +18,7 @@ use Rattle.mapchain_cli.specs.declared.ending.Ending.TheVariants.{Refused, FileR
 abbrev pub is_build : Request → Bool
 is_build (Build layers exact grid area keep ring_area no_crossings keep_shapes) = true
 is_build (Simplify area keep ring_area no_crossings keep_shapes path) = false
-is_build (Geo name path) = false
+is_build (Geo name most path) = false
 is_build (Stat crossings path) = false
 
 -- how a run ends whose output couldn't be begun or kept, once it had taken so many bytes: as where its device fails

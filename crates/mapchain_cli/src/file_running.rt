@@ -6,7 +6,7 @@ ghost use Rattle.inputs.specs.declared.file_fault.FileFault.TheVariants as file;
 ghost use Rattle.layer_topology.specs.Guarded.{is_simplifying_level};
 ghost use Rattle.reports.specs.Summaries as spec;
 ghost use Rattle.mapchain_engine.specs.Files.{FailsToGive, IsReported};
-ghost use Rattle.mapchain_engine.specs.Geo.{IsGeoFault, SendsText};
+ghost use Rattle.mapchain_engine.specs.Geo.{IsGeoFaultWithin, SendsText};
 ghost use Rattle.byte_ends.specs.Ends.{Fed};
 ghost use Rattle.mapchain_engine.specs.Simplified.{CallsForTopology, IsSimplifyFault};
 ghost use Rattle.mapchain_cli.specs.Endings.{DecodesOf, IsSummaryFault, RefusesFile, SimplifiesOf, Summarises};
@@ -41,16 +41,17 @@ pub(crate) fn decode_object<F: Files, V: Drain>(
     alloc: Global,
     observed: &mut Observed,
     name: &str,
+    most: Option<u64>,
     path: &str,
     files: &mut F,
     out: &mut Sink<V>,
 ) -> Result<(), FileFault>
-    ensures decoded { IfOk result (λ _. DecodesOf (used (F.state files.old) (F.state files.new)) name.now path.now out.old out.new) }
+    ensures decoded { IfOk result (λ _. DecodesOf (used (F.state files.old) (F.state files.new)) name.now most path.now out.old out.new) }
     ensures refused { IfErr result (λ e. RefusesFile (used (F.state files.old) (F.state files.new)) path.now out.old out.new
-        (λ s u. IsGeoFault name.now s u out.old out.new) e) }
+        (λ s u. IsGeoFaultWithin most name.now s u out.old out.new) e) }
 {
     let mut source = open_file(path, files)?;
-    let decoded = to_geo_watched(alloc, &mut source, name, out, observed);
+    let decoded = to_geo_watched(alloc, &mut source, name, most, out, observed);
     files.done_with(&source);
     decoded?;
     Ok(())

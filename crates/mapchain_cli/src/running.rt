@@ -157,8 +157,8 @@ pub(crate) fn answer<F: Files, V: Drain>(
             )?;
             Ok(Some(report))
         }
-        Request::Geo { name, path } => {
-            decode_object(alloc, observed, name, path, files, out)?;
+        Request::Geo { name, most, path } => {
+            decode_object(alloc, observed, name, *most, path, files, out)?;
             Ok(None)
         }
         Request::Stat { crossings, path } => {

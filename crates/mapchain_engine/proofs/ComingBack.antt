@@ -1,5 +1,5 @@
 -- What was built comes back.
-use Rattle.std.proofs.Common.{◌≡◌, ◌≤◌, false, [], ◌∷◌, ap, inr, length, subst, sym, Some, Result, Ok}
+use Rattle.std.proofs.Common.{◌≡◌, ◌≤◌, false, [], ◌∷◌, ap, inr, length, subst, sym, None, Some, Result, Ok}
 use Rattle.std.specs.Prelude.{IsUtf8}
 use Rattle.std.specs.List.{AllByRecursion}
 use Rattle.byte_ends.specs.Ends.{Fed, Drained}
@@ -19,7 +19,7 @@ use Rattle.topojson_types.specs.Decoding.{decoded}
 use Rattle.topojson_types.specs.Topologies.{Contents}
 use Rattle.mapchain_engine.specs.Building.{expected_for, written_for, IsBuilt}
 use Rattle.mapchain_engine.specs.declared.options.Options.{Options}
-use Rattle.mapchain_engine.specs.FileOutcomes.{FileHasOutcome, object_text, text_if_any, of_topology, summarised}
+use Rattle.mapchain_engine.specs.FileOutcomes.{FileHasOutcome, object_text, text_within, of_topology, summarised}
 use Rattle.json_value.specs.Limits.{topology_depth}
 use Rattle.mapchain_engine.specs.Geo.{features_text}
 use Rattle.mapchain_engine.specs.SimplifyOutcomes.{simplified}
@@ -40,7 +40,7 @@ module _ (o : Options) (olds news : Sources) (sink_old sink_new : Drained) (repo
   each : (ls : Named) → AllByRecursion (λ l. decoded is.builds.topology.contents l.0 ≡ Some (Many l.1.features)) ls
       → AllByRecursion (λ l. FileHasOutcome (object_text l.0) from.bytes (Ok (features_text (Many l.1.features)))) ls
   each [] h = tt
-  each (l ∷ ls) h = (subst (FileHasOutcome (object_text l.0) from.bytes) (ap text_if_any h.0) (comes (object_text l.0)), each ls h.1)
+  each (l ∷ ls) h = (subst (FileHasOutcome (object_text l.0) from.bytes) (ap (text_within None) h.0) (comes (object_text l.0)), each ls h.1)
 
   all_come : is_at_once o.guards ≡ false → AllByRecursion (λ l. FileHasOutcome (object_text l.0) from.bytes (Ok (features_text (Many l.1.features)))) (expected_for o is.layers)
   all_come plain = each (expected_for o is.layers) (is.builds.topology.features plain)

@@ -1,5 +1,5 @@
 -- The bytes of a file have one outcome, and what `stat` and `to_geo` say of their answers makes these follow that outcome.
-use Rattle.std.proofs.Common.{◌≡◌, ◌⊎◌, ℕ, ◌<◌, List, length, ◌∙◌, ap, subst, refl, inl, inr, Some, Result, Ok, Err}
+use Rattle.std.proofs.Common.{◌≡◌, ◌⊎◌, ℕ, ◌<◌, List, length, ◌∙◌, ap, subst, refl, inl, inr, Option, None, Some, Result, Ok, Err}
 use Rattle.std.specs.Prelude.{IfSome}
 use Rattle.byte_ends.specs.Ends.{Fed, Drained}
 use Rattle.byte_ends.specs.Writes.{WritesAll}
@@ -11,12 +11,12 @@ use Rattle.geojson_types.specs.declared.counts.Counts.{Counts}
 use Rattle.geojson_types.specs.declared.layer.FeatureSet.{FeatureSet}
 use Rattle.topojson_types.specs.Topologies.{Contents}
 use Rattle.inputs.specs.declared.file_fault.FileFault.{FileFault}
-use Rattle.inputs.specs.declared.file_fault.FileFault.TheVariants.{Read, Json, Topo, NoObject, Write, Memory}
+use Rattle.inputs.specs.declared.file_fault.FileFault.TheVariants.{Read, Json, Topo, NoObject, ManyPositions, Write, Memory}
 use Rattle.reports.specs.declared.summary.Summary.{Summary}
-use Rattle.mapchain_engine.specs.FileOutcomes.{text_if_any, object_text, of_topology, of_file, FileHasOutcome, plain_file_outcome, IsOutsideGiven, IsOutsideFile, FollowsSummary, FollowsText}
+use Rattle.mapchain_engine.specs.FileOutcomes.{text_within, object_text_within, unless_many, of_topology, of_file, FileHasOutcome, plain_file_outcome, IsOutsideGiven, IsOutsideFile, FollowsSummary, FollowsText}
 use Rattle.json_value.specs.Limits.{topology_depth}
 use Rattle.mapchain_engine.specs.Files.{IsTopologyRead, FailsToGive}
-use Rattle.mapchain_engine.specs.Geo.{features_text, FailsToDecode, GivesFeatures, SendsText}
+use Rattle.mapchain_engine.specs.Geo.{excess_of, features_text, FailsToDecode, GivesFeatures, SendsWithin}
 use Rattle.inputs.specs.Texts.{max_input}
 use Rattle.inputs.proofs.BytesDecided.{plain_text, one_outcome, text_comes}
 
@@ -47,6 +47,7 @@ fails_come asked old new b (Json fault) e f = inr (text_comes topology_depth (Re
 fails_come asked old new b (Topo fault) e f =
     inr (subst (FileHasOutcome asked b) (ap (of_topology asked) f.2.4) (text_comes topology_depth (Read read.TooLong) (of_file asked) old new b f.0 (Ok f.2.2) e f.1 (f.2.1, f.2.3)))
 fails_come asked old new b NoObject e f = absurd f.2
+fails_come asked old new b (ManyPositions count) e f = absurd f.2
 fails_come asked old new b (Write sent) e f = absurd f.2
 
 -- ---- the summary follows
@@ -105,31 +106,40 @@ module _ (sink_old sink_new : Drained) where
   text_cut (Ok r) t sent h = tt
   text_cut (Err f) t sent h = absurd cc
 
-  module _ (name : List ℕ) (old new : Fed) (b : List ℕ) (left : old.left ≡ Some b) (outcome : Result (List ℕ) FileFault) (comes : FileHasOutcome (object_text name) b outcome) where
+  module _ (most : Option ℕ) (name : List ℕ) (old new : Fed) (b : List ℕ) (left : old.left ≡ Some b) (outcome : Result (List ℕ) FileFault)
+      (comes : FileHasOutcome (object_text_within most name) b outcome) where
     failed : (e : FileFault) → FailsToGive old new e → FollowsText sink_old sink_new outcome (Err e)
-    failed e fails = on (fails_come (object_text name) old new b e left fails)
+    failed e fails = on (fails_come (object_text_within most name) old new b e left fails)
       where
-        on : IsOutsideGiven e ⊎ FileHasOutcome (object_text name) b (Err e) → FollowsText sink_old sink_new outcome (Err e)
+        on : IsOutsideGiven e ⊎ FileHasOutcome (object_text_within most name) b (Err e) → FollowsText sink_old sink_new outcome (Err e)
         on (inl out) = text_outside outcome e out
-        on (inr all) = text_fault outcome e (one_file (object_text name) b (Err e) outcome all comes)
+        on (inr all) = text_fault outcome e (one_file (object_text_within most name) b (Err e) outcome all comes)
 
     -- the topology that was read decides
-    read_decides : (t : Contents) (counts : Counts) (r : Result (List ℕ) FileFault) → IsTopologyRead old new t counts → object_text name t counts ≡ r → plain_file_outcome r ≡ plain_file_outcome outcome
+    read_decides : (t : Contents) (counts : Counts) (r : Result (List ℕ) FileFault) → IsTopologyRead old new t counts → object_text_within most name t counts ≡ r → plain_file_outcome r ≡ plain_file_outcome outcome
     read_decides t counts r is e =
-        one_file (object_text name) b r outcome (subst (FileHasOutcome (object_text name) b) e (topology_comes (object_text name) old new b t counts left is)) comes
+        one_file (object_text_within most name) b r outcome (subst (FileHasOutcome (object_text_within most name) b) e (topology_comes (object_text_within most name) old new b t counts left is)) comes
 
-    -- where no features are had, nothing is written
-    pub found_fails : (e : FileFault) → FailsToDecode name old new e → FollowsText sink_old sink_new outcome (Err e)
-    found_fails NoObject is = text_fault outcome NoObject (read_decides is.contents is.counts (Err NoObject) is.read (ap text_if_any is.absent))
+    read_text : (features : FeatureSet) (is : GivesFeatures name old new features) (over : Option ℕ) → excess_of most features ≡ over
+        → object_text_within most name is.contents is.counts ≡ unless_many over (features_text features)
+    read_text features is over e = ap (text_within most) is.found ∙ ap (λ (o : Option ℕ). unless_many o (features_text features)) e
+
+    -- where no features are had, or they have too many positions, nothing is written
+    pub found_fails : (e : FileFault) → FailsToDecode most name old new e → FollowsText sink_old sink_new outcome (Err e)
+    found_fails NoObject is = text_fault outcome NoObject (read_decides is.contents is.counts (Err NoObject) is.read (ap (text_within most) is.absent))
+    found_fails (ManyPositions count) is =
+        text_fault outcome (ManyPositions count) (read_decides is.given.contents is.given.counts (Err (ManyPositions count)) is.given.read (read_text is.features is.given (Some count) is.over))
     found_fails (Write sent) is = failed (Write sent) is
     found_fails Memory is = failed Memory is
     found_fails (Read r) is = failed (Read r) is
     found_fails (Json r) is = failed (Json r) is
     found_fails (Topo r) is = failed (Topo r) is
 
-    -- the text of the features that are had is written, or a prefix of it
-    pub sent_decides : (features : FeatureSet) → GivesFeatures name old new features → (r : Result ℕ FileFault) → SendsText sink_old sink_new (features_text features) r
+    -- the text of the features that are had is written, or a prefix of it, or they have too many positions
+    pub sent_decides : (features : FeatureSet) → GivesFeatures name old new features → (r : Result ℕ FileFault) → SendsWithin most sink_old sink_new features r
         → FollowsText sink_old sink_new outcome r
-    sent_decides features is (Ok sent) w = text_written outcome (features_text features) sent (read_decides is.contents is.counts (Ok (features_text features)) is.read (ap text_if_any is.found)) w.0
-    sent_decides features is (Err (Write sent)) w = text_cut outcome (features_text features) sent (read_decides is.contents is.counts (Ok (features_text features)) is.read (ap text_if_any is.found))
-    sent_decides features is (Err e) w = absurd w
+    sent_decides features is (Ok sent) w = text_written outcome (features_text features) sent (read_decides is.contents is.counts (Ok (features_text features)) is.read (read_text features is None w.1)) w.0.0
+    sent_decides features is (Err (Write sent)) w = text_cut outcome (features_text features) sent (read_decides is.contents is.counts (Ok (features_text features)) is.read (read_text features is None w.1))
+    sent_decides features is (Err (ManyPositions count)) w =
+        text_fault outcome (ManyPositions count) (read_decides is.contents is.counts (Err (ManyPositions count)) is.read (read_text features is (Some count) w.1))
+    sent_decides features is (Err e) w = absurd w.0

@@ -2,7 +2,7 @@
 use Rattle.std.proofs.Common.{◌≡◌, ◌⊎◌, ℕ, List, length, ◌∙◌, ap, subst, inl, inr, Some, Result, Ok, Err}
 use Rattle.byte_ends.specs.Ends.{Fed, Drained, Takes}
 use Rattle.inputs.specs.declared.file_fault.FileFault.{FileFault}
-use Rattle.inputs.specs.declared.file_fault.FileFault.TheVariants.{Read, Json, Topo, NoObject, Write, Memory}
+use Rattle.inputs.specs.declared.file_fault.FileFault.TheVariants.{Read, Json, Topo, NoObject, ManyPositions, Write, Memory}
 use Rattle.reports.specs.declared.report.Report.{Report}
 use Rattle.layer_topology.specs.declared.guards.Guards.{Guards}
 use Rattle.layer_topology.specs.declared.level.Level.{Level}
@@ -54,6 +54,7 @@ module _ (sink_old sink_new : Drained) where
         follows_cut outcome (simplified_contents_text guards level limit is.contents, report_of guards level limit is.contents is.counts) sent
         (one_file (simplified guards level limit) b (simplified guards level limit is.contents is.counts) outcome (topology_comes (simplified guards level limit) old new b is.contents is.counts left is.read) comes)
     fault_follows NoObject is = failed NoObject is.1
+    fault_follows (ManyPositions count) is = failed (ManyPositions count) is.1
     fault_follows Memory is = failed Memory is.1
     fault_follows (Read r) is = failed (Read r) is.1
     fault_follows (Json r) is = failed (Json r) is.1

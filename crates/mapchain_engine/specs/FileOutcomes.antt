@@ -12,10 +12,10 @@ use Rattle.topojson_types.specs.Topologies.{Contents}
 use Rattle.topojson_meaning.specs.declared.fault.TopoFault.{TopoFault}
 use Rattle.topojson_meaning.specs.Topologies.{topology}
 use Rattle.inputs.specs.declared.file_fault.FileFault.{FileFault}
-use Rattle.inputs.specs.declared.file_fault.FileFault.TheVariants.{Read, Json, Topo, NoObject, Write, Memory}
+use Rattle.inputs.specs.declared.file_fault.FileFault.TheVariants.{Read, Json, Topo, NoObject, ManyPositions, Write, Memory}
 use Rattle.reports.specs.declared.summary.Summary.{Summary}
 use Rattle.json_value.specs.Limits.{topology_depth}
-use Rattle.mapchain_engine.specs.Geo.{features_text}
+use Rattle.mapchain_engine.specs.Geo.{excess_of, features_text}
 use Rattle.inputs.specs.Texts.{BytesHaveOutcome, plain_text_fault}
 use Rattle.reports.specs.Summaries.{summary_of, with_crossings}
 use Rattle.build_meaning.specs.Guarded.{crossings_of}
@@ -30,13 +30,23 @@ summarised t counts = Ok (summary_of t)
 abbrev pub summarised_with_crossings : Contents → Counts → Result Summary FileFault
 summarised_with_crossings t counts = Ok (with_crossings (crossings_of t) (summary_of t))
 
-abbrev pub text_if_any : Option FeatureSet → Result (List ℕ) FileFault
-text_if_any None = Err NoObject
-text_if_any (Some features) = Ok (features_text features)
+-- a text, unless it would have so many positions too many
+abbrev pub unless_many : Option ℕ → List ℕ → Result (List ℕ) FileFault
+unless_many None text = Ok text
+unless_many (Some count) text = Err (ManyPositions count)
 
--- the text of the features of its object of this name
+-- the text of features with as many positions as may be written
+abbrev pub text_within : Option ℕ → Option FeatureSet → Result (List ℕ) FileFault
+text_within most None = Err NoObject
+text_within most (Some features) = unless_many (excess_of most features) (features_text features)
+
+-- that of the features of its object of this name
+abbrev pub object_text_within : Option ℕ → List ℕ → Contents → Counts → Result (List ℕ) FileFault
+object_text_within most name t counts = text_within most (decoded t name)
+
+-- however many positions they have
 abbrev pub object_text : List ℕ → Contents → Counts → Result (List ℕ) FileFault
-object_text name t counts = text_if_any (decoded t name)
+object_text name = object_text_within None name
 
 -- ---- the outcome of bytes, where that is asked
 
@@ -60,6 +70,7 @@ plain_file_fault (Json fault) = Json (plain_text_fault fault)
 plain_file_fault (Read fault) = Read fault
 plain_file_fault (Topo fault) = Topo fault
 plain_file_fault NoObject = NoObject
+plain_file_fault (ManyPositions count) = ManyPositions count
 plain_file_fault (Write sent) = Write sent
 plain_file_fault Memory = Memory
 

@@ -14,7 +14,7 @@ use Rattle.topojson_decoder.specs.declared.keeping.Keeping.{Keeping}
 use Rattle.topojson_decoder.specs.declared.texts.SpelledTopology.{SpelledTopology}
 use Rattle.topojson_decoder.specs.declared.topologies.Parts.{Parts}
 use Rattle.inputs.specs.declared.file_fault.FileFault.{FileFault}
-use Rattle.inputs.specs.declared.file_fault.FileFault.TheVariants.{Read, Json, Topo, NoObject, Write, Memory}
+use Rattle.inputs.specs.declared.file_fault.FileFault.TheVariants.{Read, Json, Topo, NoObject, ManyPositions, Write, Memory}
 use Rattle.inputs.specs.Texts.{IsNoText, IsRead, IsUntroubled, FailsToEnd}
 use Rattle.reports.specs.declared.summary.Summary.{Summary}
 use Rattle.reports.specs.Summaries.{summary_of, with_crossings}
@@ -35,6 +35,7 @@ IsNoTopology bytes (Topo fault) = (fault ≢ topo.Memory) × IsUtf8 bytes × (v 
 IsNoTopology bytes Memory = Unit {0}
 IsNoTopology bytes (Read fault) = ⊥
 IsNoTopology bytes NoObject = ⊥
+IsNoTopology bytes (ManyPositions count) = ⊥
 IsNoTopology bytes (Write sent) = ⊥
 
 -- the answer for the bytes

@@ -1,3 +1,4 @@
+pub mod Decoded
 mod Examples
 pub mod Hollow
 pub mod Lines

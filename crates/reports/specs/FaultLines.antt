@@ -66,5 +66,6 @@ file_fault_text (file.Read fault) = file_text (read_text fault)
 file_fault_text (file.Json fault) = file_text (json_text fault)
 file_fault_text (file.Topo fault) = file_text (topo_text fault)
 file_fault_text file.NoObject = codes "error: E4 NoObject\n"
+file_fault_text (file.ManyPositions count) = codes "error: E7 ManyPositions\n"
 file_fault_text (file.Write sent) = (codes "error: E5 Write sent " ++ decimal sent) ++ codes "\n"
 file_fault_text file.Memory = codes "error: E6 Memory\n"

@@ -72,6 +72,7 @@ of_file (file.Read fault) = of_read fault
 of_file (file.Json fault) = of_json fault
 of_file (file.Topo fault) = plain (topo.code fault) (topo.name fault)
 of_file file.NoObject = plain (codes "E4") (codes "NoObject")
+of_file (file.ManyPositions count) = plain (codes "E7") (codes "ManyPositions")
 of_file (file.Write sent) = record (plain (codes "E5") (codes "Write")) { sent = Some sent }
 of_file file.Memory = plain (codes "E6") (codes "Memory")
 

@@ -3,6 +3,7 @@ pub mod Faults
 pub mod Lines
 pub mod Losses
 pub mod LossLaws
+pub mod Positions
 pub mod Reports
 pub mod RunReports
 pub mod Statuses

@@ -41,5 +41,6 @@ file_status_of (file.Read fault) = read_status_of fault
 file_status_of (file.Json fault) = input_refused
 file_status_of (file.Topo fault) = input_refused
 file_status_of file.NoObject = input_refused
+file_status_of (file.ManyPositions count) = input_refused
 file_status_of (file.Write sent) = failed
 file_status_of file.Memory = failed

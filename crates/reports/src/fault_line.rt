@@ -155,6 +155,7 @@ fn put_file_fault<O: Out>(fault: &FileFault, out: &mut O)
             out.put(b"\n");
         }
         FileFault::NoObject => out.put(b"error: E4 NoObject\n"),
+        FileFault::ManyPositions { .. } => out.put(b"error: E7 ManyPositions\n"),
         FileFault::Write { sent } => put_sent(b"error: E5 Write sent ", *sent, out),
         FileFault::Memory => out.put(b"error: E6 Memory\n"),
     }

@@ -121,6 +121,7 @@ fn of_file(fault: &FileFault) -> FaultMembers<'static>
         FileFault::Json(fault) => of_json(fault),
         FileFault::Topo(fault) => plain(fault.code(), fault.name()),
         FileFault::NoObject => plain("E4", "NoObject"),
+        FileFault::ManyPositions { .. } => plain("E7", "ManyPositions"),
         FileFault::Write { sent } => FaultMembers {
             sent: Some(*sent),
             ..plain("E5", "Write")

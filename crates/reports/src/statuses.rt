@@ -30,14 +30,15 @@ pub fn status(fault: &BuildFault) -> u8
     }
 }
 
-/// The exit status after the file of a topology was used and it ended so: 1 for a file that is refused or has no object of the name,
-/// and 3 where reading, writing or memory failed.
+/// The exit status after the file of a topology was used and it ended so: 1 for a file that is refused, has no object of the name or
+/// stands for too many positions, and 3 where reading, writing or memory failed.
 pub fn file_status(fault: &FileFault) -> u8
     ensures { result ≡ file_status_of fault.now }
 {
     match fault {
         FileFault::Read(fault) => read_status(*fault),
-        FileFault::Json(_) | FileFault::Topo(_) | FileFault::NoObject => INPUT_REFUSED,
+        FileFault::Json(_) | FileFault::Topo(_) => INPUT_REFUSED,
+        FileFault::NoObject | FileFault::ManyPositions { .. } => INPUT_REFUSED,
         FileFault::Write { .. } | FileFault::Memory => FAILED,
     }
 }

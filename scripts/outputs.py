@@ -9,10 +9,12 @@ at its end how much was tried. The status is 0 where all went well, and where as
 It takes some ten seconds, and a few MB of disk.
 """
 import contextlib
-import json
+import fcntl
+import functools
 import os
 import re
 import resource
+import shutil
 import signal
 import socket
 import stat
@@ -194,6 +196,57 @@ def try_old_files():
         try_done("a file with two names", ["build", "a=line"], "old", 0o644)
 
 
+def try_rights():
+    """Who owns the new file, and who may do what with it, is as it is just before it takes its name, or less."""
+    with new_folder():
+        os.mkfifo("pipe")
+        for kept, set_to in ((0o755, 0o4755), (0o2755, 0o2755), (0o2755, 0o6755)):
+            write("old", OLD, set_to)
+            try_done(f"a file that is run as others, {set_to:o}", ["build", "a=line"], "old", kept)
+        write("old", OLD, 0o664)
+        with started(["build", "-q", "a=pipe", "-o", "old"], "old.0.part") as run:
+            expect("the new file while a run writes", 0o600, what_is("old.0.part")[1])
+            os.chmod("old", 0o600)
+            expect("a run while which rights are taken away", (0, b"", b""), feed(run, LINE))
+        expect("rights that were taken away", 0o600, what_is("old")[1])
+        if IS_ROOT:
+            try_owners()
+        else:
+            print("only root can give files to others, so that isn't tried")
+
+
+def try_owners():
+    """Who owns the new file, where others may be asked to write it."""
+    os.chmod(".", 0o777)
+    shutil.copy(PROGRAM, "program")
+    for owner, group, mode, user, own, more, wanted in (
+        # root keeps all
+        (2000, 4000, 0o640, 0, 0, [], (2000, 4000, 0o640)),
+        (2000, 4000, 0o2660, 0, 0, [], (2000, 4000, 0o2660)),
+        # the owner keeps the group that it is a member of
+        (2000, 4000, 0o660, 2000, 3000, [4000], (2000, 4000, 0o660)),
+        (2000, 4000, 0o2770, 2000, 3000, [4000], (2000, 4000, 0o2770)),
+        # else the group may do nothing
+        (2000, 4000, 0o660, 2000, 3000, [], (2000, 3000, 0o600)),
+        (2000, 4000, 0o2675, 2000, 3000, [], (2000, 3000, 0o605)),
+        # and so where the owner can't be kept
+        (2000, 4000, 0o664, 2001, 4000, [], (2001, 4000, 0o604)),
+        (2000, 4000, 0o660, 2001, 3000, [4000], (2001, 4000, 0o600)),
+    ):
+        write("old", OLD)
+        os.chown("old", owner, group)
+        os.chmod("old", mode)
+        for option in "-o", "--report":
+            how = {"user": user, "group": own, "extra_groups": more, "umask": 0o022}
+            ended = subprocess.run(["./program", "build", "-q", option, "old", "a=line"], capture_output=True, timeout=120, **how)
+            expect(f"{option} over {owner}:{group} {mode:o} by {user}:{own}", (0, b""), (ended.returncode, ended.stderr))
+            found = os.lstat("old")
+            expect(f"what {option} over {owner}:{group} {mode:o} by {user}:{own} left", wanted, (found.st_uid, found.st_gid, stat.S_IMODE(found.st_mode)))
+            os.chown("old", owner, group)
+            os.chmod("old", mode)
+    os.unlink("program")
+
+
 def try_links():
     with new_folder():
         os.makedirs("below/deeper")
@@ -241,7 +294,7 @@ def try_what_is_no_file():
         with socket.socket(socket.AF_UNIX) as listening:
             listening.bind("socket")
         try_not_begun("a folder that isn't there", "missing/new")
-        for path in (".", "..", "below", "below/", "below/.", "socket", "line/", "line/new", "missing/", "", "x" * 255, "x" * 5000):
+        for path in (".", "..", "below", "below/", "below/.", "socket", "line/", "line/new", "missing/", "", "x" * 256, "x" * 5000):
             try_not_begun(f"{path[:20]!r} as output", path)
 
 
@@ -291,6 +344,10 @@ def try_standard_streams():
                 ("-o, behind other lines", '(echo head; "$0" "$@" -o /dev/stdout; echo "$?") > own 2> /dev/null', b"head\n" + output + b"0\n"),
                 ("-o, after what was there", '"$0" "$@" -o /dev/stdout >> own 2> /dev/null', OLD + output),
                 ("-o, by the descriptor", '"$0" "$@" -o /dev/fd/1 > own 2> /dev/null', output),
+                ("-o -", '"$0" "$@" -o - > own 2> /dev/null', output),
+                ("-o -, after what was there", '"$0" "$@" -o - >> own 2> /dev/null', OLD + output),
+                ("-o -, by a pipe", '"$0" "$@" -o - 2> /dev/null | cat > own', output),
+                ("-o - --report -", '"$0" "$@" -o - --report - > own 2> /dev/null', output + report),
                 ("--report", '"$0" "$@" --report /dev/stdout > own 2> /dev/null', output + report),
                 ("--report, standard error", '("$0" "$@" --report /dev/stderr; echo "$?" >&2) 2> own > /dev/null', error + report + b"0\n"),
             ):
@@ -309,7 +366,7 @@ def try_words():
             ("missing/new", "its folder is not there, or it is a link that leads nowhere"),
             ("line/new", "its folder is not there, or it is a link that leads nowhere"),
             ("below", "a folder, not a file"),
-            ("x" * 255, "no file can have this name, or that of the new one beside it"),
+            ("x" * 256, "no file can have this name"),
         ):
             said = write_fault("B6", 0) + f"  {path}: {words}\n".encode()
             try_run(f"{path[:20]} in words", ["build", "--explain", "a=line", "-o", path], (3, said))
@@ -425,49 +482,113 @@ def try_too_many_open():
 
 
 def try_parts_of_others():
+    """A new file that a run has left is taken away by the next; one of a run that goes on stays, and so does what has its name and is no file."""
     with new_folder():
         write("old", OLD, 0o640)
-        write("old.0.part", b"a part", 0o600)
-        try_done("one part of another run", ["build", "a=line"], "old", 0o640)
-        said = plain(["build", "--explain", "a=line"])[2] + (
-            b"  old.0.part is of another run: where none goes on, one was interrupted, and the file can be deleted\n"
-        )
-        output = plain(["build", "a=line"])[1]
-        try_run("one part of another run in words", ["build", "--explain", "a=line", "-o", "old"], (0, said), [("old", output, 0o640)])
-        os.mkdir("old.1.part")
-        os.symlink("nothing", "old.2.part")
-        os.symlink("line", "old.3.part")
-        os.mkfifo("old.4.part")
-        try_done("parts of every kind", ["build", "a=line"], "old", 0o640)
-        said = plain(["build", "--explain", "a=line"])[2] + (
-            b"  old.0.part to old.4.part are of other runs: where none goes on, they were interrupted, and the files can be deleted\n"
-        )
-        output = plain(["build", "a=line"])[1]
-        try_run("parts of others in words", ["build", "--explain", "a=line", "-o", "old"], (0, said), [("old", output, 0o640)])
-        try_run("parts of others, and a refused file", ["build", "a=no-json", "-o", "old"], plain(["build", "a=no-json"])[::2])
-        for number in range(1000):
-            if not os.path.lexists(f"old.{number}.part"):
-                write(f"old.{number}.part", b"")
-        try_run("1000 parts of other runs", ["build", "a=line", "-o", "old"], (3, write_fault("B6", 0)))
+        for mode in 0o600, 0o644:
+            write("old.0.part", b"a part", mode)
+            status, output, error = plain(["build", "a=line"])
+            ended = plain(["build", "a=line", "-o", "old"])
+            expect("over a part that was left", (status, b"", error), ended)
+            expect("the part that was left", (False, output), (os.path.lexists("old.0.part"), what_is("old")[2]))
+        os.mkdir("old.0.part")
+        os.symlink("nothing", "old.1.part")
+        os.symlink("line", "old.2.part")
+        os.mkfifo("old.3.part")
+        write("old.4.part", b"a part", 0o600)
+        with open("old.4.part", "rb") as part:
+            fcntl.flock(part, fcntl.LOCK_EX)
+            try_done("parts of every kind", ["build", "a=line"], "old", 0o640)
+            try_run("parts of others, and a refused file", ["build", "a=no-json", "-o", "old"], plain(["build", "a=no-json"])[::2])
+        os.unlink("old.4.part")
+        for number in range(4, 1000):
+            os.mkdir(f"old.{number}.part")
+        words = b"  old: a thousand files with the names of new ones stand beside it\n"
+        try_run("1000 names", ["build", "a=line", "--explain", "-o", "old"], (3, write_fault("B6", 0) + words))
 
 
-def try_parts_beside_reports():
-    """What `--explain` and `--report` say of new files of other runs beside the report, once where the output has the same name."""
+def try_long_names():
+    """A name that has no room for the ending of a new file's name; what a run has left there is taken away, too."""
+    with new_folder():
+        os.mkdir("below")
+        for length in (248, 249, 250, 255):
+            for folder in ("", "below/"):
+                path = f"{folder}{'n' * length}"
+                try_done(f"a new file with {length} letters", ["build", "a=line"], path, 0o644, umask=0o022)
+                write(path, OLD, 0o640)
+                try_done(f"a file with {length} letters", ["build", "a=line"], path, 0o640)
+        write("below/.mapchain.0.part", b"a part", 0o600)
+        ended = plain(["build", "a=line", "-q", "-o", f"below/{'n' * 255}"])
+        expect("a part that was left beside a long name", ((0, b"", b""), False), (ended, os.path.exists("below/.mapchain.0.part")))
+
+
+def try_reports_elsewhere():
+    """A report takes the place neither of the output nor of an input, by whichever names they go."""
     with new_folder():
         said = plain(["build", "--explain", "a=line"])[2]
-        output = plain(["build", "a=line"])[1]
-        words = " is of another run: where none goes on, one was interrupted, and the file can be deleted"
-        write("run.json.0.part", b"a part", 0o600)
-        ended = plain(["build", "--explain", "--report", "run.json", "a=line"])
-        expect("a part beside a report", (0, output, said + f"  run.json.0.part{words}\n".encode()), ended)
-        with open("run.json", encoding="utf-8") as file:
-            expect("a report beside a part", f"run.json.0.part{words}", json.load(file)["explanation"][-1])
-        write("old.0.part", b"a part", 0o600)
-        ended = plain(["build", "--explain", "-o", "old", "--report", "old", "a=line"])
-        refused = "error: F4 NoReport\n  old: it has taken the output of this run\n"
-        expect("a part beside both", (3, b"", said + f"  old.0.part{words}\n{refused}".encode()), ended)
-        with open("old", "rb") as file:
-            expect("an output where the report was to go, too", output, file.read())
+        output, line = plain(["build", "a=line"])[1], what_is("line")
+        no_report = "error: F4 NoReport\n  {}: {}\n"
+        is_output, is_input = "it has taken the output of this run", "an input of this run"
+        os.symlink("old", "link")
+        os.mkdir("below")
+        os.symlink("below", "folder")
+        whole = os.path.abspath("old")
+        for asked, report in (("old", "old"), ("old", "./old"), ("old", whole), ("link", "old"), ("old", "link"), ("below/old", "folder/old")):
+            write("old", OLD)
+            ended = plain(["build", "--explain", "-o", asked, "--report", report, "a=line"])
+            wanted = (3, b"", said + no_report.format(report, is_output).encode())
+            expect(f"a report to {report} of an output to {asked}", (wanted, output), (ended, what_is("below/old" if "/" in asked else "old")[2]))
+        os.symlink("line", "line-link")
+        os.link("line", "line-name")
+        for report in ("line", "./line", "line-link", "line-name", os.path.abspath("line")):
+            ended = plain(["build", "--explain", "--report", report, "a=line"])
+            expect(f"a report to {report}, an input", (3, output, said + no_report.format(report, is_input).encode()), ended)
+            expect(f"an input, where the report was to go to {report}", line, what_is("line"))
+            ended = plain(["build", "--report", report, "a=line", "b=no-json"])
+            expect(f"a report to {report}, an input of a refused run", (1, b"error: layer 1 J2 Malformed\nerror: F4 NoReport\n"), ended[::2])
+            expect(f"an input of a refused run, where the report was to go to {report}", line, what_is("line"))
+        os.unlink("line-name")
+        with open("own", "wb") as own:
+            ended = subprocess.run([PROGRAM, "build", "-q", "--report", "own", "a=line"], stdout=own, stderr=subprocess.PIPE, timeout=120)
+        expect("a report to the file of standard output", (3, b"error: F4 NoReport\n", output), (ended.returncode, ended.stderr, what_is("own")[2]))
+        try_deep_reports(output)
+        if can_mount():
+            os.mkdir("second")
+            subprocess.run(["mount", "--bind", "below", "second"], check=True)
+            for asked, report in (("below/f", "second/f"), ("second/f", "below/f")):
+                ended = plain(["build", "-q", "-o", asked, "--report", report, "a=line"])
+                expect(f"a report to {report} of an output to {asked}", (3, b"error: F4 NoReport\n", output), (*ended[::2], what_is("below/f")[2]))
+            write("below/line", LINE)
+            ended = plain(["build", "-q", "--report", "second/line", "a=below/line"])
+            expect("a report to an input by a second mount", (3, b"error: F4 NoReport\n", LINE), (*ended[::2], what_is("below/line")[2]))
+            subprocess.run(["umount", "second"], check=True)
+
+
+def try_deep_reports(output):
+    """The same in a folder whose path is longer than the system can say it."""
+    top = os.getcwd()
+    for _ in range(22):
+        os.mkdir("d" * 200)
+        os.chdir("d" * 200)
+    write("line", LINE)
+    ended = plain(["build", "-q", "-o", "same", "--report", "same", "a=line"])
+    expect("a report to the output in a deep folder", (3, b"error: F4 NoReport\n", output), (*ended[::2], what_is("same")[2]))
+    ended = plain(["build", "-q", "--report", "line", "a=line"])
+    expect("a report to an input in a deep folder", (3, b"error: F4 NoReport\n", LINE), (*ended[::2], what_is("line")[2]))
+    os.chdir(top)
+    subprocess.run(["rm", "-rf", "d" * 200], check=True)
+
+
+@functools.cache
+def can_mount():
+    """Whether a folder can be mounted a second time here, as only root can, and not everywhere."""
+    with tempfile.TemporaryDirectory() as folder:
+        mount = subprocess.run(["mount", "--bind", folder, folder], capture_output=True, check=False)
+        if mount.returncode == 0:
+            subprocess.run(["umount", folder], check=True)
+            return True
+    print("two mounts of one folder can't be had here, and aren't tried")
+    return False
 
 
 # ---- runs that are refused
@@ -530,11 +651,12 @@ def try_refused():
 # ---- outputs that fail on the way
 
 
-def room_for(size):
-    """Lets a process write no file beyond this size: the write that would do so fails, as it does on a full disk."""
+def room_for(size, handler=signal.SIG_DFL):
+    """Lets a process write no file beyond this size. The system ends a process that goes on, unless the signal is ignored: then the write fails,
+    as it does on a full disk."""
 
     def limit():
-        signal.signal(signal.SIGXFSZ, signal.SIG_IGN)
+        signal.signal(signal.SIGXFSZ, handler)
         resource.setrlimit(resource.RLIMIT_FSIZE, (size, size))
 
     return limit
@@ -552,6 +674,13 @@ def try_full_disks():
                 for path in ("new", "old", "link", words[-1].removeprefix("a=")):
                     name = f"{words[0]} to {path}, and room for {room} bytes"
                     try_run(name, [*words, "-o", path], (3, fault), preexec_fn=room_for(room))
+                    try_run(f"{name}, no signal", [*words, "-o", path], (3, fault), preexec_fn=room_for(room, signal.SIG_IGN))
+                with open("own", "wb") as own:
+                    ended = subprocess.run([PROGRAM, *words], stdout=own, stderr=subprocess.PIPE, timeout=120, preexec_fn=room_for(room))
+                expect(f"{words[0]} to standard output, and room for {room} bytes", (3, fault), (ended.returncode, ended.stderr))
+                ended = subprocess.run(["sh", "-c", '"$0" "$@" 2> own', PROGRAM, *words], capture_output=True, timeout=120, preexec_fn=room_for(0))
+                expect(f"{words[0]} with standard error that takes nothing", (0, output), (ended.returncode, ended.stdout))
+                os.unlink("own")
             write("old", OLD, 0o640)
             name = f"{words[0]}, and room for all"
             try_run(name, [*words, "-o", "old"], (0, error), [("old", output, 0o640)], preexec_fn=room_for(len(output)))
@@ -587,13 +716,22 @@ def try_large_on_full_disks():
 # ---- runs that others see
 
 
+def number_of(path):
+    """What the system tells a file by at a time, if it is there."""
+    with contextlib.suppress(FileNotFoundError):
+        found = os.lstat(path)
+        return found.st_ino, found.st_ctime_ns
+    return None
+
+
 @contextlib.contextmanager
 def started(words, part):
     """A run that waits for its input, with its new file begun under this name."""
+    before = number_of(part)
     run = subprocess.Popen([PROGRAM, *words], stdout=subprocess.PIPE, stderr=subprocess.PIPE)
     try:
         end = time.monotonic() + 10
-        while not os.path.lexists(part) and run.poll() is None and time.monotonic() < end:
+        while number_of(part) in (None, before) and run.poll() is None and time.monotonic() < end:
             time.sleep(0.01)
         yield run
     finally:
@@ -639,21 +777,18 @@ def try_while_it_runs():
 
 
 def try_killed_runs():
+    """A run that is killed leaves its new file, which the next one takes away."""
     with new_folder():
         os.mkfifo("pipe")
         write("old", OLD, 0o640)
         before = held()
         for number in range(3):
-            # A part that a killed run left keeps its name.
-            part = f"old.{number}.part"
-            with started(["build", "a=pipe", "-o", "old"], part):
+            with started(["build", "a=pipe", "-o", "old"], "old.0.part"):
                 pass
-            # (a run may be killed before the part has its permissions)
-            with contextlib.suppress(FileNotFoundError):
-                os.chmod(part, 0o640)
-            expect_held(f"killed run {number}", before, [(part, b"", 0o640)])
-            before = held()
-        try_done("a run behind killed ones", ["build", "a=line"], "old", 0o640)
+            expect_held(f"killed run {number}", before, [("old.0.part", b"", 0o600)])
+        status, output, error = plain(["build", "a=line"])
+        expect("a run behind killed ones", (status, b"", error), plain(["build", "a=line", "-o", "old"]))
+        expect_held("a run behind killed ones", before, [("old", output, 0o640)])
 
 
 def try_at_once():
@@ -693,23 +828,25 @@ def try_closed_streams():
 PARTS = (
     (try_new_files, 898),
     (try_old_files, 680),
+    (try_rights, 59 if IS_ROOT else 27),
     (try_links, 267),
     (try_own_inputs, 48),
     (try_what_is_no_file, 364),
     (try_devices, 160 if IS_ROOT else 180),
-    (try_standard_streams, 144),
+    (try_standard_streams, 256),
     (try_words, 24),
     (try_losses, 24),
     (try_piped_faults, 36),
     (try_standard_output, 4),
     (try_unreported, 4),
     (try_too_many_open, 1),
-    (try_parts_of_others, 1055),
-    (try_parts_beside_reports, 4),
+    (try_parts_of_others, 1033),
+    (try_long_names, 185),
+    (try_reports_elsewhere, 32 if can_mount() else 29),
     (try_refused, 1140),
-    (try_full_disks, 1084),
+    (try_full_disks, 1444),
     (try_while_it_runs, 21),
-    (try_killed_runs, 35),
+    (try_killed_runs, 28),
     (try_at_once, 25),
     (try_closed_streams, 288),
 )

@@ -85,7 +85,7 @@ void *realloc(void *old, size_t size) {
 # - std collects the words of the command line, up to four after the program's name, with or without a list of 96 bytes, before a file is
 #   opened;
 # - the names of layers are looked through one by one where the set of them can't be had, whose nodes have these bytes. It is
-#   asked for once all files are open.
+#   asked for once all files are open, and that in which the system tells the limits of the process.
 SHRINKING = "less"
 WORDS_LIST = ("new", 96, 0)
 NAME_SET = (248,)
@@ -381,7 +381,7 @@ def is_dispensable(words, refused):
     """Whether a run of this command can do without this allocation."""
     kind, size, opened = refused
     files = sum("=" in it and not it.startswith("-") for it in words) + (OUTPUT in words)
-    is_of_names = kind == "new" and size in NAME_SET and words[0] == "build" and opened == files
+    is_of_names = kind == "new" and size in NAME_SET and words[0] == "build" and opened == files + 1
     return kind == SHRINKING or refused == WORDS_LIST or is_of_names
 
 

@@ -53,7 +53,7 @@ pub(crate) const EXPLAIN: &str = "explain";
 pub(crate) const QUIET: &str = "quiet";
 
 /// The version of the program.
-const VERSION: &str = "1.7.2";
+const VERSION: &str = "1.8.0";
 
 const PROGRAM_HELP: Help = Help {
     about: "Build TopoJSON topologies from GeoJSON files, simplify them, and decode them again",
@@ -169,11 +169,13 @@ stays where the coast beside it goes";
 const OUTPUT_HELP: &str = "Write the output to a file in place of standard output";
 
 const OUTPUT_LONG_HELP: &str =
-    "Write the output to FILE in place of standard output. It goes to a new file beside
-FILE, which takes its name when it is whole and on the disk. Until then FILE stays
-as it was, whatever fails, so FILE may be an input, too. But a device, as /dev/null, and
-a pipe are written themselves, and so is the file that a standard stream goes to, by a
-link as /dev/stdout: what these took stays there, whatever fails";
+    "Write the output to FILE in place of standard output, which is '-'. It goes to a new file
+beside FILE, which takes its name when it is whole and on the disk. Until then FILE stays
+as it was, whatever fails, so FILE may be an input, too. The new file has FILE's owner,
+group and permissions, or its group may do nothing where it can't have the first two; other
+hard links keep the old text, and access control lists are lost. But a device, as
+/dev/null, and a pipe are written themselves, and so is the file that a standard stream
+goes to, by a link as /dev/stdout: what these took stays there, whatever fails";
 
 const REPORT_HELP: &str = "Write a report of the run to a file, as a JSON object";
 
@@ -181,7 +183,7 @@ const REPORT_LONG_HELP: &str =
     "Write a report of the run to FILE when the run ends, whether it is done or not, as a
 JSON object: the exit status, the fault, the counts, how many features lost all of their
 geometry, and all lines of '--explain'. docs/FORMATS.md describes it. FILE is replaced,
-or written itself, as by '-o', and left as it is where it is the FILE of '-o'";
+or written itself, as by '-o', and left as it is where it is an input or the FILE of '-o'";
 
 const EXPLAIN_HELP: &str = "Explain in words what is wrong, or what was left out";
 

@@ -33,4 +33,4 @@ pub use layer_faults::layer_fault;
 pub use options::{bad_area, bad_share};
 pub use place::{Place, place_in};
 pub use topology_faults::topology_fault;
-pub use unwritten::{WriteFailure, other_parts, unwritten_output, unwritten_stream};
+pub use unwritten::{WriteFailure, unwritten_output, unwritten_stream};

@@ -27,6 +27,8 @@ pub enum WriteFailure {
     NamesTaken,
     /// It has taken the output of the run.
     HoldsOutput,
+    /// It is an input of the run.
+    HoldsInput,
     /// Too many files are open.
     TooManyOpen,
     /// It is closed, or can only be read.
@@ -46,11 +48,12 @@ fn words(failure: Option<WriteFailure>) -> &'static str {
         Some(WriteFailure::Full) => "the disk is full",
         Some(WriteFailure::OverQuota) => "this user has no more room on the disk",
         Some(WriteFailure::TooLarge) => "no file may be that long here",
-        Some(WriteFailure::BadName) =>
-            "no file can have this name, or that of the new one beside it",
+        Some(WriteFailure::BadName) => "no file can have this name",
         Some(WriteFailure::NoReader) => "the program that reads it has ended",
-        Some(WriteFailure::NamesTaken) => "a thousand new files of other runs stand beside it",
+        Some(WriteFailure::NamesTaken) =>
+            "a thousand files with the names of new ones stand beside it",
         Some(WriteFailure::HoldsOutput) => "it has taken the output of this run",
+        Some(WriteFailure::HoldsInput) => "an input of this run",
         Some(WriteFailure::TooManyOpen) =>
             "too many files are open: ulimit -n says how many may be",
         Some(WriteFailure::Closed) => "closed, or open for reading alone",
@@ -79,21 +82,4 @@ pub fn unwritten_stream(
     }
     let words = words(failure);
     format!(in alloc; "  standard output: {words}\n")
-}
-
-/// How many new files of other runs stand beside the file of this path, if there are any.
-pub fn other_parts(alloc: Global, path: &str, count: u32) -> Result<String, AllocError> {
-    if count == 0 {
-        return Ok(String::new(alloc));
-    }
-    let path = shown(alloc, path)?;
-    if count == 1 {
-        return format!(in alloc;
-            "  {path}.0.part is of another run: where none goes on, one was interrupted, and the file can be deleted\n"
-        );
-    }
-    let last = count - 1;
-    format!(in alloc;
-        "  {path}.0.part to {path}.{last}.part are of other runs: where none goes on, they were interrupted, and the files can be deleted\n"
-    )
 }

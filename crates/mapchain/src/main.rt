@@ -1,14 +1,18 @@
 //! The program `mapchain` over the file system and the standard streams. `mapchain_cli` has all that it does.
 #![tactic(auto)]
 
+mod file_identity;
+mod file_limit;
+mod input_file;
+mod new_file;
 mod part_file;
-mod standard_output;
 mod system;
 mod system_errors;
 
 use byte_ends::{Sink, ToWrite};
+use file_limit::FileLimit;
 use mapchain_cli::command;
-use standard_output::StandardOutput;
+use part_file::PartFile;
 use std::cell::Cell;
 use std::io::{BufWriter, ErrorKind};
 use std::process::ExitCode;
@@ -36,22 +40,44 @@ fn refuse(rt: &HostRuntime, error: &io::Error) -> ExitCode {
     ExitCode::from(3)
 }
 
+/// A buffer of this size before a standard stream that is open.
+fn buffered<'a>(
+    rt: &HostRuntime,
+    size: usize,
+    stream: io::Result<PartFile<'a>>,
+) -> io::Result<BufWriter<PartFile<'a>>> {
+    BufWriter::with_capacity(rt.alloc(), size, stream?)
+}
+
 fn main(rt: HostRuntime) -> ExitCode {
     let words = match words(&rt) {
         Ok(words) => words,
         Err(error) => return refuse(&rt, &error),
     };
     let alloc = rt.alloc();
+    // Why each of them couldn't be written last, if it couldn't.
     let stream_failure = Cell::new(None);
-    let stream = StandardOutput::new(rt.stdout(), &stream_failure);
-    let Ok(stdout) = BufWriter::with_capacity(alloc, OUT_BUFFER, stream) else {
+    let error_failure = Cell::new(None);
+    let file_failure = Cell::new(None);
+    let limit = FileLimit::of_process(&rt);
+    let stdout = buffered(
+        &rt,
+        OUT_BUFFER,
+        PartFile::output(&rt, limit, &stream_failure),
+    );
+    let stderr = buffered(
+        &rt,
+        ERROR_BUFFER,
+        PartFile::error(&rt, limit, &error_failure),
+    );
+    let (Ok(stdout), Ok(stderr)) = (stdout, stderr) else {
         return ExitCode::from(3);
     };
-    let Ok(stderr) = BufWriter::with_capacity(alloc, ERROR_BUFFER, rt.stderr()) else {
+    // (each input is a word)
+    let Ok(mut files) = System::new(rt, words.len(), limit, &stream_failure, &file_failure) else {
         return ExitCode::from(3);
     };
     let mut out = Sink::new(ToWrite::new(stdout));
     let mut err = Sink::new(ToWrite::new(stderr));
-    let mut files = System::new(rt, &stream_failure);
     ExitCode::from(command(alloc, words, &mut files, &mut out, &mut err))
 }

@@ -1,25 +1,21 @@
-// A new file that takes the place of another once it is whole, or a device or a standard stream that is written itself.
+// What an output is put into: a new file that takes the place of another, or a device or a standard stream that is written itself.
+ghost use Rattle.std.specs.Io.{WritesAtMost};
 ghost use Rattle.std.specs.Prelude.{◌≡◌, IfOk};
 ghost use Rattle.std.specs.String.{string_bytes};
 
+use crate::file_identity::FileIdentity;
+use crate::file_limit::FileLimit;
+use crate::new_file::NewFile;
 use crate::system_errors::failure_of;
 use mapchain_cli::WriteFailure;
-use std::fs::{File, FileType, Metadata, Permissions};
+use std::cell::Cell;
+use std::fs::{File, FileType, Metadata};
 use std::io::{ErrorKind, Stderr, Stdout, Write};
-use std::os::unix::fs::{FileTypeExt, MetadataExt, OpenOptionsExt, PermissionsExt};
+use std::os::unix::fs::FileTypeExt;
 use std::{fs, io};
 
-/// How many names are tried for the new file.
-const MAX_TRIES: u32 = 1000;
-
-/// Who may read, write and run a file. The bits above say whom it is run as, which a new file doesn't take over.
-const PERMISSION_BITS: u32 = 0o777;
-
-/// The permissions that are asked for a file that nobody had yet: the system takes away those of its mask.
-const NEW_FILE: u32 = 0o666;
-
-/// The permissions of a new file until it has those of the file that it replaces.
-const OWNER_ONLY: u32 = 0o600;
+/// The path that stands for standard output in the words of a command.
+const DASH: &str = "-";
 
 /// The files that standard output and standard error go to, as the system names them.
 const STANDARD_OUTPUT: &str = "/proc/self/fd/1";
@@ -31,11 +27,11 @@ const STANDARD_ERROR: &str = "/proc/self/fd/2";
 enum TargetKind {
     /// Nothing has its name yet.
     New,
-    /// A regular file with these permissions.
-    File { mode: u32 },
+    /// A regular file.
+    File(FileIdentity),
     /// A device that takes bytes one after another, as `/dev/null` or a pipe.
     Device,
-    /// The file that standard output goes to.
+    /// Standard output, or the file that it goes to.
     Output,
     /// The file that standard error goes to.
     Error,
@@ -51,13 +47,6 @@ pub(crate) struct Target {
     kind: TargetKind,
 }
 
-/// A new file, which is removed where it is dropped, unless it has taken the place of another.
-struct NewFile {
-    rt: HostRuntime,
-    file: File,
-    path: String,
-}
-
 /// Where bytes are put.
 #[derive(Drop)]
 enum Destination {
@@ -67,12 +56,13 @@ enum Destination {
     Error(Stderr),
 }
 
-/// What is written for a target: a new file beside it, or a device or a standard stream.
+/// What is written for a target, or a standard stream: why it couldn't be written last, if it couldn't, is told in a cell.
 #[derive(Drop)]
-pub(crate) struct PartFile {
+pub(crate) struct PartFile<'a> {
+    rt: HostRuntime,
     destination: Destination,
-    /// Why a write or a flush failed last, if one did.
-    failure: Option<WriteFailure>,
+    limit: FileLimit,
+    failure: &'a Cell<Option<WriteFailure>>,
 }
 
 /// Whether bytes are written to it as they come. A disk and a socket are none.
@@ -82,7 +72,7 @@ fn takes_bytes(file_type: FileType) -> bool {
 
 /// Whether a standard stream, which the system names so, goes to the file that has this metadata.
 fn is_stream(rt: &HostRuntime, stream: &str, file: &Metadata) -> bool {
-    fs::metadata(rt, stream).is_ok_and(|own| own.dev() == file.dev() && own.ino() == file.ino())
+    fs::metadata(rt, stream).is_ok_and(|own| FileIdentity::of(&own) == FileIdentity::of(file))
 }
 
 /// Which standard stream goes to the file that has this metadata, if one does.
@@ -96,19 +86,26 @@ fn stream_to(rt: &HostRuntime, file: &Metadata) -> Option<TargetKind> {
     None
 }
 
+/// The regular file that standard output goes to, if it goes to one.
+pub(crate) fn file_of_output(rt: &HostRuntime) -> Option<FileIdentity> {
+    match fs::metadata(rt, STANDARD_OUTPUT) {
+        Ok(file) if file.is_file() => Some(FileIdentity::of(&file)),
+        _ => None,
+    }
+}
+
 /// What a regular file is that a path leads to by a symbolic link, as `/dev/stdout` does, and its own path. What a standard stream goes to has
 /// the link's: to replace it would lose what the stream has taken and will take.
 fn linked_file(
     rt: &HostRuntime,
     link: String,
     file: &Metadata,
-    mode: u32,
 ) -> io::Result<(String, TargetKind)> {
     if let Some(stream) = stream_to(rt, file) {
         return Ok((link, stream));
     }
     let path = fs::canonicalize(rt, link.as_str())?.into_string();
-    Ok((path, TargetKind::File { mode }))
+    Ok((path, TargetKind::File(FileIdentity::of(file))))
 }
 
 /// Where a path leads: to a regular file or to a device, by itself or by a symbolic link, or to nothing yet. Anything else is an error.
@@ -117,6 +114,9 @@ fn led_to(rt: &HostRuntime, path: &str) -> io::Result<(String, TargetKind)> {
         return Err(io::Error::from(ErrorKind::InvalidInput));
     }
     let own_path = String::from_str(rt.alloc(), path)?;
+    if path == DASH {
+        return Ok((own_path, TargetKind::Output));
+    }
     let is_link = match fs::symlink_metadata(rt, path) {
         Ok(metadata) => metadata.is_symlink(),
         Err(error) if error.kind() == ErrorKind::NotFound => {
@@ -134,31 +134,14 @@ fn led_to(rt: &HostRuntime, path: &str) -> io::Result<(String, TargetKind)> {
     if !metadata.is_file() {
         return Err(io::Error::from(ErrorKind::InvalidInput));
     }
-    let mode = metadata.permissions().mode() & PERMISSION_BITS;
     if is_link {
-        return linked_file(rt, own_path, &metadata, mode);
+        return linked_file(rt, own_path, &metadata);
     }
-    Ok((own_path, TargetKind::File { mode }))
+    Ok((own_path, TargetKind::File(FileIdentity::of(&metadata))))
 }
 
 impl Target {
-    /// Whether this path leads to it.
-    pub(crate) fn is_at(&self, rt: &HostRuntime, path: &str) -> bool {
-        match (
-            fs::canonicalize(rt, self.path.as_str()),
-            fs::canonicalize(rt, path),
-        ) {
-            (Ok(own), Ok(other)) => own.as_path() == other.as_path(),
-            _ => false,
-        }
-    }
-
-    /// Whether this path leads to it, and it is a file that a new one takes the place of.
-    pub(crate) fn is_file_at(&self, rt: &HostRuntime, path: &str) -> bool {
-        matches!(self.kind, TargetKind::New | TargetKind::File { .. }) && self.is_at(rt, path)
-    }
-
-    /// The file or the device of this path, or the name of a file that isn't there yet.
+    /// The file, the device or the stream of this path, or the name of a file that isn't there yet.
     pub(crate) fn of(rt: &HostRuntime, path: &str) -> io::Result<Target>
         ensures { IfOk result (λ target. string_bytes target.named ≡ path.now) }
     {
@@ -166,127 +149,148 @@ impl Target {
         let (path, kind) = led_to(rt, path)?;
         Ok(Target { named, path, kind })
     }
-}
 
-impl NewFile {
-    /// A new file beside this path, with these permissions, under the first name that isn't taken. The number is how many were.
-    fn beside(rt: &HostRuntime, name: &str, mode: u32) -> io::Result<(NewFile, u32)> {
-        let own_rt = rt.clone()?;
-        let mut options = File::options();
-        options.write(true).create_new(true).mode(mode);
-        for taken in 0..MAX_TRIES {
-            let path = format!(in rt.alloc(); "{name}.{taken}.part")?;
-            match options.open(rt, path.as_str()) {
-                Ok(file) => {
-                    let new = NewFile {
-                        rt: own_rt,
-                        file,
-                        path,
-                    };
-                    return Ok((new, taken));
-                }
-                Err(error) if error.kind() == ErrorKind::AlreadyExists => {}
-                Err(error) => return Err(error),
-            }
+    /// Which regular file it is that a new one is to replace, if it is one.
+    pub(crate) fn identity(&self) -> Option<FileIdentity> {
+        match self.kind {
+            TargetKind::File(identity) => Some(identity),
+            _ => None,
         }
-        Err(io::Error::from(ErrorKind::AlreadyExists))
-    }
-
-    /// Takes the place of the file of this path, once all of it is on the disk. On an error that file is as it was, and the new one is removed.
-    fn replace(self, path: &str) -> io::Result<()> {
-        self.file.sync_all()?;
-        fs::rename(&self.rt, self.path.as_str(), path)?;
-        // Nothing is left to remove.
-        let NewFile {
-            rt: _,
-            file: _,
-            path: _,
-        } = self;
-        Ok(())
-    }
-}
-
-impl Drop for NewFile {
-    fn drop(self) {
-        let NewFile { rt, file: _, path } = self;
-        let _ = fs::remove_file(&rt, path.as_str());
     }
 }
 
 impl Destination {
-    /// What is to be written for a target, and how many new files of other runs stand beside that. A regular file is replaced by a new
-    /// one with its permissions; where it was named by a symbolic link, the link stays. A device is opened as it is, and a standard stream is open.
-    fn of(rt: &HostRuntime, target: &Target) -> io::Result<(Destination, u32)> {
+    /// What is to be written for a target. A regular file is replaced by a new one; where it was named by a symbolic link, the link stays. A device
+    /// is opened as it is, and a standard stream is open.
+    fn of(rt: &HostRuntime, target: &Target) -> io::Result<Destination> {
         let path = target.path.as_str();
         match target.kind {
-            TargetKind::New => {
-                let (new, others) = NewFile::beside(rt, path, NEW_FILE)?;
-                Ok((Destination::New(new), others))
-            }
-            TargetKind::File { mode } => {
-                let (new, others) = NewFile::beside(rt, path, OWNER_ONLY)?;
-                new.file.set_permissions(Permissions::from_mode(mode))?;
-                Ok((Destination::New(new), others))
-            }
+            TargetKind::New => Ok(Destination::New(NewFile::beside(rt, path, false)?)),
+            TargetKind::File(_) => Ok(Destination::New(NewFile::beside(rt, path, true)?)),
             TargetKind::Device => {
                 let device = File::options().write(true).open(rt, path)?;
-                Ok((Destination::Device(device), 0))
+                Ok(Destination::Device(device))
             }
-            TargetKind::Output => Ok((Destination::Output(rt.stdout()), 0)),
-            TargetKind::Error => Ok((Destination::Error(rt.stderr()), 0)),
-        }
-    }
-}
-
-impl PartFile {
-    /// What is to be written for a target, and how many new files of other runs stand beside that.
-    pub(crate) fn of(rt: &HostRuntime, target: &Target) -> io::Result<(PartFile, u32)> {
-        let (destination, others) = Destination::of(rt, target)?;
-        let part = PartFile {
-            destination,
-            failure: None,
-        };
-        Ok((part, others))
-    }
-
-    /// Takes the place of the target, once all of it is on the disk. On an error the target is as it was. A device or a standard stream has
-    /// taken all of it already.
-    pub(crate) fn replace(self, target: &Target) -> io::Result<()> {
-        match self.destination {
-            Destination::New(new) => new.replace(target.path.as_str()),
-            Destination::Device(_) | Destination::Output(_) | Destination::Error(_) => Ok(()),
+            TargetKind::Output => Ok(Destination::Output(rt.stdout())),
+            TargetKind::Error => Ok(Destination::Error(rt.stderr())),
         }
     }
 
-    /// Why a write or a flush failed last, if one did.
-    pub(crate) fn failure(&self) -> Option<WriteFailure> {
-        self.failure
+    /// The path of the file that grows as this is written. A device doesn't.
+    fn path(&self) -> Option<&str> {
+        match self {
+            Destination::New(new) => Some(new.path()),
+            Destination::Device(_) => None,
+            Destination::Output(_) => Some(STANDARD_OUTPUT),
+            Destination::Error(_) => Some(STANDARD_ERROR),
+        }
     }
-}
 
-impl Write for PartFile {
-    fn write(&mut self, buf: &[u8]) -> io::Result<usize> {
-        let taken = match &mut self.destination {
-            Destination::New(new) => new.file.write(buf),
+    fn write(&mut self, buf: &[u8]) -> io::Result<usize>
+        ensures { WritesAtMost result buf.now }
+    {
+        match self {
+            Destination::New(new) => new.file().write(buf),
             Destination::Device(device) => device.write(buf),
             Destination::Output(stream) => stream.write(buf),
             Destination::Error(stream) => stream.write(buf),
-        };
+        }
+    }
+
+    fn flush(&mut self) -> io::Result<()> {
+        match self {
+            Destination::New(new) => new.file().flush(),
+            Destination::Device(device) => device.flush(),
+            Destination::Output(stream) => stream.flush(),
+            Destination::Error(stream) => stream.flush(),
+        }
+    }
+}
+
+impl<'a> PartFile<'a> {
+    /// What is put there, where files may have this length.
+    fn to(
+        rt: &HostRuntime,
+        destination: Destination,
+        limit: FileLimit,
+        failure: &'a Cell<Option<WriteFailure>>,
+    ) -> io::Result<PartFile<'a>> {
+        Ok(PartFile {
+            rt: rt.clone()?,
+            destination,
+            limit,
+            failure,
+        })
+    }
+
+    /// What is to be written for a target.
+    pub(crate) fn of(
+        rt: &HostRuntime,
+        target: &Target,
+        limit: FileLimit,
+        failure: &'a Cell<Option<WriteFailure>>,
+    ) -> io::Result<PartFile<'a>> {
+        PartFile::to(rt, Destination::of(rt, target)?, limit, failure)
+    }
+
+    /// Standard output.
+    pub(crate) fn output(
+        rt: &HostRuntime,
+        limit: FileLimit,
+        failure: &'a Cell<Option<WriteFailure>>,
+    ) -> io::Result<PartFile<'a>> {
+        PartFile::to(rt, Destination::Output(rt.stdout()), limit, failure)
+    }
+
+    /// Standard error.
+    pub(crate) fn error(
+        rt: &HostRuntime,
+        limit: FileLimit,
+        failure: &'a Cell<Option<WriteFailure>>,
+    ) -> io::Result<PartFile<'a>> {
+        PartFile::to(rt, Destination::Error(rt.stderr()), limit, failure)
+    }
+
+    /// Takes the place of the target, once all of it is on the disk, and tells which file it is, if it is a regular one. On an error the target is as it was. A device or a
+    /// standard stream has taken all of it already.
+    pub(crate) fn replace(self, target: &Target) -> io::Result<Option<FileIdentity>> {
+        let PartFile {
+            rt,
+            destination,
+            limit: _,
+            failure: _,
+        } = self;
+        match destination {
+            Destination::New(new) => Ok(Some(new.replace(target.path.as_str())?)),
+            Destination::Output(_) => Ok(file_of_output(&rt)),
+            Destination::Device(_) | Destination::Error(_) => Ok(None),
+        }
+    }
+
+    /// Writes what may be written, no more than that many bytes.
+    fn write_within(&mut self, buf: &[u8]) -> io::Result<usize>
+        ensures { WritesAtMost result buf.now }
+    {
+        if let Some(path) = self.destination.path() {
+            self.limit.check(&self.rt, path)?;
+        }
+        self.destination.write(buf)
+    }
+}
+
+impl Write for PartFile<'_> {
+    fn write(&mut self, buf: &[u8]) -> io::Result<usize> {
+        let taken = self.write_within(buf);
         if let Err(error) = &taken {
-            self.failure = Some(failure_of(error));
+            self.failure.set(Some(failure_of(error)));
         }
         taken
     }
 
     fn flush(&mut self) -> io::Result<()> {
-        let flushed = match &mut self.destination {
-            Destination::New(new) => new.file.flush(),
-            Destination::Device(device) => device.flush(),
-            Destination::Output(stream) => stream.flush(),
-            Destination::Error(stream) => stream.flush(),
-        };
+        let flushed = self.destination.flush();
         if let Err(error) = &flushed {
-            self.failure = Some(failure_of(error));
+            self.failure.set(Some(failure_of(error)));
         }
         flushed
     }

@@ -4,15 +4,29 @@ ghost use Rattle.std.specs.Option.{option_map};
 ghost use Rattle.std.specs.String.{string_bytes};
 
 use crate::OUT_BUFFER;
-use crate::part_file::{PartFile, Target};
+use crate::file_identity::FileIdentity;
+use crate::file_limit::FileLimit;
+use crate::input_file::InputFile;
+use crate::part_file::{PartFile, Target, file_of_output};
 use crate::system_errors::{failure_of, is_full, kind_by};
 use byte_ends::{FromRead, Sink, Source, ToWrite};
 use mapchain_cli::{Counts, FileKind, Files, Notes, OwnText, WriteFailure};
+use std::alloc::AllocError;
 use std::cell::Cell;
 use std::fs::File;
 use std::hash::{BuildHasher, RandomState};
 use std::io::BufWriter;
-use std::{fs, io};
+use std::time::{SystemTime, UNIX_EPOCH};
+use std::{fs, io, process};
+
+/// The files that a run has read and written, by whichever paths they are named.
+#[derive(Drop)]
+struct OwnFiles {
+    /// The inputs: nothing once there was no room for one.
+    inputs: Option<Vec<FileIdentity>>,
+    /// The file that has the output: that of standard output, or the new one that has taken the place of another.
+    output: Option<FileIdentity>,
+}
 
 /// The file system.
 #[derive(Drop)]
@@ -21,73 +35,114 @@ pub(crate) struct System<'a> {
     counts: Counts,
     /// The file for which an output was begun last, unless that was kept or taken away.
     pending: Option<Target>,
-    /// The file that an output has replaced last, or the device that took it.
-    replaced: Option<Target>,
+    own: OwnFiles,
+    limit: FileLimit,
     /// Whether the last file couldn't be opened, as too many are open.
     is_full: bool,
-    /// Why the last output couldn't be begun, written or kept, if the system said why.
-    failure: Option<WriteFailure>,
     /// Why standard output couldn't be written last, if the system said why.
     stream_failure: &'a Cell<Option<WriteFailure>>,
-    /// How many new files of other runs stood beside that of the last output.
-    other_parts: u32,
-    notes: Notes<FromRead<File>, ToWrite<BufWriter<PartFile>>>,
+    /// Why the last output couldn't be begun, written or kept, if the system said why.
+    file_failure: &'a Cell<Option<WriteFailure>>,
+    notes: Notes<FromRead<InputFile>, ToWrite<BufWriter<PartFile<'a>>>>,
+}
+
+impl OwnFiles {
+    /// Notes an input.
+    fn note_input(&mut self, identity: Option<FileIdentity>) {
+        let (Some(inputs), Some(identity)) = (&mut self.inputs, identity) else {
+            return;
+        };
+        if inputs.push(identity).is_err() {
+            self.inputs = None;
+        }
+    }
+
+    /// Why this target may not be written: a file that has taken the output of the run, or was read. The output itself is begun before any input is
+    /// opened, and may take the place of one.
+    fn refusal_of(&self, target: &Target) -> Option<WriteFailure> {
+        let identity = target.identity()?;
+        if self.output == Some(identity) {
+            return Some(WriteFailure::HoldsOutput);
+        }
+        match &self.inputs {
+            Some(inputs) if !inputs.contains(&identity) => None,
+            _ => Some(WriteFailure::HoldsInput),
+        }
+    }
 }
 
 impl<'a> System<'a> {
-    /// The file system, of which no file was opened or replaced yet. Why standard output couldn't be written is told there.
+    /// The file system, of which no file was opened or replaced yet, with room for so many inputs, and in which files may have this length. Why an output couldn't be written is told there:
+    /// standard output, and one to a file.
     pub(crate) fn new(
         rt: HostRuntime,
+        most_inputs: usize,
+        limit: FileLimit,
         stream_failure: &'a Cell<Option<WriteFailure>>,
-    ) -> System<'a> {
-        System {
+        file_failure: &'a Cell<Option<WriteFailure>>,
+    ) -> Result<System<'a>, AllocError> {
+        let inputs = Vec::with_capacity(rt.alloc(), most_inputs)?;
+        Ok(System {
             rt,
             counts: Counts::none(),
             pending: None,
-            replaced: None,
+            own: OwnFiles {
+                inputs: Some(inputs),
+                output: None,
+            },
+            limit,
             is_full: false,
-            failure: None,
             stream_failure,
-            other_parts: 0,
+            file_failure,
             notes: Notes::none(),
-        }
+        })
     }
 }
 
-// The file or the device of this path, what is to be written for it, with a buffer before it, and how many new files of other runs stand
-// beside.
-fn begin_target(rt: &HostRuntime, path: &str) -> io::Result<(Target, BufWriter<PartFile>, u32)>
-    ensures { IfOk result (λ r. string_bytes r.0.named ≡ path.now) }
-{
-    let target = Target::of(rt, path)?;
-    let (part, other_parts) = PartFile::of(rt, &target)?;
-    let output = BufWriter::with_capacity(rt.alloc(), OUT_BUFFER, part)?;
-    Ok((target, output, other_parts))
-}
-
-// The same, or why it can't be begun. What has taken the output of the run isn't replaced once more.
-fn begin(
+// What is to be written for a target, with a buffer before it.
+fn begin_target<'a>(
     rt: &HostRuntime,
-    replaced: &Option<Target>,
-    path: &str,
-) -> Result<(Target, BufWriter<PartFile>, u32), WriteFailure>
-    ensures { IfOk result (λ r. string_bytes r.0.named ≡ path.now) }
-{
-    if let Some(output) = replaced {
-        if output.is_file_at(rt, path) {
-            return Err(WriteFailure::HoldsOutput);
-        }
-    }
-    begin_target(rt, path).map_err(|error| failure_of(&error))
+    target: &Target,
+    limit: FileLimit,
+    failure: &'a Cell<Option<WriteFailure>>,
+) -> io::Result<BufWriter<PartFile<'a>>> {
+    let part = PartFile::of(rt, target, limit, failure)?;
+    BufWriter::with_capacity(rt.alloc(), OUT_BUFFER, part)
 }
 
-// Writes what is still held back, and has the new file take the place of the target.
-fn replace(target: &Target, output: BufWriter<PartFile>) -> io::Result<()> {
+// The target of this path, and what is to be written for it; or why it can't be begun.
+fn begin<'a>(
+    rt: &HostRuntime,
+    own: &OwnFiles,
+    path: &str,
+    limit: FileLimit,
+    failure: &'a Cell<Option<WriteFailure>>,
+) -> Result<(Target, BufWriter<PartFile<'a>>), WriteFailure>
+    ensures { IfOk result (λ r. string_bytes r.0.named ≡ path.now) }
+{
+    let target = match Target::of(rt, path) {
+        Ok(target) => target,
+        Err(error) => return Err(failure_of(&error)),
+    };
+    if let Some(refusal) = own.refusal_of(&target) {
+        return Err(refusal);
+    }
+    match begin_target(rt, &target, limit, failure) {
+        Ok(output) => Ok((target, output)),
+        Err(error) => Err(failure_of(&error)),
+    }
+}
+
+// Writes what is still held back, has the new file take the place of the target, and tells which file it is.
+fn replace(target: &Target, output: BufWriter<PartFile<'_>>) -> io::Result<Option<FileIdentity>> {
     output.into_inner()?.replace(target)
 }
 
-// Has the new file take the place of the target, if there is one, and gives the target if it did, or why it didn't.
-fn keep(target: Option<Target>, output: BufWriter<PartFile>) -> Result<Target, Option<WriteFailure>>
+// Has the new file take the place of the target, if there is one, and tells which file it is; or why it didn't.
+fn keep(
+    target: Option<Target>,
+    output: BufWriter<PartFile<'_>>,
+) -> Result<Option<FileIdentity>, Option<WriteFailure>>
     ensures { IsOk result → is_some target ≡ true }
 {
     let Some(target) = target else {
@@ -95,7 +150,7 @@ fn keep(target: Option<Target>, output: BufWriter<PartFile>) -> Result<Target, O
         return Err(None);
     };
     match replace(&target, output) {
-        Ok(()) => Ok(target),
+        Ok(identity) => Ok(identity),
         Err(error) => Err(Some(failure_of(&error))),
     }
 }
@@ -118,10 +173,28 @@ fn kind_of(rt: &HostRuntime, path: &str) -> FileKind {
     }
 }
 
-impl Files for System<'_> {
-    type R = FromRead<File>;
+// The file of this path, and which one it is, if that can be told.
+fn open(rt: &HostRuntime, path: &str) -> io::Result<(InputFile, Option<FileIdentity>)> {
+    let file = InputFile::open(rt, path)?;
+    let identity = file.identity()?;
+    Ok((file, identity))
+}
 
-    type W = ToWrite<BufWriter<PartFile>>;
+// A number that differs from run to run, where the system gives no random one: of the time and the process.
+fn seed_of_time(rt: &HostRuntime) -> u64 {
+    let time = match SystemTime::now(rt) {
+        Ok(now) => now
+            .duration_since(UNIX_EPOCH)
+            .map_or(0, |time| time.as_nanos()),
+        Err(_) => 0,
+    };
+    (time & u128::from(u64::MAX)) as u64 ^ u64::from(process::id(rt.process())).rotate_left(32)
+}
+
+impl<'a> Files for System<'a> {
+    type R = FromRead<InputFile>;
+
+    type W = ToWrite<BufWriter<PartFile<'a>>>;
 
     // Others write files too, so that the bytes of none are known.
     ghost state = { λ s. record { contents = λ _. None; counts = s.counts; pending = option_map (λ target. string_bytes target.named) s.pending; noted = s.notes } };
@@ -129,23 +202,27 @@ impl Files for System<'_> {
     fn seed(&self) -> u64 {
         match RandomState::new(&self.rt) {
             Ok(state) => state.hash_one(0u64),
-            Err(_) => 0,
+            Err(_) => seed_of_time(&self.rt),
         }
     }
 
-    fn open(&mut self, path: &str) -> Option<Source<FromRead<File>>> {
-        let opened = File::open(&self.rt, path);
+    fn open(&mut self, path: &str) -> Option<Source<FromRead<InputFile>>> {
+        let opened = open(&self.rt, path);
         self.counts.count_open(opened.is_ok());
         self.is_full = opened.as_ref().is_err_and(is_full);
-        let file = opened.ok()?;
+        let (file, identity) = opened.ok()?;
+        self.own.note_input(identity);
+        if self.counts.outputs.begun == 0 {
+            self.own.output = file_of_output(&self.rt);
+        }
         Some(Source::new(FromRead::new(file)))
     }
 
-    fn done_with(&mut self, source: &Source<FromRead<File>>) {
+    fn done_with(&mut self, source: &Source<FromRead<InputFile>>) {
         self.notes.note_source(source);
     }
 
-    fn done_with_all(&mut self, sources: &Vec<(OwnText, Source<FromRead<File>>)>) {
+    fn done_with_all(&mut self, sources: &Vec<(OwnText, Source<FromRead<InputFile>>)>) {
         self.notes.note_sources(sources);
     }
 
@@ -153,54 +230,46 @@ impl Files for System<'_> {
         if self.is_full {
             return FileKind::TooManyOpen;
         }
-        match &self.replaced {
-            Some(target) if target.is_at(&self.rt, path) => FileKind::Other,
-            _ => kind_of(&self.rt, path),
-        }
+        kind_of(&self.rt, path)
     }
 
-    fn begin(&mut self, path: &str) -> Option<Sink<ToWrite<BufWriter<PartFile>>>> {
-        let begun = begin(&self.rt, &self.replaced, path);
+    fn begin(&mut self, path: &str) -> Option<Sink<ToWrite<BufWriter<PartFile<'a>>>>> {
+        let begun = begin(&self.rt, &self.own, path, self.limit, self.file_failure);
         self.counts.count_begin(begun.is_ok());
-        self.failure = begun.as_ref().err().copied();
-        let (target, output, other_parts) = begun.ok()?;
+        self.file_failure.set(begun.as_ref().err().copied());
+        let (target, output) = begun.ok()?;
         self.pending = Some(target);
-        self.other_parts = other_parts;
         let output = Sink::new(ToWrite::new(output));
         self.notes.note_begun(&output);
         Some(output)
     }
 
-    fn keep(&mut self, output: ToWrite<BufWriter<PartFile>>) -> bool {
+    fn keep(&mut self, output: ToWrite<BufWriter<PartFile<'a>>>) -> bool {
         self.notes.note_ended(&output);
         let target = self.pending.take();
         let kept = keep(target, output.into_inner());
         let is_kept = kept.is_ok();
         self.counts.count_keep(is_kept);
         match kept {
-            Ok(target) => self.replaced = Some(target),
-            Err(failure) => self.failure = failure,
+            Ok(identity) => self.own.output = identity,
+            Err(failure) => self.file_failure.set(failure),
         }
         is_kept
     }
 
-    fn discard(&mut self, output: ToWrite<BufWriter<PartFile>>) {
+    fn discard(&mut self, output: ToWrite<BufWriter<PartFile<'a>>>) {
         self.notes.note_ended(&output);
-        let (part, _held_back) = output.into_inner().into_parts();
-        self.failure = part.failure();
+        // (what is still held back isn't written)
+        let (_part, _held_back) = output.into_inner().into_parts();
         self.pending = None;
         self.counts.count_discard();
     }
 
     fn write_failure(&self) -> Option<WriteFailure> {
-        self.failure
+        self.file_failure.get()
     }
 
     fn stream_failure(&self) -> Option<WriteFailure> {
         self.stream_failure.get()
-    }
-
-    fn other_parts(&self) -> u32 {
-        self.other_parts
     }
 }

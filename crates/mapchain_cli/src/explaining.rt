@@ -5,8 +5,8 @@ use byte_ends::ReadFault;
 use command_words::{Order, Request};
 use explanations::{Observed, built};
 use fault_explanations::{
-    FileKind, bad_area, bad_share, layer_fault, other_parts, topology_fault, unopened,
-    unwritten_output, unwritten_stream,
+    FileKind, bad_area, bad_share, layer_fault, topology_fault, unopened, unwritten_output,
+    unwritten_stream,
 };
 use inputs::{BuildFault, FileFault};
 use reports::Report;
@@ -195,65 +195,6 @@ fn explain_refused<F: Files>(
     }
 }
 
-/// The new file of this number beside the file of this path is looked for up to this number.
-const MOST_PARTS: u32 = 1000;
-
-/// How many new files of other runs stand beside the file of this path, before one is begun for this run.
-fn parts_beside<F: Files>(alloc: Global, path: &str, files: &F) -> Result<u32, AllocError> {
-    'parts: for number in 0..MOST_PARTS {
-        let part = format!(in alloc; "{path}.{number}.part")?;
-        if files.look(part.as_str()) != FileKind::Regular {
-            return Ok(number);
-        }
-    }
-    Ok(MOST_PARTS)
-}
-
-/// Which new files of other runs stand beside the file of this path.
-fn explain_parts_of<F: Files>(alloc: Global, path: &str, files: &F) -> Result<String, AllocError> {
-    let count = parts_beside(alloc, path, files)?;
-    other_parts(alloc, path, count)
-}
-
-/// The path of the report that an order asks for, if it isn't that of its output, too.
-fn unnamed_report<'a>(order: &Order<'a>) -> Option<&'a str> {
-    match (order.output, order.report) {
-        (Some(output), Some(report)) if output == report => None,
-        (_, report) => report,
-    }
-}
-
-/// Which new files of other runs stand beside the one that this order's output went to, and beside the one that its report is to go to.
-fn explain_parts<F: Files>(
-    alloc: Global,
-    order: &Order<'_>,
-    files: &F,
-) -> Result<String, AllocError> {
-    let beside_output = match order.output {
-        Some(path) => other_parts(alloc, path, files.other_parts()),
-        None => Ok(String::new(alloc)),
-    };
-    match unnamed_report(order) {
-        Some(path) => joined(beside_output, explain_parts_of(alloc, path, files)),
-        None => beside_output,
-    }
-}
-
-/// What is said in words of how an order came out.
-fn explain<F: Files>(
-    alloc: Global,
-    order: &Order<'_>,
-    outcome: &Result<Option<Report>, Ending>,
-    observed: &mut Observed,
-    files: &F,
-) -> Result<String, AllocError> {
-    let said = match outcome {
-        Ok(report) => explain_done(alloc, report, observed),
-        Err(ending) => explain_refused(alloc, order, ending, observed.refused_bytes(), files),
-    };
-    joined(said, explain_parts(alloc, order, files))
-}
-
 /// What is said in words of how an order came out, in lines, each ended by a line feed: nothing for want of memory.
 pub(crate) fn explanation_of<F: Files>(
     alloc: Global,
@@ -262,7 +203,11 @@ pub(crate) fn explanation_of<F: Files>(
     observed: &mut Observed,
     files: &F,
 ) -> String {
-    explain(alloc, order, outcome, observed, files).unwrap_or(String::new(alloc))
+    let said = match outcome {
+        Ok(report) => explain_done(alloc, report, observed),
+        Err(ending) => explain_refused(alloc, order, ending, observed.refused_bytes(), files),
+    };
+    said.unwrap_or(String::new(alloc))
 }
 
 /// Why the report of the run isn't written to the file of this path: nothing for want of memory.

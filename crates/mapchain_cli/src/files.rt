@@ -42,7 +42,7 @@ pub trait Files {
         // What they are now is noted, and nothing else changes.
         ensures noted { state self.new ≡ done_with_all sources.now.items (state self.old) };
 
-    /// What a path names, as far as that is known. A file that an output has replaced is no regular one, as it isn't another run's.
+    /// What a path names, as far as that is known.
     fn look(&self, path: &str) -> FileKind;
 
     /// Begins an output that is to take the place of the file of this path, or of none yet, or nothing where that can't be. The file
@@ -74,10 +74,5 @@ pub trait Files {
     /// Why standard output couldn't be written, as far as that is known.
     fn stream_failure(&self) -> Option<WriteFailure> {
         None
-    }
-
-    /// How many new files of other runs stood beside that of the last output when it was begun, as of runs that were interrupted.
-    fn other_parts(&self) -> u32 {
-        0
     }
 }

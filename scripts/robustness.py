@@ -5,7 +5,7 @@
     scripts/robustness.py path/to/mapchain    another program with the same commands
     scripts/robustness.py --short             the same with small files, as the gate does it
 
-First the deepest nesting that is taken, of each kind, and one more, with a stack of 1 MiB. Then streams: pipes that close early,
+First the deepest nesting that is taken, of each kind, and one more, with a stack of 256 KiB. Then streams: pipes that close early,
 a full disk, closed streams, folders, files that can't be read, named pipes, files with no end. Then large files, at a tenth of
 their size and whole: the seconds of both, the growth, which is the time a byte at the whole size over that at the tenth, and the
 greatest peak of memory. Of these times nothing is claimed. Then collections in collections, one and as deep as they may nest: the processor
@@ -18,11 +18,13 @@ minutes, 2 GB of memory and 300 MB of disk, and has up to 10^5 files open at onc
 takes large files at a hundredth of their size, and chosen positions up to 10^5, and some fifteen seconds.
 """
 import argparse
+import json
 import math
 import os
 import resource
 import shlex
 import shutil
+import socket
 import subprocess
 import sys
 import tempfile
@@ -137,11 +139,11 @@ TOPOLOGIES = (
 
 
 def small_stack():
-    resource.setrlimit(resource.RLIMIT_STACK, (1 << 20, 1 << 20))
+    resource.setrlimit(resource.RLIMIT_STACK, (1 << 18, 1 << 18))
 
 
 def ended(words):
-    """The status of a run with a stack of 1 MiB, and the line of its fault, if it has one."""
+    """The status of a run with a stack of 256 KiB, and the line of its fault, if it has one."""
     run = subprocess.run([PROGRAM, *words], capture_output=True, preexec_fn=small_stack, timeout=120)
     return run.returncode, run.stderr.decode().strip() if run.returncode else None
 
@@ -242,6 +244,35 @@ def try_inputs():
         feeder.start()
         expect(name, wanted, fault_of("build a=pipe"))
         feeder.join()
+    try_sockets()
+    for word in "\x1b[31m", "\x9b2J", "a\u202eb", "\x7f":
+        run = subprocess.run([PROGRAM, word, f"--{word}"], capture_output=True, timeout=120)
+        shown = "".join(f"\\u{ord(letter):04x}" if ord(letter) in OBEYED else letter for letter in word)
+        expect(f"a word that a terminal obeys, {shown}", (2, True, False), (run.returncode, shown in run.stderr.decode(), word in run.stderr.decode()))
+        write("named", topology(json.dumps(word, ensure_ascii=word == "\x1b[31m") + ':{"type":"LineString","arcs":[0]}', segment(0)))
+        run = subprocess.run([PROGRAM, "geo", "--explain", "--object", "no", "named"], capture_output=True, timeout=120)
+        expect(f"a name that a terminal obeys, {shown}", (1, True, False), (run.returncode, shown in run.stderr.decode(), word in run.stderr.decode()))
+
+
+# What a terminal obeys of the words above.
+OBEYED = {0x1B, 0x7F, 0x9B, 0x202E}
+
+
+def try_sockets():
+    """Standard input that is a socket, as programs of node have it: no path can open it."""
+    for name, words, text, wanted in (
+        ("a layer", ["build", "-q", "a=/dev/stdin"], LINE, (0, LINE_TOPOLOGY, "")),
+        ("a topology", ["simplify", "-q", "/dev/stdin"], LINE_TOPOLOGY, (0, LINE_TOPOLOGY, "")),
+        ("a refused layer", ["build", "a=/dev/stdin"], LINE[:20], (1, "", "error: layer 0 J2 Malformed\n")),
+    ):
+        here, there = socket.socketpair()
+        with here, there, tempfile.TemporaryFile() as err:
+            run = subprocess.Popen([PROGRAM, *words], stdin=there, stdout=subprocess.PIPE, stderr=err)
+            here.sendall(text.encode())
+            here.shutdown(socket.SHUT_WR)
+            out = run.communicate(timeout=120)[0]
+            err.seek(0)
+            expect(f"{name} by a socket", wanted, (run.returncode, out.decode(), err.read().decode()))
 
 
 def feed(parts):
@@ -298,6 +329,10 @@ FILES = (
     ("the same, simplified", MILLION, lambda n: along(n), SIMPLIFY, 0),
     ("a line along one arc, often", MILLION, lambda n: often(n), GEO, 0),
     ("the same, simplified", MILLION, lambda n: often(n), SIMPLIFY, 0),
+    ("an arc of equal positions, often", MILLION // 10, lambda n: one_place(f"[{listed('0' * n)}]", n), "simplify file", 0),
+    ("lines along an arc of equal positions", MILLION // 10, lambda n: one_place(listed(["[0]"] * n), n), "simplify file", 0),
+    ("lines in collections that are dropped", MILLION // 10, lambda n: dropped_inside(n), "simplify -q file", 0),
+    ("a line that is long when it is decoded, refused", MILLION // 100, lambda n: unfolding(n), "geo --object a --max-positions 1000 file", 1),
     ("objects of a topology", MILLION, lambda n: topology(named_objects(n), ""), STAT, 0),
     ("members of a topology, of one name", MILLION, lambda n: "{%s}" % ",".join(['"arcs":[]'] * n), STAT, 1),
     ("foreign members of a topology", MILLION, lambda n: '{%s"type":"Topology","objects":{},"arcs":[]}' % foreign(n), STAT, 0),
@@ -411,6 +446,22 @@ def along(n):
 
 def often(n):
     return topology('"a":{"type":"LineString","arcs":%s}' % listed(["0,-1"] * n), "[[0,0],[1,0]]")
+
+
+def one_place(arcs, n):
+    """A MultiLineString of lines of these arcs, of which there is one, of equal positions."""
+    return topology('"a":{"type":"MultiLineString","arcs":%s}' % arcs, listed(["[5,5]"] * n))
+
+
+def dropped_inside(n):
+    """Lines of one position in as many collections as there may be, one in the other."""
+    depth = 120
+    return topology('"a":' + nested(depth, '{"type":"MultiLineString","arcs":%s}' % listed(["[0]"] * n)), "[[5,5],[5,5]]")
+
+
+def unfolding(n):
+    """A line that goes along one arc as often as that has positions."""
+    return topology('"a":{"type":"LineString","arcs":%s}' % listed(["0,-1"] * n), listed(f"[{i},0]" for i in range(n)))
 
 
 def holes(n):
@@ -667,8 +718,8 @@ def try_chosen():
 PARTS = (
     (try_depths, 80, 80),
     (try_outputs, 31, 31),
-    (try_inputs, 14, 14),
-    (try_sizes, 360, 120),
+    (try_inputs, 25, 25),
+    (try_sizes, 384, 128),
     (try_nested, 108, 108),
     (try_chosen, 41, 34),
 )

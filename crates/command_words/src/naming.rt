@@ -5,10 +5,17 @@ ghost use Rattle.command_words.specs.Faults.{IsAdvice};
 
 use std::alloc::{AllocError, Global};
 
-/// Whether a terminal shows the letter as it is.
-fn is_shown(letter: char) -> bool {
-    let code = u32::from(letter);
-    code >= 0x20 && !(0x7f..0xa0).contains(&code)
+/// Whether a terminal shows the letter as it is: it is no control character, no mark of the bidirectional algorithm, and ends no line.
+pub(crate) fn is_shown(letter: char) -> bool {
+    !matches!(
+        letter,
+        '\u{0}'..='\u{1f}'
+            | '\u{7f}'..='\u{9f}'
+            | '\u{61c}'
+            | '\u{200e}'..='\u{200f}'
+            | '\u{2028}'..='\u{202e}'
+            | '\u{2066}'..='\u{2069}'
+    )
 }
 
 /// What stands after the last `/`.

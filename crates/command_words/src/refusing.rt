@@ -3,6 +3,7 @@ ghost use Rattle.std.specs.Prelude.{◌≡◌, ◌⊎◌, IfOk};
 ghost use Rattle.clap.specs.declared.error.Error.{Error as ClapError};
 ghost use Rattle.command_words.specs.declared.words_fault.WordsFault.TheVariants.{Memory, Refused};
 
+use crate::naming::is_shown;
 use crate::usage::{command_named, telling_program};
 use crate::words_fault::WordsFault;
 use clap::Error;
@@ -39,12 +40,36 @@ fn told(alloc: Global, command: &str, error: Error) -> Result<Error, AllocError>
     command.error(error.kind(), message.as_str())
 }
 
+/// The word with an escape in the place of each letter that a terminal would obey.
+fn shown(alloc: Global, word: &str) -> Result<String, AllocError> {
+    let mut text = String::new(alloc);
+    for letter in word.chars() {
+        if is_shown(letter) {
+            text.push(letter)?;
+        } else {
+            let code = u32::from(letter);
+            write!(text, "\\u{code:04x}")?;
+        }
+    }
+    Ok(text)
+}
+
+/// The words so: what `clap` says of them names them.
+fn shown_words(alloc: Global, words: &[String]) -> Result<Vec<String>, AllocError> {
+    let mut shown_words = Vec::new(alloc);
+    for word in words {
+        shown_words.push(shown(alloc, word.as_str())?)?;
+    }
+    Ok(shown_words)
+}
+
 /// What is said of refused words, by the command line in which a share can't stand beside an area.
 pub(crate) fn refusal(alloc: Global, words: &[String]) -> Result<WordsFault, AllocError>
     ensures { IfOk result (λ f. (f ≡ Memory) ⊎ ((e : ClapError) × (f ≡ Refused e))) }
 {
+    let words = shown_words(alloc, words)?;
     let mut program = telling_program(alloc)?;
-    let error = match program.try_get_matches_from_mut(words) {
+    let error = match program.try_get_matches_from_mut(words.as_slice()) {
         Ok(_) => program.error(ErrorKind::MissingSubcommand, "a command is missing")?,
         Err(error) => error,
     };

@@ -1,10 +1,24 @@
 // Texts of contents as a terminal can show them.
 use std::alloc::{AllocError, Global};
 
-/// Adds a character, or `\u` and the digits of its number where a terminal would obey it: U+0000 to U+001F and U+007F to U+009F.
+/// Whether a terminal would obey the character, or show what follows it elsewhere: a control character, a mark of the bidirectional algorithm
+/// (Unicode Standard Annex 9, section 2), or the end of a line or a paragraph.
+fn is_obeyed(letter: char) -> bool {
+    matches!(
+        letter,
+        '\u{0}'..='\u{1f}'
+            | '\u{7f}'..='\u{9f}'
+            | '\u{61c}'
+            | '\u{200e}'..='\u{200f}'
+            | '\u{2028}'..='\u{202e}'
+            | '\u{2066}'..='\u{2069}'
+    )
+}
+
+/// Adds a character, or `\u` and the digits of its number where a terminal would obey it.
 fn add_shown(text: &mut String, letter: char) -> Result<(), AllocError> {
-    let code = u32::from(letter);
-    if code < 0x20 || (code >= 0x7f && code < 0xa0) {
+    if is_obeyed(letter) {
+        let code = u32::from(letter);
         return write!(text, "\\u{code:04x}");
     }
     text.push(letter)

@@ -14,7 +14,7 @@ use Rattle.clap.specs.declared.parser.matches.ValueSource.TheVariants.{CommandLi
 use Rattle.clap.specs.Faults.{check_fault, level_fault, settle_fault, walk_fault}
 use Rattle.clap.specs.declared.builder.value_parser.ValueParser.TheVariants as vp
 use Rattle.clap.proofs.OnLiterals.{clap_on_literals}
-use Rattle.command_words.specs.Asked.{Asked, Ordered, build, build_in, exact_in, grid_at, grid_in, keep_in, keep_shapes_in, layers_in, layers_of, no_crossings_in, order_of, output_in, ring_area_in, where_none}
+use Rattle.command_words.specs.Asked.{Asked, Ordered, build, build_in, grid_at, grid_in, is_set, keep_in, layers_in, layers_of, order_of, output_in, ring_area_in, where_none}
 use Rattle.command_words.specs.Written.{flag_word, value_word}
 use Rattle.command_words.proofs.CommandLevels.{asked_at, first_text, flag_read, more_words, no_fault, no_level_fault, or_else_nil, shape_of, text_read}
 use Rattle.command_words.proofs.Getters.{build_asked}
@@ -210,13 +210,13 @@ module _ (output cells area keep : Option Text) (ring_area : Text) (no_crossings
   ring_area_read : ring_area_in rows_at_end ≡ ring_area
   ring_area_read = ap (λ (o : Option Text). unwrap_or o (codes "0")) (at_end (codes "min-ring-area") ∙ text_read (codes "min-ring-area") (Some ring_area))
 
-  no_crossings_read : no_crossings_in rows_at_end ≡ no_crossings
+  no_crossings_read : is_set (codes "no-crossings") rows_at_end ≡ no_crossings
   no_crossings_read = ap (λ (o : Option Text). bytes_eq (unwrap_or o []) (codes "true")) (at_end (codes "no-crossings")) ∙ flag_read (codes "no-crossings") no_crossings
 
-  keep_shapes_read : keep_shapes_in rows_at_end ≡ keep_shapes
+  keep_shapes_read : is_set (codes "keep-shapes") rows_at_end ≡ keep_shapes
   keep_shapes_read = ap (λ (o : Option Text). bytes_eq (unwrap_or o []) (codes "true")) (at_end (codes "keep-shapes")) ∙ flag_read (codes "keep-shapes") keep_shapes
 
-  exact_read : exact_in rows_at_end ≡ exact
+  exact_read : is_set (codes "exact") rows_at_end ≡ exact
   exact_read = ap (λ (o : Option Text). bytes_eq (unwrap_or o []) (codes "true")) (at_end (codes "exact")) ∙ flag_read (codes "exact") exact
 
   layers_read : layers_in rows_at_end ≡ layers_of (word ∷ words)

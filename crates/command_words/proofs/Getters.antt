@@ -2,7 +2,7 @@
 use Rattle.std.proofs.Common.{◌≡◌, ◌⊎◌, ◌∙◌, ◌-◌, ◌≤◌, ◌^◌, ℕ, List, [], ◌∷◌, Bool, true, false, cond, Option, Some, None, Result, Ok, Err, map, option_map, refl, sym, ap, ap₂, subst, arith, inl, inr, Bor}
 use Rattle.std.specs.Option.{unwrap_or, option_and_then}
 use Rattle.std.specs.Str.Parse.{ParsesUnsigned, digits_value, without_leading_plus}
-use Rattle.clap.specs.Matches.{TriesOne, first_value, matched_of, raw_values}
+use Rattle.clap.specs.Matches.{TriesOne, matched_of, raw_values}
 use Rattle.clap.specs.Walk.{Row, Text, all_of, first_of, rows_of}
 use Rattle.clap.specs.ValueTests.{is_unsigned_in}
 use Rattle.clap.specs.declared.parser.matches.Found.{Found}
@@ -19,19 +19,13 @@ use Rattle.std.proofs.lemmas.Bool.{and_right}
 use Rattle.command_words.specs.Faults.{IsBuildFault, IsFaultBy, IsLayersFault, is_help, is_memory, is_refused}
 use Rattle.command_words.specs.declared.words_fault.WordsFault.{WordsFault}
 use Rattle.command_words.specs.declared.words_fault.WordsFault.TheVariants.{Help, Memory, NoEquals, Refused}
-use Rattle.clap.proofs.WalkLemmas.{first_value-rows, raw_values-rows}
+use Rattle.clap.proofs.WalkLemmas.{raw_values-rows}
 use Rattle.clap.proofs.ValueTestLemmas.{accepts-Accepts, Accepts-accepts}
-use Rattle.command_words.specs.Asked.{area_in, build, build_in, build_on, cells_of, exact_in, explains_in, grid_at, grid_in, has_both, keep_in, keep_shapes_in, layer_words, layers_in, most_in, no_crossings_in, number_at, number_in, ring_area_in, where_none, whole_number}
+use Rattle.command_words.specs.Asked.{area_in, build, build_in, build_on, grid_at, grid_in, has_both, is_set, keep_in, layer_words, layers_in, most_in, number_at, number_in, ring_area_in, where_none, whole_number}
 
-now_or : (r : Option (Bor Text)) (x e : Bor Text) → x ≡ unwrap_or r e → x.now ≡ unwrap_or (option_map (λ s. s.now) r) e.now
+pub now_or : (r : Option (Bor Text)) (x e : Bor Text) → x ≡ unwrap_or r e → x.now ≡ unwrap_or (option_map (λ s. s.now) r) e.now
 now_or None x e is = ap (λ (y : Bor Text). y.now) is
 now_or (Some y) x e is = ap (λ (z : Bor Text). z.now) is
-
--- the first value of an argument, or another text
-pub read_or : (f : Found) (id d : Text) (r : Option (Bor Text)) (x e : Bor Text) → option_map (λ s. s.now) r ≡ first_value f id
-    → x ≡ unwrap_or r e → e.now ≡ d → x.now ≡ unwrap_or (first_of id (rows_of f)) d
-read_or f id d r x e given is other =
-    now_or r x e is ∙ ap (λ (o : Option Text). unwrap_or o e.now) (given ∙ first_value-rows f id) ∙ ap (λ t. unwrap_or (first_of id (rows_of f)) t) other
 
 all_or : (r : Option (Bor (List (Bor Text)))) (x e : Bor (List (Bor Text))) → x ≡ unwrap_or r e → e.now ≡ []
     → map (λ v. v.now) x.now ≡ unwrap_or (option_map (λ s. map (λ v. v.now) s.now) r) []
@@ -66,10 +60,9 @@ whole_read t (Ok n) p =
 whole_read t (Err e) p = sym (out_of_range 0 (2 ^ 64 - 1) t (λ h. let a = accepts-Accepts false (Unsigned 0 (2 ^ 64 - 1)) t h in p (a.0, a.1)))
 
 -- the number of positions of an argument that was looked up
-pub most_given : (f : Found) (r o : Option (Bor Text)) → option_map (λ s. s.now) r ≡ first_value f (codes "max-positions") → r ≡ o
-    → number_at whole_number (option_map (λ s. s.now) o) ≡ most_in (rows_of f)
-most_given f r o given is =
-    ap (λ (q : Option (Bor Text)). number_at whole_number (option_map (λ s. s.now) q)) (sym is) ∙ ap (number_at whole_number) (given ∙ first_value-rows f (codes "max-positions"))
+pub most_given : (rows : List Row) (r o : Option (Bor Text)) → option_map (λ s. s.now) r ≡ first_of (codes "max-positions") rows → r ≡ o
+    → number_at whole_number (option_map (λ s. s.now) o) ≡ most_in rows
+most_given rows r o given is = ap (λ (q : Option (Bor Text)). number_at whole_number (option_map (λ s. s.now) q)) (sym is) ∙ ap (number_at whole_number) given
 
 -- ---- the grid of a text
 
@@ -105,32 +98,24 @@ module _ {E : Type 0} (G : List ℕ → Result ℕ E → Type 0) (only : (t : Li
       ap (option_map (λ k. Some k)) (out_of_range 2 (10 ^ 9) t (λ e₂. let a = accepts-Accepts false (Unsigned 2 (10 ^ 9)) t e₂ in p (a.0, omega (arith, a.3))))
 
 -- whether an argument has a value
-pub is_given : (f : Found) (id : Text) (r : Option (Bor Text)) → option_map (λ s. s.now) r ≡ first_value f id → is_some (first_of id (rows_of f)) ≡ is_some r
-is_given f id None given = ap is_some (sym (given ∙ first_value-rows f id))
-is_given f id (Some x) given = ap is_some (sym (given ∙ first_value-rows f id))
-
-is_kept : (rows : List Row) (r : Option (Bor Text)) → option_map (λ s. s.now) r ≡ keep_in rows → is_some (keep_in rows) ≡ is_some r
-is_kept rows None given = ap is_some (sym given)
-is_kept rows (Some x) given = ap is_some (sym given)
-
-pub both_are : (f : Found) (area keep : Option (Bor Text)) → option_map (λ s. s.now) area ≡ first_value f (codes "min-area")
-    → option_map (λ s. s.now) keep ≡ keep_in (rows_of f) → has_both (rows_of f) ≡ (is_some area && is_some keep)
-both_are f area keep a k = ap₂ (λ x y. x && y) (is_given f (codes "min-area") area a) (is_kept (rows_of f) keep k)
+is_given : (o : Option Text) (r : Option (Bor Text)) → option_map (λ s. s.now) r ≡ o → is_some o ≡ is_some r
+is_given o None given = ap is_some (sym given)
+is_given o (Some x) given = ap is_some (sym given)
 
 -- whether an area and a share are given both, where there is an area, and where there is none
-pub with_area : (f : Found) (area keep : Option (Bor Text)) → option_map (λ s. s.now) area ≡ first_value f (codes "min-area")
-    → option_map (λ s. s.now) keep ≡ keep_in (rows_of f) → is_some area ≡ true → is_some keep ≡ has_both (rows_of f)
-with_area f area keep a k some = sym (both_are f area keep a k ∙ ap (λ b. b && is_some keep) some)
+pub with_area : (rows : List Row) (area keep : Option (Bor Text)) → option_map (λ s. s.now) area ≡ first_of (codes "min-area") rows
+    → option_map (λ s. s.now) keep ≡ keep_in rows → is_some area ≡ true → is_some keep ≡ has_both rows
+with_area rows area keep a k some =
+    sym (ap₂ (λ x y. x && y) (is_given (first_of (codes "min-area") rows) area a) (is_given (keep_in rows) keep k) ∙ ap (λ b. b && is_some keep) some)
 
-pub without_area : (f : Found) (area : Option (Bor Text)) → option_map (λ s. s.now) area ≡ first_value f (codes "min-area") → is_some area ≡ false
-    → false ≡ has_both (rows_of f)
-without_area f area a none = sym (ap (λ b. b && is_some (keep_in (rows_of f))) (is_given f (codes "min-area") area a ∙ none))
+pub without_area : (rows : List Row) (area : Option (Bor Text)) → option_map (λ s. s.now) area ≡ first_of (codes "min-area") rows → is_some area ≡ false → false ≡ has_both rows
+without_area rows area a none = sym (ap (λ b. b && is_some (keep_in rows)) (is_given (first_of (codes "min-area") rows) area a ∙ none))
 
 -- ---- what `build` asks for
 
 pub build_asked : (rows : List Row) (grid : Option ℕ) (layers : List (Text × Text)) (exact : Bool) (area : Text) (keep : Option Text) (ring_area : Text) (no_crossings keep_shapes : Bool)
     → has_both rows ≡ false → grid_in rows ≡ Some grid → layers_in rows ≡ Some layers
-    → exact ≡ exact_in rows → area ≡ area_in rows → keep ≡ keep_in rows → ring_area ≡ ring_area_in rows → no_crossings ≡ no_crossings_in rows → keep_shapes ≡ keep_shapes_in rows
+    → exact ≡ is_set (codes "exact") rows → area ≡ area_in rows → keep ≡ keep_in rows → ring_area ≡ ring_area_in rows → no_crossings ≡ is_set (codes "no-crossings") rows → keep_shapes ≡ is_set (codes "keep-shapes") rows
     → build_in rows ≡ Some (build layers exact grid area keep ring_area no_crossings keep_shapes)
 build_asked rows grid layers exact area keep ring_area no_crossings keep_shapes one g l x a k r n s =
     ap (λ (b : Bool). cond b None (option_and_then (λ n. option_map (build_on rows n) (layers_in rows)) (grid_in rows))) one
@@ -187,8 +172,8 @@ refusal_for kinds found f (inr r) h = subst (IsFaultBy kinds found) (sym r.1) h
 
 -- the words for layers have this fault where nothing comes before it
 pub layers_fault : (rows : List Row) (grid : Option ℕ) (words : List Text) (f : WordsFault) → has_both rows ≡ false → grid_in rows ≡ Some grid → words ≡ layer_words rows
-    → IsLayersFault (explains_in rows) words f → IsBuildFault rows f
+    → IsLayersFault (is_set (codes "explain") rows) words f → IsBuildFault rows f
 layers_fault rows grid words (NoEquals layer advice) one g same h =
-    (one, ap is_some g, subst (λ ws. IsLayersFault (explains_in rows) ws (NoEquals layer advice)) same h)
+    (one, ap is_some g, subst (λ ws. IsLayersFault (is_set (codes "explain") rows) ws (NoEquals layer advice)) same h)
 layers_fault rows grid words Memory one g same h = tt
 layers_fault rows grid words e one g same h = absurd h

@@ -9,7 +9,7 @@ use Rattle.clap.specs.Simple.{subcommand_of}
 use Rattle.clap.specs.Walk.{Row, Text, one_of}
 use Rattle.clap.specs.declared.builder.value_parser.ValueParser.TheVariants.{Unsigned}
 use Rattle.clap.proofs.ValueTestLemmas.{accepts-Accepts}
-use Rattle.command_words.specs.Asked.{Asked, Ordered, area_in, asked, asked_in, build, build_in, build_on, cells_of, geo, geo_in, grid_at, grid_in, has_both, keep_in, keep_shapes_in, kinds_of, layers_in, most_in, no_crossings_in, order_of, ordered, ordered_in, output_in, ring_area_in, simplify, simplify_in, stat, stat_in, text_of, where_none}
+use Rattle.command_words.specs.Asked.{Asked, Ordered, area_in, asked, asked_in, build, build_in, build_on, cells_of, geo, geo_in, grid_at, grid_in, has_both, is_set, keep_in, kinds_of, layers_in, most_in, order_of, ordered, ordered_in, output_in, ring_area_in, simplify, simplify_in, stat, stat_in, text_of, where_none}
 use Rattle.command_words.specs.CommandLine.{program_app}
 use Rattle.command_words.specs.Requests.{IsCells, IsInRange}
 use Rattle.command_words.specs.declared.request.Order.{Order}
@@ -54,7 +54,7 @@ built_in_range rows =
     (build_in_range rows (grid_in rows) (layers_in rows) (grid_in_range (one_of (codes "grid") rows)))
 
 simplify_in_range : (rows : List Row) → IfSome (simplify_in rows) Fits
-simplify_in_range rows = either (has_both rows) None (Some (simplify (area_in rows) (keep_in rows) (ring_area_in rows) (no_crossings_in rows) (keep_shapes_in rows) (text_of (codes "file") rows))) tt tt
+simplify_in_range rows = either (has_both rows) None (Some (simplify (area_in rows) (keep_in rows) (ring_area_in rows) (is_set (codes "no-crossings") rows) (is_set (codes "keep-shapes") rows) (text_of (codes "file") rows))) tt tt
 
 geo_in_range : (rows : List Row) → IfSome (geo_in rows) Fits
 geo_in_range rows = go (most_in rows)

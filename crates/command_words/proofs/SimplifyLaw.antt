@@ -9,7 +9,7 @@ use Rattle.clap.specs.declared.builder.value_parser.Reading.TheVariants.{AsWritt
 use Rattle.clap.specs.declared.parser.matches.ValueSource.TheVariants.{CommandLine}
 use Rattle.clap.specs.Faults.{check_fault, level_fault, settle_fault, walk_fault}
 use Rattle.clap.proofs.OnLiterals.{clap_on_literals}
-use Rattle.command_words.specs.Asked.{Asked, Ordered, keep_in, keep_shapes_in, no_crossings_in, order_of, output_in, simplify, simplify_in, where_none}
+use Rattle.command_words.specs.Asked.{Asked, Ordered, is_set, keep_in, order_of, output_in, simplify, simplify_in, where_none}
 use Rattle.command_words.specs.Written.{flag_word, value_word}
 use Rattle.command_words.proofs.CommandLevels.{asked_at, first_text, flag_read, more_words, no_fault, no_level_fault, or_else_nil, shape_of, text_read}
 use Rattle.command_words.proofs.RowLemmas.{found_at_end, has_id, values_replace}
@@ -159,10 +159,10 @@ module _ (output area keep : Option Text) (ring_area path : Text) (no_crossings 
   ring_area_read : first_of (codes "min-ring-area") rows_at_end ≡ Some ring_area
   ring_area_read = at_end (codes "min-ring-area")
 
-  no_crossings_read : no_crossings_in rows_at_end ≡ no_crossings
+  no_crossings_read : is_set (codes "no-crossings") rows_at_end ≡ no_crossings
   no_crossings_read = ap (λ (o : Option Text). bytes_eq (unwrap_or o []) (codes "true")) (at_end (codes "no-crossings")) ∙ flag_read (codes "no-crossings") no_crossings
 
-  keep_shapes_read : keep_shapes_in rows_at_end ≡ keep_shapes
+  keep_shapes_read : is_set (codes "keep-shapes") rows_at_end ≡ keep_shapes
   keep_shapes_read = ap (λ (o : Option Text). bytes_eq (unwrap_or o []) (codes "true")) (at_end (codes "keep-shapes")) ∙ flag_read (codes "keep-shapes") keep_shapes
 
   path_read : first_of (codes "file") rows_at_end ≡ Some path

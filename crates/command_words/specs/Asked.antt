@@ -80,6 +80,10 @@ whole_number text = number_in 0 (2 ^ 64 - 1) text
 abbrev pub text_of : Text → List Row → Text
 text_of id rows = unwrap_or (first_of id rows) []
 
+-- a flag is given
+abbrev pub is_set : Text → List Row → Bool
+is_set id rows = bytes_eq (text_of id rows) (codes "true")
+
 -- the area, which is 0 where none is given
 abbrev pub area_in : List Row → Text
 area_in rows = unwrap_or (first_of (codes "min-area") rows) (codes "0")
@@ -92,24 +96,9 @@ keep_in rows = first_of (codes "keep") rows
 abbrev pub ring_area_in : List Row → Text
 ring_area_in rows = unwrap_or (first_of (codes "min-ring-area") rows) (codes "0")
 
--- no crossing may be made
-abbrev pub no_crossings_in : List Row → Bool
-no_crossings_in rows = bytes_eq (text_of (codes "no-crossings") rows) (codes "true")
-
--- shapes stay
-abbrev pub keep_shapes_in : List Row → Bool
-keep_shapes_in rows = bytes_eq (text_of (codes "keep-shapes") rows) (codes "true")
-
 -- an area and a share are given both
 abbrev pub has_both : List Row → Bool
 has_both rows = is_some (first_of (codes "min-area") rows) && is_some (keep_in rows)
-
--- crossings are counted
-abbrev pub crossings_in : List Row → Bool
-crossings_in rows = bytes_eq (text_of (codes "crossings") rows) (codes "true")
-
-abbrev pub exact_in : List Row → Bool
-exact_in rows = bytes_eq (text_of (codes "exact") rows) (codes "true")
 
 -- the number of a text, if one is given
 abbrev pub number_at : (Text → Option ℕ) → Option Text → Option (Option ℕ)
@@ -131,7 +120,7 @@ layers_in rows = layers_of (layer_words rows)
 
 -- a build of these layers on this grid
 abbrev pub build_on : List Row → Option ℕ → List (Text × Text) → Asked
-build_on rows grid layers = build layers (exact_in rows) grid (area_in rows) (keep_in rows) (ring_area_in rows) (no_crossings_in rows) (keep_shapes_in rows)
+build_on rows grid layers = build layers (is_set (codes "exact") rows) grid (area_in rows) (keep_in rows) (ring_area_in rows) (is_set (codes "no-crossings") rows) (is_set (codes "keep-shapes") rows)
 
 -- what `build` asks for, which takes no share beside an area
 abbrev pub build_in : List Row → Option Asked
@@ -140,7 +129,7 @@ build_in rows = if has_both rows then None else option_and_then (λ grid. option
 -- what `simplify` asks for, which takes none either
 abbrev pub simplify_in : List Row → Option Asked
 simplify_in rows = if has_both rows then None
-    else Some (simplify (area_in rows) (keep_in rows) (ring_area_in rows) (no_crossings_in rows) (keep_shapes_in rows) (text_of (codes "file") rows))
+    else Some (simplify (area_in rows) (keep_in rows) (ring_area_in rows) (is_set (codes "no-crossings") rows) (is_set (codes "keep-shapes") rows) (text_of (codes "file") rows))
 
 -- the most positions that the features of an object may have, if any are given
 abbrev pub most_in : List Row → Option (Option ℕ)
@@ -151,7 +140,7 @@ abbrev pub geo_in : List Row → Option Asked
 geo_in rows = option_map (λ most. geo (text_of (codes "object") rows) most (text_of (codes "file") rows)) (most_in rows)
 
 abbrev pub stat_in : List Row → Asked
-stat_in rows = stat (crossings_in rows) (text_of (codes "file") rows)
+stat_in rows = stat (is_set (codes "crossings") rows) (text_of (codes "file") rows)
 
 -- what a command of this name asks for
 abbrev pub asked_in : Text × List Row → Option Asked
@@ -206,16 +195,8 @@ detail order = record { explains = order.explains; report = option_map (λ r. r.
 abbrev pub report_in : List Row → Option Text
 report_in rows = first_of (codes "report") rows
 
--- whether the run is explained
-abbrev pub explains_in : List Row → Bool
-explains_in rows = bytes_eq (text_of (codes "explain") rows) (codes "true")
-
--- whether the report is left out
-abbrev pub quiet_in : List Row → Bool
-quiet_in rows = bytes_eq (text_of (codes "quiet") rows) (codes "true")
-
 abbrev pub detail_in : Text × List Row → Detail
-detail_in found = record { explains = explains_in found.1; report = report_in found.1; quiet = quiet_in found.1 }
+detail_in found = record { explains = is_set (codes "explain") found.1; report = report_in found.1; quiet = is_set (codes "quiet") found.1 }
 
 -- what the words ask to be said, if the command line takes them
 abbrev pub detail_of : List Text → Option Detail

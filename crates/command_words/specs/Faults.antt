@@ -10,7 +10,7 @@ use Rattle.clap.specs.Values.{kind_of}
 use Rattle.clap.specs.Walk.{Row, Text}
 use Rattle.clap.specs.declared.error.kind.ErrorKind.{ErrorKind}
 use Rattle.clap.specs.declared.error.kind.ErrorKind.TheVariants as kind
-use Rattle.command_words.specs.Asked.{explains_in, grid_in, has_both, kinds_of, layer_words, most_in}
+use Rattle.command_words.specs.Asked.{grid_in, has_both, is_set, kinds_of, layer_words, most_in}
 use Rattle.command_words.specs.CommandLine.{program_app}
 use Rattle.command_words.specs.LayerWords.{equals_sign}
 use Rattle.command_words.specs.declared.words_fault.WordsFault.{WordsFault}
@@ -57,7 +57,7 @@ abbrev pub IsBuildFault : List Row → WordsFault → Type 0
 IsBuildFault rows Memory = Unit {0}
 IsBuildFault rows GridRange = (has_both rows ≡ false) × (grid_in rows ≡ None)
 IsBuildFault rows (NoEquals layer advice) = (has_both rows ≡ false) × (is_some (grid_in rows) ≡ true)
-    × IsLayersFault (explains_in rows) (layer_words rows) (NoEquals layer advice)
+    × IsLayersFault (is_set (codes "explain") rows) (layer_words rows) (NoEquals layer advice)
 IsBuildFault rows fault = ⊥
 
 -- of the command that is found and its arguments: only `build` has faults of its own

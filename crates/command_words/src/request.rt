@@ -1,16 +1,15 @@
 // What words ask for.
-ghost use Rattle.std.specs.Prelude.{◌≡◌, ◌⊎◌, IfErr, IfOk, List, MatchResult, None, Option, Some, [], map, option_map, true};
+ghost use Rattle.std.specs.Prelude.{◌≡◌, ◌⊎◌, IfErr, IfOk, List, MatchResult, None, Option, Some, [], map, option_map, true, unwrap_or};
 ghost use Rattle.std.specs.String.{string_bytes};
 ghost use Rattle.clap.specs.Kinds.{HasKind, Kinds};
 ghost use Rattle.clap.specs.Simple.{subcommand_of, subcommand_rows_of};
 ghost use Rattle.clap.specs.Values.{kind_of};
-ghost use Rattle.clap.specs.Walk.{Row, Text};
+ghost use Rattle.clap.specs.Walk.{Row, Text, first_of};
 ghost use Rattle.clap.specs.declared.error.kind.ErrorKind.TheVariants.{OutOfMemory};
 ghost use Rattle.command_words.specs.declared.words_fault.WordsFault.TheVariants.{GridRange, Memory};
 ghost use Rattle.command_words.specs.Asked as spec;
-ghost use Rattle.command_words.specs.Asked.{Answers, area_in, asked, asked_in, build_in, crossings_in, entries_of, exact_in, geo_in, grid_in};
-ghost use Rattle.command_words.specs.Asked.{Ordered, detail, detail_of, explains_in, keep_in, keep_shapes_in, kinds_of, order_of, ordered};
-ghost use Rattle.command_words.specs.Asked.{most_in, no_crossings_in, output_in, quiet_in, report_in, ring_area_in, simplify_in, text_of};
+ghost use Rattle.command_words.specs.Asked.{Answers, Ordered, asked, asked_in, build_in, detail, detail_of, entries_of, geo_in, grid_in, kinds_of};
+ghost use Rattle.command_words.specs.Asked.{most_in, order_of, ordered, simplify_in};
 ghost use Rattle.command_words.specs.CommandLine.{IsApp, program_app};
 ghost use Rattle.command_words.specs.Faults as faults;
 ghost use Rattle.command_words.specs.Faults.{IsBuildFault, IsCommandFault, IsFaultBy, IsFaultOf};
@@ -111,25 +110,25 @@ fn grid_of(arguments: &ArgMatches<'_>) -> Result<Option<u32>, WordsFault>
     }
 }
 
-/// The area that is asked for.
-fn area_of<'a>(arguments: &ArgMatches<'a>) -> &'a str
-    ensures { result.now ≡ area_in (entries_of arguments.now) }
+/// The text of an argument, if it is given.
+fn given<'a>(arguments: &ArgMatches<'a>, id: &str) -> Option<&'a str>
+    ensures { option_map (λ t. t.now) result ≡ first_of id.now (entries_of arguments.now) }
 {
-    arguments.get_str(AREA).unwrap_or("0")
+    arguments.get_str(id)
 }
 
-/// The share of the points that is asked for, if any.
-fn keep_of<'a>(arguments: &ArgMatches<'a>) -> Option<&'a str>
-    ensures { option_map (λ k. k.now) result ≡ keep_in (entries_of arguments.now) }
+/// The text of an argument, or another where it is not given.
+fn text_or<'a>(arguments: &ArgMatches<'a>, id: &str, other: &'static str) -> &'a str
+    ensures { result.now ≡ unwrap_or (first_of id.now (entries_of arguments.now)) other.now }
 {
-    arguments.get_str(KEEP)
+    given(arguments, id).unwrap_or(other)
 }
 
-/// The least area of a ring that is asked for.
-fn ring_area_of<'a>(arguments: &ArgMatches<'a>) -> &'a str
-    ensures { result.now ≡ ring_area_in (entries_of arguments.now) }
+/// Whether a flag is given.
+fn is_set(arguments: &ArgMatches<'_>, id: &str) -> bool
+    ensures { result ≡ spec.is_set id.now (entries_of arguments.now) }
 {
-    arguments.get_str(RING_AREA).unwrap_or("0")
+    text_or(arguments, id, "") == "true"
 }
 
 /// The whole number that a text is, if it is one that is taken.
@@ -143,80 +142,17 @@ fn whole_number(text: &str) -> Option<u64>
 fn most_of(arguments: &ArgMatches<'_>) -> Option<Option<u64>>
     ensures { result ≡ most_in (entries_of arguments.now) }
 {
-    match arguments.get_str(MOST) {
+    match given(arguments, MOST) {
         None => Some(None),
         Some(text) => Some(Some(whole_number(text)?)),
     }
-}
-
-/// The file for the output, if one is given.
-fn output_of<'a>(arguments: &ArgMatches<'a>) -> Option<&'a str>
-    ensures { option_map (λ o. o.now) result ≡ output_in (entries_of arguments.now) }
-{
-    arguments.get_str(OUTPUT)
-}
-
-/// The file for a report of the run, if one is given.
-fn report_of<'a>(arguments: &ArgMatches<'a>) -> Option<&'a str>
-    ensures { option_map (λ r. r.now) result ≡ report_in (entries_of arguments.now) }
-{
-    arguments.get_str(REPORT)
-}
-
-/// The text of an argument, which is empty where it is not given.
-fn text_of<'a>(arguments: &ArgMatches<'a>, id: &str) -> &'a str
-    ensures { result.now ≡ text_of id.now (entries_of arguments.now) }
-{
-    arguments.get_str(id).unwrap_or("")
-}
-
-/// Whether coordinates that would have to be rounded are refused.
-fn is_exact(arguments: &ArgMatches<'_>) -> bool
-    ensures { result ≡ exact_in (entries_of arguments.now) }
-{
-    text_of(arguments, EXACT) == "true"
-}
-
-/// Whether no crossing may be made.
-fn has_no_crossings(arguments: &ArgMatches<'_>) -> bool
-    ensures { result ≡ no_crossings_in (entries_of arguments.now) }
-{
-    text_of(arguments, NO_CROSSINGS) == "true"
-}
-
-/// Whether shapes stay.
-fn has_keep_shapes(arguments: &ArgMatches<'_>) -> bool
-    ensures { result ≡ keep_shapes_in (entries_of arguments.now) }
-{
-    text_of(arguments, KEEP_SHAPES) == "true"
 }
 
 /// Whether an area and a share are given both.
 fn has_both(arguments: &ArgMatches<'_>) -> bool
     ensures { result ≡ spec.has_both (entries_of arguments.now) }
 {
-    arguments.get_str(AREA).is_some() && keep_of(arguments).is_some()
-}
-
-/// Whether crossings are counted.
-fn has_crossings(arguments: &ArgMatches<'_>) -> bool
-    ensures { result ≡ crossings_in (entries_of arguments.now) }
-{
-    text_of(arguments, CROSSINGS) == "true"
-}
-
-/// Whether the run is explained in words.
-fn is_explained(arguments: &ArgMatches<'_>) -> bool
-    ensures { result ≡ explains_in (entries_of arguments.now) }
-{
-    text_of(arguments, EXPLAIN) == "true"
-}
-
-/// Whether the report is left out where all is done.
-fn is_quiet(arguments: &ArgMatches<'_>) -> bool
-    ensures { result ≡ quiet_in (entries_of arguments.now) }
-{
-    text_of(arguments, QUIET) == "true"
+    given(arguments, AREA).is_some() && given(arguments, KEEP).is_some()
 }
 
 /// What the command that builds a topology asks for, unless it is given an area and a share both.
@@ -234,13 +170,13 @@ fn build_request<'a>(
     }
     let grid = grid_of(arguments)?;
     let words = arguments.get_strs(LAYERS).unwrap_or(&[]);
-    let layers = names_and_paths(alloc, words, is_explained(arguments))?;
-    let exact = is_exact(arguments);
-    let area = area_of(arguments);
-    let keep = keep_of(arguments);
-    let ring_area = ring_area_of(arguments);
-    let no_crossings = has_no_crossings(arguments);
-    let keep_shapes = has_keep_shapes(arguments);
+    let layers = names_and_paths(alloc, words, is_set(arguments, EXPLAIN))?;
+    let exact = is_set(arguments, EXACT);
+    let area = text_or(arguments, AREA, "0");
+    let keep = given(arguments, KEEP);
+    let ring_area = text_or(arguments, RING_AREA, "0");
+    let no_crossings = is_set(arguments, NO_CROSSINGS);
+    let keep_shapes = is_set(arguments, KEEP_SHAPES);
     Ok(Some(Request::Build {
         layers,
         exact,
@@ -262,12 +198,12 @@ fn simplify_request<'a>(arguments: &ArgMatches<'a>) -> Option<Request<'a>>
         return None;
     }
     Some(Request::Simplify {
-        area: area_of(arguments),
-        keep: keep_of(arguments),
-        ring_area: ring_area_of(arguments),
-        no_crossings: has_no_crossings(arguments),
-        keep_shapes: has_keep_shapes(arguments),
-        path: text_of(arguments, FILE),
+        area: text_or(arguments, AREA, "0"),
+        keep: given(arguments, KEEP),
+        ring_area: text_or(arguments, RING_AREA, "0"),
+        no_crossings: is_set(arguments, NO_CROSSINGS),
+        keep_shapes: is_set(arguments, KEEP_SHAPES),
+        path: text_or(arguments, FILE, ""),
     })
 }
 
@@ -278,9 +214,9 @@ fn geo_request<'a>(arguments: &ArgMatches<'a>) -> Option<Request<'a>>
 {
     let most = most_of(arguments)?;
     Some(Request::Geo {
-        name: text_of(arguments, OBJECT),
+        name: text_or(arguments, OBJECT, ""),
         most,
-        path: text_of(arguments, FILE),
+        path: text_or(arguments, FILE, ""),
     })
 }
 
@@ -305,8 +241,8 @@ fn request_in<'a>(
         return Ok(geo_request(arguments));
     }
     if name == STAT {
-        let crossings = has_crossings(arguments);
-        let path = text_of(arguments, FILE);
+        let crossings = is_set(arguments, CROSSINGS);
+        let path = text_or(arguments, FILE, "");
         return Ok(Some(Request::Stat { crossings, path }));
     }
     Ok(None)
@@ -374,10 +310,10 @@ fn read_by<'a>(
         if let Some(request) = request_in(alloc, name, arguments)? {
             return Ok(Order {
                 request,
-                output: output_of(arguments),
-                report: report_of(arguments),
-                explains: is_explained(arguments),
-                quiet: is_quiet(arguments),
+                output: given(arguments, OUTPUT),
+                report: given(arguments, REPORT),
+                explains: is_set(arguments, EXPLAIN),
+                quiet: is_set(arguments, QUIET),
             });
         }
     }

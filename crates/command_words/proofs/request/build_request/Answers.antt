@@ -35,13 +35,13 @@ returns-clause-asked c =
     let rows = entries_of c.args.arguments.now in
     let one = sym c.has_both.ensures ∙ c.if-has_both.false in
     let texts = read_all_or (found_of c.args.arguments.now) (codes "layers") c.get_strs.result c.unwrap_or-words.result _ c.get_strs.ensures c.unwrap_or-words.ensures refl in
-    build_asked rows c.in_ok-grid.grid _ c.is_exact-exact.result _ _ _ c.has_no_crossings-no_crossings.result c.has_keep_shapes-keep_shapes.result one c.in_ok-grid.ensures.grid (ap layers_of (sym texts) ∙ c.in_ok-layers.ensures.layers)
-    c.is_exact-exact.ensures c.area_of-area.ensures c.keep_of-keep.ensures c.ring_area_of-ring_area.ensures c.has_no_crossings-no_crossings.ensures c.has_keep_shapes-keep_shapes.ensures
+    build_asked rows c.in_ok-grid.grid _ c.is_set-exact.result _ _ _ c.is_set-no_crossings.result c.is_set-keep_shapes.result one c.in_ok-grid.ensures.grid (ap layers_of (sym texts) ∙ c.in_ok-layers.ensures.layers)
+    c.is_set-exact.ensures c.text_or-area.ensures c.given-keep.ensures c.text_or-ring_area.ensures c.is_set-no_crossings.ensures c.is_set-keep_shapes.ensures
 
 pub returns-in_err-layers-clause-fault : goal.returns-in_err-layers-clause-fault
 returns-in_err-layers-clause-fault c =
     let rows = entries_of c.args.arguments.now in
     let one = sym c.has_both.ensures ∙ c.if-has_both.false in
     let texts = read_all_or (found_of c.args.arguments.now) (codes "layers") c.get_strs.result c.unwrap_or-words.result _ c.get_strs.ensures c.unwrap_or-words.ensures refl in
-    let fact : IsBuildFault rows c.in_err-layers.field-0.0 = layers_fault rows c.in_ok-grid.grid _ c.in_err-layers.field-0.0 one c.in_ok-grid.ensures.grid texts (rw c.is_explained.ensures at c.in_err-layers.ensures.fault) in
+    let fact : IsBuildFault rows c.in_err-layers.field-0.0 = layers_fault rows c.in_ok-grid.grid _ c.in_err-layers.field-0.0 one c.in_ok-grid.ensures.grid texts (rw c.is_set.ensures at c.in_err-layers.ensures.fault) in
     search (rules, fact)

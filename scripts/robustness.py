@@ -233,6 +233,7 @@ def try_inputs():
     expect("a word that isn't UTF-8", "error: a word is not UTF-8, status 2", fault_of("stat \"$(printf '\\377')\""))
     expect("a file with no end", "error: F2 TooLong, status 1", fault_of("stat /dev/zero"))
     expect("a layer with no end", "error: layer 0 F2 TooLong, status 1", fault_of("build a=/dev/zero"))
+    try_long_file()
     expect("an empty device", "error: J2 Malformed, status 1", fault_of("stat /dev/null"))
     os.mkfifo("pipe")
     for name, parts, wanted in (
@@ -252,6 +253,22 @@ def try_inputs():
         write("named", topology(json.dumps(word, ensure_ascii=word == "\x1b[31m") + ':{"type":"LineString","arcs":[0]}', segment(0)))
         run = subprocess.run([PROGRAM, "geo", "--explain", "--object", "no", "named"], capture_output=True, timeout=120)
         expect(f"a name that a terminal obeys, {shown}", (1, True, False), (run.returncode, shown in run.stderr.decode(), word in run.stderr.decode()))
+
+
+def try_long_file():
+    """A file that says that it has more bytes than are taken is refused before it is read: there is no memory for a hundredth of it."""
+    with open("long", "wb") as long:
+        long.truncate(10**9 + 1)
+    write("cut-off", LINE[:20])
+    for words, wanted in (
+        ("stat long", "error: F2 TooLong, status 1"),
+        ("simplify long", "error: F2 TooLong, status 1"),
+        ("build a=line b=long", "error: layer 1 F2 TooLong, status 1"),
+        ("build a=cut-off b=long", "error: layer 0 J2 Malformed, status 1"),
+    ):
+        ended = shell(f'(ulimit -v 40000; "$P" {words} 2>err); s=$?; cat err; echo "status $s"').replace("\n", ", ")
+        expect(f"{words}, of 10^9 bytes and one", wanted, ended)
+    os.remove("long")
 
 
 # What a terminal obeys of the words above.
@@ -718,7 +735,7 @@ def try_chosen():
 PARTS = (
     (try_depths, 80, 80),
     (try_outputs, 31, 31),
-    (try_inputs, 25, 25),
+    (try_inputs, 29, 29),
     (try_sizes, 384, 128),
     (try_nested, 108, 108),
     (try_chosen, 41, 34),

@@ -1,5 +1,5 @@
 -- What contracts see of the two ends: a source's and a sink's bytes, counts and failures, and what a push does.
-use Rattle.std.specs.Prelude.{◌≡◌, ℕ, ◌+◌, ◌-◌, ◌^◌, ◌<◌, ◌≤◌, min, Bool, true, false, List, length, take, Option, Result, MatchResult}
+use Rattle.std.specs.Prelude.{◌≡◌, ◌⊎◌, ℕ, ◌+◌, ◌-◌, ◌^◌, ◌<◌, ◌≤◌, min, Bool, true, false, List, length, take, Option, Result, MatchResult}
 use Rattle.std.specs.Io.KnownBytes.{Appends, Consumes}
 
 -- a count in a `u64` that stays at the largest one
@@ -54,6 +54,10 @@ block_size = 2 ^ 16
 abbrev pub GavePast : ℕ → Fed → Fed → Type 0
 GavePast limit old new = (given : List ℕ) × Consumes old.left new.left given × (limit < length given) × (length given ≤ limit + block_size)
     × (new.giving_reads ≤ old.giving_reads + limit + 1)
+
+-- it was known to have more left than the limit, and wasn't read, or it gave more
+abbrev pub IsPast : ℕ → Fed → Fed → Type 0
+IsPast limit old new = (new ≡ old) ⊎ GavePast limit old new
 
 -- what contracts see of the calls of a device that takes bytes: how many failed, whether all that it took is passed on, and whether
 -- it was called again after a failure

@@ -1,5 +1,5 @@
 // Where bytes come from.
-ghost use Rattle.std.specs.Prelude.{◌≡◌, ℕ, List, Option, None};
+ghost use Rattle.std.specs.Prelude.{◌≡◌, ◌<◌, ◌≤◌, ℕ, List, Option, None, IfSome, length, true};
 ghost use Rattle.std.specs.Io.{ReadsAtMost};
 ghost use Rattle.std.specs.Io.KnownBytes.{ReadConsumes};
 ghost use Rattle.byte_ends.specs.Ends.{CountsEmpty, CountsFailure, CountsGiving};
@@ -36,6 +36,10 @@ pub trait Feed {
         ensures giving { CountsGiving (giving_reads self.old) result (giving_reads self.new) }
         ensures empty { CountsEmpty (empty_reads self.old) result (empty_reads self.new) };
 
+    /// Whether it is known, without a read, that more bytes are left than that.
+    fn has_more_than(&self, limit: usize) -> bool
+        ensures { result ≡ true → IfSome (left self.now) (λ bytes. limit < length bytes) };
+
     /// How many reads failed: a count that stays at `u64::MAX` once it is there.
     fn failures(&self) -> u64
         ensures { result ≡ failures self.now };
@@ -46,12 +50,15 @@ pub trait Feed {
 #[derive(Drop)]
 pub struct FromRead<R: Read> {
     inner: R,
+    /// How many bytes it is known to have left at least: nothing is known once it was read.
+    least: u64,
     failures: u64,
     giving_reads: u64,
     empty_reads: u64,
 }
 
 impl<R: Read> Model for FromRead<R> {
+    ghost use Rattle.std.specs.Prelude.{◌≤◌, IfSome, length};
     ghost use Rattle.byte_ends.specs.Ends.{Fed};
 
     ghost Value = { Fed };
@@ -62,6 +69,8 @@ impl<R: Read> Model for FromRead<R> {
       giving_reads = s.giving_reads;
       empty_reads = s.empty_reads;
     } };
+
+    ghost invariant = { λ s. IfSome (R.remaining s.inner) (λ bytes. s.least ≤ length bytes) };
 }
 
 impl<R: Read> FromRead<R> {
@@ -72,8 +81,20 @@ impl<R: Read> FromRead<R> {
         ensures giving { result.giving_reads ≡ 0 }
         ensures empty { result.empty_reads ≡ 0 }
     {
+        FromRead::with_least(inner, 0)
+    }
+
+    /// The same of a reader that has so many bytes left, or more.
+    pub fn with_least(inner: R, least: u64) -> FromRead<R>
+        requires { IfSome (R.remaining inner) (λ bytes. least ≤ length bytes) }
+        ensures left { result.left ≡ R.remaining inner }
+        ensures failures { result.failures ≡ 0 }
+        ensures giving { result.giving_reads ≡ 0 }
+        ensures empty { result.empty_reads ≡ 0 }
+    {
         FromRead {
             inner,
+            least,
             failures: 0,
             giving_reads: 0,
             empty_reads: 0,
@@ -91,6 +112,7 @@ impl<R: Read> Feed for FromRead<R> {
     ghost empty_reads = { λ s. s.empty_reads };
 
     fn read(&mut self, buf: &mut [u8]) -> Result<usize, Failed> {
+        self.least = 0;
         let given = read_uninterrupted(&mut self.inner, buf);
         match given {
             Ok(0) => self.empty_reads = self.empty_reads.saturating_add(1),
@@ -98,6 +120,10 @@ impl<R: Read> Feed for FromRead<R> {
             Err(Failed) => self.failures = self.failures.saturating_add(1),
         }
         given
+    }
+
+    fn has_more_than(&self, limit: usize) -> bool {
+        self.least > limit as u64
     }
 
     fn failures(&self) -> u64 {

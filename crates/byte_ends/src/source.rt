@@ -1,8 +1,8 @@
 // A source of bytes, and all that it has left.
-ghost use Rattle.std.specs.Prelude.{◌≡◌, ◌≢◌, ◌+◌, ◌<◌, ◌≤◌, IfOk, IfSome, OnOk, length, vec_len};
+ghost use Rattle.std.specs.Prelude.{◌≡◌, ◌≢◌, ◌+◌, ◌<◌, ◌≤◌, IfOk, IfSome, OnOk, length, true, vec_len};
 ghost use Rattle.std.specs.Io.{ReadsAtMost};
 ghost use Rattle.std.specs.Io.KnownBytes.{IsAtEnd, ReadConsumes};
-ghost use Rattle.byte_ends.specs.Ends.{CountsEmpty, CountsEnd, CountsFailure, CountsGiving, GaveAtMost, GavePast, saturated};
+ghost use Rattle.byte_ends.specs.Ends.{CountsEmpty, CountsEnd, CountsFailure, CountsGiving, GaveAtMost, IsPast, saturated};
 
 use crate::feed::{Failed, Feed};
 use std::alloc::{AllocError, Global};
@@ -53,6 +53,12 @@ impl<R: Feed> Source<R> {
         self.feed.failures()
     }
 
+    fn has_more_than(&self, limit: usize) -> bool
+        ensures { result ≡ true → IfSome self.now.left (λ bytes. limit < length bytes) }
+    {
+        self.feed.has_more_than(limit)
+    }
+
     fn read(&mut self, buf: &mut [u8]) -> Result<usize, Failed>
         ensures bound { ReadsAtMost result buf.new }
         ensures bytes { ReadConsumes self.old.left self.new.left result buf.new }
@@ -88,8 +94,8 @@ impl From<AllocError> for ReadFault {
     }
 }
 
-/// All bytes that the source has left, if they are no more than `limit`. The first failed read ends it, and so does the
-/// first read that passes the limit, which gives 65,536 bytes at most; what was read until then is lost. At most `limit` + 1
+/// All bytes that the source has left, if they are no more than `limit`. Where more are known to be left, nothing is read. The first failed read ends
+/// it, and so does the first read that passes the limit, which gives 65,536 bytes at most; what was read until then is lost. At most `limit` + 1
 /// reads give bytes, and one at most gives none or fails: the last.
 pub fn read_all<R: Feed>(
     alloc: Global,
@@ -105,10 +111,13 @@ pub fn read_all<R: Feed>(
         → source.new.failures ≡ saturated (source.old.failures + 1) }
     // No call of the device follows the first one that fails or passes the limit.
     ensures within { result ≢ Err ReadFault.TooLong → GaveAtMost limit source.old source.new }
-    ensures past { result ≡ Err ReadFault.TooLong → GavePast limit source.old source.new }
+    ensures past { result ≡ Err ReadFault.TooLong → IsPast limit source.old source.new }
     ensures ends { CountsEnd source.old.empty_reads result source.new.empty_reads }
     ensures sound { result ≢ Err ReadFault.Read → source.new.failures ≡ source.old.failures }
 {
+    if source.has_more_than(limit) {
+        return Err(ReadFault::TooLong);
+    }
     let mut room = zeros(alloc, BLOCK)?;
     let block = room.as_mut_slice();
     let mut bytes = Vec::new(alloc);

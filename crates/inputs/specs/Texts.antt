@@ -2,7 +2,7 @@
 use Rattle.std.specs.Prelude.{◌≡◌, ◌⊎◌, ℕ, ◌+◌, ◌^◌, ◌<◌, ◌≤◌, List, length, IfSome, Result, Ok, Err, IsUtf8}
 use Rattle.std.specs.Io.KnownBytes.{IsAtEnd}
 use Rattle.std.specs.Str.Lossy.{utf8_valid_len}
-use Rattle.byte_ends.specs.Ends.{Fed, GaveAtMost, GavePast, saturated}
+use Rattle.byte_ends.specs.Ends.{Fed, GaveAtMost, IsPast, saturated}
 use Rattle.byte_ends.specs.declared.source.ReadFault.{ReadFault}
 use Rattle.byte_ends.specs.declared.source.ReadFault.TheVariants as read
 use Rattle.json_reading.specs.declared.fault.JsonFault.{JsonFault}
@@ -37,10 +37,10 @@ pub record IsRead (old new : Fed) (bytes : List ℕ) : Type 0 where
   pub untroubled : IsUntroubled old new
 
 -- Why the source wasn't read to its end: its device failed when it had given no more bytes than an input may have, or it had more of
--- them left, and gave at most a block past these. Each read before that gave bytes.
+-- them left, and wasn't read, where that was known, or gave at most a block past these. Each read before that gave bytes.
 abbrev pub FailsToEnd : Fed → Fed → ReadFault → Type 0
 FailsToEnd old new read.Read = (new.failures ≡ saturated (old.failures + 1)) × GaveAtMost max_input old new × (new.empty_reads ≡ old.empty_reads)
-FailsToEnd old new read.TooLong = (new.failures ≡ old.failures) × IfSome old.left (λ left. max_input < length left) × GavePast max_input old new
+FailsToEnd old new read.TooLong = (new.failures ≡ old.failures) × IfSome old.left (λ left. max_input < length left) × IsPast max_input old new
     × (new.empty_reads ≡ old.empty_reads)
 FailsToEnd old new read.Memory = ⊥
 

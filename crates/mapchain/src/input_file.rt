@@ -1,6 +1,5 @@
 // A file that is read: one of the file system, or standard input.
-use crate::file_identity::FileIdentity;
-use std::fs::File;
+use std::fs::{File, Metadata};
 use std::io::{Read, Stdin};
 use std::os::unix::fs::FileTypeExt;
 use std::{fs, io};
@@ -31,10 +30,10 @@ impl InputFile {
         Ok(InputFile::Opened(File::open(rt, path)?))
     }
 
-    /// Which file it is, if it is one of the file system.
-    pub(crate) fn identity(&self) -> io::Result<Option<FileIdentity>> {
+    /// What the system says of it, if it is a file of the file system.
+    pub(crate) fn metadata(&self) -> io::Result<Option<Metadata>> {
         match self {
-            InputFile::Opened(file) => Ok(Some(FileIdentity::of(&file.metadata()?))),
+            InputFile::Opened(file) => Ok(Some(file.metadata()?)),
             InputFile::Socket(_) => Ok(None),
         }
     }

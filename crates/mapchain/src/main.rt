@@ -11,8 +11,8 @@ mod system_errors;
 
 use byte_ends::{Sink, ToWrite};
 use file_limit::FileLimit;
-use mapchain_cli::command;
-use part_file::PartFile;
+use mapchain_cli::{WriteFailure, command};
+use part_file::{Destination, PartFile};
 use std::cell::Cell;
 use std::io::{BufWriter, ErrorKind};
 use std::process::ExitCode;
@@ -40,13 +40,16 @@ fn refuse(rt: &HostRuntime, error: &io::Error) -> ExitCode {
     ExitCode::from(3)
 }
 
-/// A buffer of this size before a standard stream that is open.
+/// A standard stream with a buffer of this size before it.
 fn buffered<'a>(
     rt: &HostRuntime,
     size: usize,
-    stream: io::Result<PartFile<'a>>,
+    stream: Destination,
+    limit: FileLimit,
+    failure: &'a Cell<Option<WriteFailure>>,
 ) -> io::Result<BufWriter<PartFile<'a>>> {
-    BufWriter::with_capacity(rt.alloc(), size, stream?)
+    let stream = PartFile::to(rt, stream, limit, failure)?;
+    BufWriter::with_capacity(rt.alloc(), size, stream)
 }
 
 fn main(rt: HostRuntime) -> ExitCode {
@@ -60,16 +63,10 @@ fn main(rt: HostRuntime) -> ExitCode {
     let error_failure = Cell::new(None);
     let file_failure = Cell::new(None);
     let limit = FileLimit::of_process(&rt);
-    let stdout = buffered(
-        &rt,
-        OUT_BUFFER,
-        PartFile::output(&rt, limit, &stream_failure),
-    );
-    let stderr = buffered(
-        &rt,
-        ERROR_BUFFER,
-        PartFile::error(&rt, limit, &error_failure),
-    );
+    let output = Destination::Output(rt.stdout());
+    let error = Destination::Error(rt.stderr());
+    let stdout = buffered(&rt, OUT_BUFFER, output, limit, &stream_failure);
+    let stderr = buffered(&rt, ERROR_BUFFER, error, limit, &error_failure);
     let (Ok(stdout), Ok(stderr)) = (stdout, stderr) else {
         return ExitCode::from(3);
     };

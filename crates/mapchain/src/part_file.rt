@@ -49,7 +49,7 @@ pub(crate) struct Target {
 
 /// Where bytes are put.
 #[derive(Drop)]
-enum Destination {
+pub(crate) enum Destination {
     New(NewFile),
     Device(File),
     Output(Stdout),
@@ -162,7 +162,7 @@ impl Target {
 impl Destination {
     /// What is to be written for a target. A regular file is replaced by a new one; where it was named by a symbolic link, the link stays. A device
     /// is opened as it is, and a standard stream is open.
-    fn of(rt: &HostRuntime, target: &Target) -> io::Result<Destination> {
+    pub(crate) fn of(rt: &HostRuntime, target: &Target) -> io::Result<Destination> {
         let path = target.path.as_str();
         match target.kind {
             TargetKind::New => Ok(Destination::New(NewFile::beside(rt, path, false)?)),
@@ -209,7 +209,7 @@ impl Destination {
 
 impl<'a> PartFile<'a> {
     /// What is put there, where files may have this length.
-    fn to(
+    pub(crate) fn to(
         rt: &HostRuntime,
         destination: Destination,
         limit: FileLimit,
@@ -221,34 +221,6 @@ impl<'a> PartFile<'a> {
             limit,
             failure,
         })
-    }
-
-    /// What is to be written for a target.
-    pub(crate) fn of(
-        rt: &HostRuntime,
-        target: &Target,
-        limit: FileLimit,
-        failure: &'a Cell<Option<WriteFailure>>,
-    ) -> io::Result<PartFile<'a>> {
-        PartFile::to(rt, Destination::of(rt, target)?, limit, failure)
-    }
-
-    /// Standard output.
-    pub(crate) fn output(
-        rt: &HostRuntime,
-        limit: FileLimit,
-        failure: &'a Cell<Option<WriteFailure>>,
-    ) -> io::Result<PartFile<'a>> {
-        PartFile::to(rt, Destination::Output(rt.stdout()), limit, failure)
-    }
-
-    /// Standard error.
-    pub(crate) fn error(
-        rt: &HostRuntime,
-        limit: FileLimit,
-        failure: &'a Cell<Option<WriteFailure>>,
-    ) -> io::Result<PartFile<'a>> {
-        PartFile::to(rt, Destination::Error(rt.stderr()), limit, failure)
     }
 
     /// Takes the place of the target, once all of it is on the disk, and tells which file it is, if it is a regular one. On an error the target is as it was. A device or a

@@ -7,13 +7,13 @@ use crate::OUT_BUFFER;
 use crate::file_identity::FileIdentity;
 use crate::file_limit::FileLimit;
 use crate::input_file::InputFile;
-use crate::part_file::{PartFile, Target, file_of_output};
+use crate::part_file::{Destination, PartFile, Target, file_of_output};
 use crate::system_errors::{failure_of, is_full, kind_by};
 use byte_ends::{FromRead, Sink, Source, ToWrite};
 use mapchain_cli::{Counts, FileKind, Files, Notes, OwnText, WriteFailure};
 use std::alloc::AllocError;
 use std::cell::Cell;
-use std::fs::File;
+use std::fs::{File, Metadata};
 use std::hash::{BuildHasher, RandomState};
 use std::io::BufWriter;
 use std::time::{SystemTime, UNIX_EPOCH};
@@ -106,7 +106,7 @@ fn begin_target<'a>(
     limit: FileLimit,
     failure: &'a Cell<Option<WriteFailure>>,
 ) -> io::Result<BufWriter<PartFile<'a>>> {
-    let part = PartFile::of(rt, target, limit, failure)?;
+    let part = PartFile::to(rt, Destination::of(rt, target)?, limit, failure)?;
     BufWriter::with_capacity(rt.alloc(), OUT_BUFFER, part)
 }
 
@@ -173,11 +173,16 @@ fn kind_of(rt: &HostRuntime, path: &str) -> FileKind {
     }
 }
 
-// The file of this path, and which one it is, if that can be told.
-fn open(rt: &HostRuntime, path: &str) -> io::Result<(InputFile, Option<FileIdentity>)> {
+// How many bytes can be read of a file with this metadata at least, as far as it says. A regular file has a length; of others it says nothing.
+fn least_length(file: &Metadata) -> u64 {
+    if file.is_file() { file.len() } else { 0 }
+}
+
+// The file of this path, and what the system says of it, if it is one of the file system.
+fn open(rt: &HostRuntime, path: &str) -> io::Result<(InputFile, Option<Metadata>)> {
     let file = InputFile::open(rt, path)?;
-    let identity = file.identity()?;
-    Ok((file, identity))
+    let metadata = file.metadata()?;
+    Ok((file, metadata))
 }
 
 // A number that differs from run to run, where the system gives no random one: of the time and the process.
@@ -210,12 +215,13 @@ impl<'a> Files for System<'a> {
         let opened = open(&self.rt, path);
         self.counts.count_open(opened.is_ok());
         self.is_full = opened.as_ref().is_err_and(is_full);
-        let (file, identity) = opened.ok()?;
-        self.own.note_input(identity);
+        let (file, metadata) = opened.ok()?;
+        self.own.note_input(metadata.as_ref().map(FileIdentity::of));
+        let least = metadata.as_ref().map_or(0, least_length);
         if self.counts.outputs.begun == 0 {
             self.own.output = file_of_output(&self.rt);
         }
-        Some(Source::new(FromRead::new(file)))
+        Some(Source::new(FromRead::with_least(file, least)))
     }
 
     fn done_with(&mut self, source: &Source<FromRead<InputFile>>) {

@@ -18,6 +18,7 @@ import shutil
 import signal
 import socket
 import stat
+import struct
 import subprocess
 import sys
 import tempfile
@@ -245,6 +246,49 @@ def try_owners():
             os.chown("old", owner, group)
             os.chmod("old", mode)
     os.unlink("program")
+
+
+# The names under which the system keeps the access control lists of a file, and of a folder for new files.
+ACCESS, DEFAULT = "system.posix_acl_access", "system.posix_acl_default"
+
+
+def access_list(*entries):
+    """An access control list as the system keeps it, of what each may do: owner, another user, group, mask, others."""
+    return struct.pack("<I", 2) + b"".join(struct.pack("<HHI", *entry) for entry in entries)
+
+
+NOBODY = 2**32 - 1
+SHARED = access_list((1, 6, NOBODY), (2, 6, 2500), (4, 0, NOBODY), (16, 6, NOBODY), (32, 0, NOBODY))
+
+
+@functools.cache
+def can_list_access():
+    """Whether files have access control lists here."""
+    with tempfile.NamedTemporaryFile() as file:
+        try:
+            os.setxattr(file.name, ACCESS, SHARED)
+            return True
+        except OSError:
+            print("files have no access control lists here, and these aren't tried")
+            return False
+
+
+def try_access_lists():
+    """What becomes of an access control list: a new file has that of its folder, if there is one, and else none; what standard output goes to keeps its own."""
+    if not can_list_access():
+        return
+    for path, redirected, folders, wanted in (("old", "", None, []), ("old", "", SHARED, [ACCESS]), ("-", ">old", None, [ACCESS])):
+        with new_folder():
+            write("old", OLD)
+            os.setxattr("old", ACCESS, SHARED)
+            if folders is not None:
+                os.setxattr(".", DEFAULT, folders)
+            run = subprocess.run(["sh", "-c", f'"$0" build -q a=line -o {path} {redirected}', PROGRAM], capture_output=True, timeout=120)
+            name = f"-o {path} {redirected} with an access control list, {len(folders or b'')} bytes of its folder's"
+            expect(name, (0, b"", b""), (run.returncode, run.stdout, run.stderr))
+            expect(f"{name}: what is left", (wanted, 0o660, LINE_TOPOLOGY), (os.listxattr("old"), *what_is("old")[1:]))
+            if wanted:
+                expect(f"{name}: the list", SHARED, os.getxattr("old", ACCESS))
 
 
 def try_links():
@@ -829,6 +873,7 @@ PARTS = (
     (try_new_files, 898),
     (try_old_files, 680),
     (try_rights, 59 if IS_ROOT else 27),
+    (try_access_lists, 8 if can_list_access() else 0),
     (try_links, 267),
     (try_own_inputs, 48),
     (try_what_is_no_file, 364),

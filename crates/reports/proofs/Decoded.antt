@@ -1,5 +1,5 @@
 -- The positions that an object is decoded to, counted part by part.
-use Rattle.std.proofs.Common.{◌≡◌, ◌∙◌, ◌+◌, ◌-◌, ◌<◌, ◌≤◌, ◌⊎◌, inl, inr, ℕ, zero, suc, ℤ, pos, negsuc, Bool, true, false, List, [], ◌∷◌, ◌++◌, Option, None, Some, length, map, reverse, take, sym, ap, ap₂, max, drop, get_or, refl, arith, length-append}
+use Rattle.std.proofs.Common.{◌≡◌, ◌∙◌, ◌+◌, ◌-◌, ◌<◌, ◌≤◌, ◌⊎◌, inl, inr, ℕ, zero, suc, ℤ, pos, negsuc, Bool, true, false, List, [], ◌∷◌, Option, None, Some, length, map, take, sym, ap, ap₂, max, drop, get_or, refl, arith, length-append}
 use Rattle.std.proofs.lemmas.List.{length-reverse, length-map, take_all}
 use Rattle.std.specs.Prelude.{sum_by}
 use Rattle.std.proofs.lemmas.List.Sums.{sum_by-cons}
@@ -18,7 +18,7 @@ use Rattle.geojson_types.specs.Places.{features_points, option_points, shape_poi
 use Rattle.owned_values.proofs.Lists.{joined_append}
 use Rattle.topojson_types.specs.declared.feature.TopoFeature.{TopoFeature}
 use Rattle.topojson_types.specs.declared.transform.Transform.{Transform}
-use Rattle.topojson_types.specs.Decoding.{completed, decoded_feature, decoded_line, decoded_shape, filled, placed_arcs, repeated}
+use Rattle.topojson_types.specs.Decoding.{completed, decoded_feature, decoded_line, decoded_shape, placed_arcs, repeated}
 use Rattle.topojson_types.specs.Topologies.{Contents, TopoShape}
 use Rattle.topojson_types.specs.Transforms.{place, place_on}
 use Rattle.reports.specs.Positions.{feature_length, line_length, shape_length}

@@ -1,5 +1,5 @@
 -- Counting features that are lost.
-use Rattle.std.proofs.Common.{◌≡◌, ◌<◌, ◌^◌, ◌+◌, ℕ, List, [], ◌∷◌, arith, ap, length, sym, ◌∙◌}
+use Rattle.std.proofs.Common.{◌≡◌, ◌<◌, ◌^◌, ◌+◌, ℕ, List, [], ◌∷◌, arith, length, sym, ◌∙◌}
 use Rattle.std.proofs.Math.Nat.{min-eq_left}
 use Rattle.geometry.specs.declared.address.Dropped.{Dropped}
 use Rattle.topojson_types.specs.declared.object.TopoObject.{TopoObject}

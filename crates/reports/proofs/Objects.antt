@@ -1,5 +1,5 @@
 -- The texts of the objects, in the parts by which they are written.
-use Rattle.std.proofs.Common.{◌≡◌, ℕ, List, [], ◌∷◌, ◌++◌, ◌∙◌, append_assoc, ap, refl, sym}
+use Rattle.std.proofs.Common.{◌≡◌, ℕ, List, [], ◌∷◌, ◌++◌, ◌∙◌, append_assoc, ap, refl}
 use Rattle.std.specs.Prelude.{codes}
 use Rattle.json_value.specs.declared.json.Json.{Json}
 use Rattle.json_value.specs.declared.json.Json.TheVariants as j
@@ -14,19 +14,6 @@ in_row (m ∷ ms) closing = (m.0 ++ m.1) ++ in_row ms closing
 closed : (ms : List (List ℕ × List ℕ)) (closing : List ℕ) → in_row ms [] ++ closing ≡ in_row ms closing
 closed [] closing = refl
 closed (m ∷ ms) closing = append_assoc (m.0 ++ m.1) (in_row ms []) closing ∙ ap (λ z. (m.0 ++ m.1) ++ z) (closed ms closing)
-
--- a text is put behind `old`, up to `left`
-pub record UpTo (old now whole left : List ℕ) : Type 0 where
-  pub is : now ++ left ≡ old ++ whole
-
-pub starts : (old : List ℕ) {whole left : List ℕ} → whole ≡ left → UpTo old old whole left
-starts old e = record { is = ap (λ z. old ++ z) (sym e) }
-
-pub next : {old now new whole left : List ℕ} (part rest : List ℕ) → UpTo old now whole left → new ≡ now ++ part → left ≡ part ++ rest → UpTo old new whole rest
-next {old} {now} part rest up e f = record { is = rw e (append_assoc now part rest) ∙ (rw f at up.is) }
-
-pub last : {old now new whole left : List ℕ} → UpTo old now whole left → new ≡ now ++ left → new ≡ old ++ whole
-last up e = e ∙ up.is
 
 pub dropped-text : (layer feature path cause : Json)
     → json_text (j.Object ((codes "layer", layer) ∷ (codes "feature", feature) ∷ (codes "path", path) ∷ (codes "cause", cause) ∷ []))

@@ -1,5 +1,5 @@
 pub mod FaultLines
-pub mod Faults
+pub mod FaultRows
 pub mod Lines
 pub mod Losses
 pub mod LossLaws

@@ -1,5 +1,5 @@
 -- The features that are lost: a line or a ring of them isn't written, and nothing of their geometry is left.
-use Rattle.std.specs.Prelude.{ℕ, ℤ, ◌+◌, ◌==◌, ◌&&◌, not, Bool, true, false, List, [], ◌∷◌, Option, None, Some, if◌then◌else◌}
+use Rattle.std.specs.Prelude.{ℕ, ℤ, ◌+◌, ◌==◌, ◌&&◌, not, Bool, true, false, List, [], ◌∷◌, Option, None, Some}
 use Rattle.std.specs.List.{list_all, slice_get}
 use Rattle.byte_ends.specs.Ends.{saturated}
 use Rattle.geometry.specs.Points.{Point}

@@ -7,7 +7,7 @@ use Rattle.json_value.specs.declared.json.Json.TheVariants as j
 use Rattle.json_value.specs.Text.{json_text}
 use Rattle.reports.specs.Reports.{cause_text}
 use Rattle.reports.specs.declared.report.Report.{Report}
-use Rattle.reports.specs.Faults.{said}
+use Rattle.reports.specs.FaultRows.{of_run}
 use Rattle.reports.specs.Lines.{lines_value}
 use Rattle.reports.specs.Values.{number, number_or_null, text_or_null}
 use Rattle.reports.specs.declared.run_report.RunFault.{RunFault}
@@ -18,12 +18,12 @@ use Rattle.reports.specs.declared.run_report.RunReport.{RunReport}
 -- a fault: its code and name, and the numbers that it has
 abbrev pub fault_value : RunFault → Json
 fault_value f = j.Object (
-    (codes "code", text_or_null (said f).code)
-    ∷ (codes "name", j.Text (said f).name)
-    ∷ (codes "layer", number_or_null (said f).layer)
-    ∷ (codes "feature", number_or_null (said f).feature)
-    ∷ (codes "at", number_or_null (said f).at)
-    ∷ (codes "sent", number_or_null (said f).sent)
+    (codes "code", text_or_null (of_run f).code)
+    ∷ (codes "name", j.Text (of_run f).name)
+    ∷ (codes "layer", number_or_null (of_run f).layer)
+    ∷ (codes "feature", number_or_null (of_run f).feature)
+    ∷ (codes "at", number_or_null (of_run f).at)
+    ∷ (codes "sent", number_or_null (of_run f).sent)
     ∷ [])
 
 abbrev pub fault_or_null : Option RunFault → Json

@@ -9,7 +9,7 @@
 mod counting;
 mod explanation_writer;
 mod fault_line;
-mod fault_members;
+mod fault_row;
 mod fault_writer;
 mod laws;
 mod losing;

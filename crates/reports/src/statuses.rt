@@ -1,8 +1,8 @@
 // The exit statuses.
 ghost use Rattle.std.specs.Prelude.{◌≡◌};
-ghost use Rattle.reports.specs.Statuses.{file_status_of, read_status_of, status_of};
+ghost use Rattle.reports.specs.Statuses.{file_status_of, status_of};
 
-use byte_ends::ReadFault;
+use crate::fault_row::{of_build, of_file};
 use inputs::{BuildFault, FileFault};
 
 /// What was asked for is done.
@@ -22,12 +22,7 @@ pub const FAILED: u8 = 3;
 pub fn status(fault: &BuildFault) -> u8
     ensures { result ≡ status_of fault.now }
 {
-    match fault {
-        BuildFault::EmptyName { .. } | BuildFault::DuplicateName { .. } => WORDS_REFUSED,
-        BuildFault::Read { fault, .. } => read_status(*fault),
-        BuildFault::Json { .. } | BuildFault::Geo { .. } => INPUT_REFUSED,
-        BuildFault::Write { .. } | BuildFault::Memory => FAILED,
-    }
+    of_build(fault).status
 }
 
 /// The exit status after the file of a topology was used and it ended so: 1 for a file that is refused, has no object of the name or
@@ -35,20 +30,5 @@ pub fn status(fault: &BuildFault) -> u8
 pub fn file_status(fault: &FileFault) -> u8
     ensures { result ≡ file_status_of fault.now }
 {
-    match fault {
-        FileFault::Read(fault) => read_status(*fault),
-        FileFault::Json(_) | FileFault::Topo(_) => INPUT_REFUSED,
-        FileFault::NoObject | FileFault::ManyPositions { .. } => INPUT_REFUSED,
-        FileFault::Write { .. } | FileFault::Memory => FAILED,
-    }
-}
-
-/// The exit status where a file couldn't be read to its end.
-fn read_status(fault: ReadFault) -> u8
-    ensures { result ≡ read_status_of fault }
-{
-    match fault {
-        ReadFault::TooLong => INPUT_REFUSED,
-        ReadFault::Read | ReadFault::Memory => FAILED,
-    }
+    of_file(fault).status
 }

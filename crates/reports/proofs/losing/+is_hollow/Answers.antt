@@ -3,7 +3,7 @@ use Rattle.geometry.specs.declared.shape.Geometry.TheVariants as g
 use Rattle.geojson_types.specs.Nesting.{nesting}
 use Rattle.topojson_types.proofs.Parts.{member_nests}
 use Rattle.reports.specs.Losses.{is_hollow}
-use Rattle.reports.proofs.Hollow.{all_hollow, not_hollow, of_area, of_areas, of_group, of_line, of_lines, of_point, of_points}
+use Rattle.reports.proofs.Hollow.{all_hollow, not_hollow, of_area, of_areas, of_line, of_lines, of_point, of_points}
 use Rattle.reports.proofs.losing.+is_hollow.Goals as goal
 
 pub is_hollow-requires : goal.is_hollow-requires

@@ -1,9 +1,0 @@
-use Rattle.std.proofs.Common.{rules, sym}
-use Rattle.reports.proofs.fault_line.write_file_fault.Goals as goal
-
-pub returns : goal.returns
-returns g c =
-    let stood = c.put_file_fault.ensures.kept _ c.over-out.ensures.begins in
-    let same = sym stood.same in
-    let wrote = c.end.ensures _ stood in
-    search rules

@@ -1,5 +1,0 @@
-use Rattle.topojson_decoder.proofs.Repeating.{AreNew}
-use Rattle.topojson_decoder.proofs.repeats.few_before_repeat.Given as goal
-
-abbrev pub invariant-members : goal.invariant-members
-invariant-members g l = AreNew l.members l.index

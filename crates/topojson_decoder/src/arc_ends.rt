@@ -6,11 +6,12 @@ ghost use Rattle.json_cursor.specs.Arrays.{prefix_value};
 ghost use Rattle.geometry.specs.Points.{Point};
 ghost use Rattle.topojson_decoder.specs.ArcEnds.{EndsOfArcsSoFar, EndsSoFar, arc_ends, arc_ends_list, ends_from, more_ends, with_arc_ends, with_end};
 
+use crate::arrays::elements_at;
 use crate::grids::Grid;
 use crate::next_cells::{ByDifferences, ByPositions, NextCell};
 use crate::spelled_arcs::SpelledArcs;
 use geojson_types::Counts;
-use json_cursor::{Elements, Stop, folded_array_at};
+use json_cursor::{Elements, Stop};
 use json_value::Items;
 use std::alloc::{AllocError, Global};
 use std::marker::Model;
@@ -105,15 +106,7 @@ fn ends_at<'a, N: NextCell>(
         before: origin,
         count: 0,
     };
-    match folded_array_at::<Ends<N>>(
-        alloc,
-        depth_left,
-        start,
-        bytes,
-        TopoFault::WrongKind,
-        (),
-        counts,
-    ) {
+    match elements_at::<Ends<N>>(alloc, depth_left, start, bytes, counts) {
         Err(stop) => Err(stop),
         Ok((read, rest)) => {
             let count = read.count;
@@ -185,15 +178,7 @@ fn arc_ends_by<'a, N: NextCell>(
         list,
         positions: 0,
     };
-    match folded_array_at::<ArcsByEnds<N>>(
-        alloc,
-        depth_left,
-        start,
-        bytes,
-        TopoFault::WrongKind,
-        (),
-        counts,
-    ) {
+    match elements_at::<ArcsByEnds<N>>(alloc, depth_left, start, bytes, counts) {
         Err(stop) => Err(stop),
         Ok((read, rest)) => {
             let positions = read.positions;

@@ -14,12 +14,13 @@ ghost use Rattle.topojson_decoder.specs.Cells.{ArcsSoFar, CellsSoFar, with_arc, 
 ghost use Rattle.topojson_decoder.specs.Kept.{kept_arc_list};
 
 use crate::arc_ends::{KeptArcs, arc_ends_at};
+use crate::arrays::elements_at;
 use crate::grids::Grid;
 use crate::keeping::Keeping;
 use crate::next_cells::{ByDifferences, ByPositions, NextCell};
 use crate::spelled_arcs::SpelledArcs;
 use geojson_types::Counts;
-use json_cursor::{Elements, Stop, folded_array_at};
+use json_cursor::{Elements, Stop};
 use json_value::Items;
 use std::alloc::{AllocError, Global};
 use std::marker::Model;
@@ -108,15 +109,7 @@ fn arc_through<'a, N: NextCell>(
         before: Cell::at(0, 0),
         list,
     };
-    match folded_array_at::<Cells<N>>(
-        alloc,
-        depth_left,
-        start,
-        bytes,
-        TopoFault::WrongKind,
-        (),
-        counts,
-    ) {
+    match elements_at::<Cells<N>>(alloc, depth_left, start, bytes, counts) {
         Err(stop) => Err(stop),
         Ok((read, rest)) => {
             let cells = read.list;
@@ -296,15 +289,7 @@ fn spelled_arcs_at<'a>(
                 arcs: SpelledArcs::none(alloc, texts),
                 used,
             };
-            arcs_alone(folded_array_at(
-                alloc,
-                depth_left,
-                start,
-                bytes,
-                TopoFault::WrongKind,
-                (),
-                counts,
-            ))
+            arcs_alone(elements_at(alloc, depth_left, start, bytes, counts))
         }
         Some(transform) => {
             let grid = Grid::of_many(transform);
@@ -313,15 +298,7 @@ fn spelled_arcs_at<'a>(
                 arcs: SpelledArcs::none(alloc, false),
                 used,
             };
-            arcs_alone(folded_array_at(
-                alloc,
-                depth_left,
-                start,
-                bytes,
-                TopoFault::WrongKind,
-                (),
-                counts,
-            ))
+            arcs_alone(elements_at(alloc, depth_left, start, bytes, counts))
         }
     }
 }

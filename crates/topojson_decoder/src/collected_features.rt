@@ -75,21 +75,14 @@ fn feature_into<'a>(
 fn kept_feature_at<'a>(
     alloc: Global,
     depth_left: u32,
-    keeping: Keeping,
-    transform: Option<&'a Transform>,
-    arcs: &'a [Items<Cell>],
+    by: Start<'a>,
     bytes: &'a [u8],
     counts: &mut Counts,
 ) -> Result<(TopoFeature, &'a [u8]), Stop<TopoFault>>
-    ensures { Answers (λ x. x) (kept_feature keeping (option_copied transform.entry) arcs.now) (prefix_value depth_left bytes.now) counts.old counts.new result }
+    ensures { Answers (λ x. x) (kept_feature by.entry.keeping (option_copied by.entry.transform) by.entry.arcs.now) (prefix_value depth_left bytes.now) counts.old counts.new result }
 {
-    let start = Start {
-        transform,
-        arcs,
-        counts: *counts,
-        keeping,
-    };
     let mut occurrence = FeatureParts::none();
+    let start = by.after(*counts);
     feature_into(alloc, depth_left, &mut occurrence, bytes, start, counts)
 }
 
@@ -105,15 +98,13 @@ pub fn feature_at<'a>(
 ) -> Result<(TopoFeature, &'a [u8]), Stop<TopoFault>>
     ensures { Answers (λ x. x) (feature_element (option_copied transform.entry) arcs.now) (prefix_value depth_left bytes.now) counts.old counts.new result }
 {
-    kept_feature_at(
-        alloc,
-        depth_left,
-        Keeping::Whole(None),
+    let start = Start {
         transform,
         arcs,
-        bytes,
-        counts,
-    )
+        counts: *counts,
+        keeping: Keeping::Whole(None),
+    };
+    kept_feature_at(alloc, depth_left, start, bytes, counts)
 }
 
 /// Lists one more feature of a collection, unless these are counted alone.
@@ -136,29 +127,19 @@ fn list_feature(
 fn features_after<'a>(
     alloc: Global,
     depth_left: u32,
-    keeping: Keeping,
-    transform: Option<&'a Transform>,
-    arcs: &'a [Items<Cell>],
+    by: Start<'a>,
     inside: &'a [u8],
     counts: &mut Counts,
 ) -> Result<((Vec<TopoFeature>, usize), &'a [u8]), Stop<TopoFault>>
-    ensures { Answers (λ x. record { list = x.0.items; count = x.1 }) (kept_elements keeping (option_copied transform.entry) arcs.now) (prefix_elements depth_left (length inside.now) inside.now) counts.old counts.new result }
+    ensures { Answers (λ x. record { list = x.0.items; count = x.1 }) (kept_elements by.entry.keeping (option_copied by.entry.transform) by.entry.arcs.now) (prefix_elements depth_left (length inside.now) inside.now) counts.old counts.new result }
 {
     let mut read = Vec::new(alloc);
     let mut rest = inside;
     'features: for before in 0..inside.len() {
-        match kept_feature_at(
-            alloc,
-            depth_left,
-            keeping,
-            transform,
-            arcs,
-            skip(rest),
-            counts,
-        ) {
+        match kept_feature_at(alloc, depth_left, by, skip(rest), counts) {
             Err(stop) => return Err(stop),
             Ok((feature, following)) => {
-                list_feature(keeping, feature, &mut read)?;
+                list_feature(by.keeping, feature, &mut read)?;
                 let (mark, more) = mark_at(following);
                 match mark {
                     Mark::Neither => return Err(Stop::NoValue),
@@ -176,13 +157,11 @@ fn features_after<'a>(
 pub(crate) fn features_at<'a>(
     alloc: Global,
     depth_left: u32,
-    keeping: Keeping,
-    transform: Option<&'a Transform>,
-    arcs: &'a [Items<Cell>],
+    by: Start<'a>,
     bytes: &'a [u8],
     counts: &mut Counts,
 ) -> Result<(KeptFeatures, &'a [u8]), Stop<TopoFault>>
-    ensures { Answers (λ x. x) (kept_features keeping (option_copied transform.entry) arcs.now) (prefix_value depth_left bytes.now) counts.old counts.new result }
+    ensures { Answers (λ x. x) (kept_features by.entry.keeping (option_copied by.entry.transform) by.entry.arcs.now) (prefix_value depth_left bytes.now) counts.old counts.new result }
 {
     let (opening, inside) = opening_at(depth_left, bytes);
     match opening {
@@ -196,7 +175,7 @@ pub(crate) fn features_at<'a>(
             Ok((none, inside))
         }
         Opening::Filled(below) => {
-            match features_after(alloc, below, keeping, transform, arcs, inside, counts) {
+            match features_after(alloc, below, by, inside, counts) {
                 Err(stop) => Err(stop),
                 Ok((read, rest)) => {
                     let (mut features, count) = read;

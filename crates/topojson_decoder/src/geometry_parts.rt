@@ -149,42 +149,22 @@ fn typed_at<'a>(
 }
 
 /// Whether the types are one.
-fn is_same_places(one: PlacesType, other: PlacesType) -> bool
-    ensures { result ≡ true → one ≡ other }
-{
-    match one {
-        PlacesType::Point => matches!(other, PlacesType::Point),
-        PlacesType::MultiPoint => matches!(other, PlacesType::MultiPoint),
-    }
-}
-
-/// Whether the types are one.
-fn is_same_arcs(one: ArcsType, other: ArcsType) -> bool
-    ensures { result ≡ true → one ≡ other }
-{
-    match one {
-        ArcsType::LineString => matches!(other, ArcsType::LineString),
-        ArcsType::MultiLineString => matches!(other, ArcsType::MultiLineString),
-        ArcsType::Polygon => matches!(other, ArcsType::Polygon),
-        ArcsType::MultiPolygon => matches!(other, ArcsType::MultiPolygon),
-    }
-}
-
-/// Whether the types are one.
 #[inline(always)]
 fn is_same(one: PartType, other: PartType) -> bool
     ensures { result ≡ true → one ≡ other }
 {
-    match one {
-        PartType::Places(one) => match other {
-            PartType::Places(other) => is_same_places(one, other),
-            PartType::Arcs(_) => false,
-        },
-        PartType::Arcs(one) => match other {
-            PartType::Places(_) => false,
-            PartType::Arcs(other) => is_same_arcs(one, other),
-        },
-    }
+    use ArcsType::{LineString, MultiLineString, MultiPolygon, Polygon};
+    use PartType::{Arcs, Places};
+    use PlacesType::{MultiPoint, Point};
+    matches!(
+        (one, other),
+        (Places(Point), Places(Point))
+            | (Places(MultiPoint), Places(MultiPoint))
+            | (Arcs(LineString), Arcs(LineString))
+            | (Arcs(MultiLineString), Arcs(MultiLineString))
+            | (Arcs(Polygon), Arcs(Polygon))
+            | (Arcs(MultiPolygon), Arcs(MultiPolygon))
+    )
 }
 
 impl Read {

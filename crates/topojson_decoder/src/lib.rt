@@ -9,6 +9,7 @@
 mod arc_ends;
 mod arcs;
 mod areas;
+mod arrays;
 mod cells;
 mod collected_features;
 mod escaping;

@@ -107,15 +107,7 @@ impl<'a> Members<'a> for NamedObjects {
             return Ok(rest);
         }
         let name = owned(alloc, name)?;
-        let answer = kept_object_at(
-            alloc,
-            depth_left,
-            with.keeping,
-            with.transform,
-            with.arcs,
-            value,
-            &mut self.counts,
-        );
+        let answer = kept_object_at(alloc, depth_left, with, value, &mut self.counts);
         let (object, rest) = match held(alloc, depth_left, value, answer) {
             Err(fault) => {
                 drop(name);

@@ -85,15 +85,7 @@ fn read_at<'a>(
     ensures { FindsValue (AreFeatures start.entry depth_left) depth_left bytes.now result }
 {
     let mut counts = start.counts;
-    let answer = features_at(
-        alloc,
-        depth_left,
-        start.keeping,
-        start.transform,
-        start.arcs,
-        bytes,
-        &mut counts,
-    );
+    let answer = features_at(alloc, depth_left, start, bytes, &mut counts);
     let (features, rest) = held(alloc, depth_left, bytes, answer)?;
     let read = ReadFeatures { features, counts };
     Ok((
@@ -204,15 +196,7 @@ fn features_by(
         }
         None => {
             *counts = start.counts;
-            match features_at(
-                alloc,
-                depth_left,
-                start.keeping,
-                start.transform,
-                start.arcs,
-                prefix,
-                counts,
-            ) {
+            match features_at(alloc, depth_left, start, prefix, counts) {
                 Err(stop) => Err(stop),
                 Ok((features, _)) => Ok(features),
             }
@@ -307,21 +291,14 @@ fn object_into<'a>(
 pub(crate) fn kept_object_at<'a>(
     alloc: Global,
     depth_left: u32,
-    keeping: Keeping,
-    transform: Option<&'a Transform>,
-    arcs: &'a [Items<Cell>],
+    by: Start<'a>,
     bytes: &'a [u8],
     counts: &mut Counts,
 ) -> Result<(KeptObject, &'a [u8]), Stop<TopoFault>>
-    ensures { Answers (λ x. x) (kept_object keeping (option_copied transform.entry) arcs.now) (prefix_value depth_left bytes.now) counts.old counts.new result }
+    ensures { Answers (λ x. x) (kept_object by.entry.keeping (option_copied by.entry.transform) by.entry.arcs.now) (prefix_value depth_left bytes.now) counts.old counts.new result }
 {
-    let start = Start {
-        transform,
-        arcs,
-        counts: *counts,
-        keeping,
-    };
     let mut occurrence = ObjectParts::none();
+    let start = by.after(*counts);
     object_into(alloc, depth_left, &mut occurrence, bytes, start, counts)
 }
 
@@ -337,15 +314,13 @@ pub fn object_at<'a>(
 ) -> Result<(TopoObject, &'a [u8]), Stop<TopoFault>>
     ensures { Answers (λ x. x) (object (option_copied transform.entry) arcs.now) (prefix_value depth_left bytes.now) counts.old counts.new result }
 {
-    match kept_object_at(
-        alloc,
-        depth_left,
-        Keeping::Whole(None),
+    let start = Start {
         transform,
         arcs,
-        bytes,
-        counts,
-    ) {
+        counts: *counts,
+        keeping: Keeping::Whole(None),
+    };
+    match kept_object_at(alloc, depth_left, start, bytes, counts) {
         Err(stop) => Err(stop),
         Ok((kept, rest)) => {
             let KeptObject { object, .. } = kept;

@@ -1,11 +1,12 @@
 // The shapes that places and arcs make (TopoJSON 1.0, sections 2.2.1 to 2.2.6).
-ghost use Rattle.std.specs.Prelude.{◌≡◌, MatchOption, None};
+ghost use Rattle.std.specs.Prelude.{◌≡◌, List, MatchOption, None};
 ghost use Rattle.std.specs.Option.{option_copied};
 ghost use Rattle.geometry.specs.declared.shape.Geometry.TheVariants as kinds;
-ghost use Rattle.geometry.specs.Lists.{map_some, unless_empty};
+ghost use Rattle.geometry.specs.Lists.{map_some};
 ghost use Rattle.json_cursor.specs.Answers.{Answers};
 ghost use Rattle.json_cursor.specs.Arrays.{prefix_value};
 ghost use Rattle.json_cursor.specs.Folds.{one};
+ghost use Rattle.topojson_types.specs.Topologies.{TopoShape as Shape};
 ghost use Rattle.topojson_meaning.specs.Arcs as spec;
 ghost use Rattle.topojson_meaning.specs.Shapes as shapes;
 ghost use Rattle.topojson_meaning.specs.declared.geometry_type.PlacesType.TheVariants as of_places;
@@ -75,51 +76,15 @@ fn point_at<'a>(
     }
 }
 
-/// The shape of the points at these places, unless there are none.
-fn points_shape(places: Option<Items<Cell>>) -> Option<TopoShape>
-    ensures { result ≡ unless_none kinds.MultiPoint places }
+/// The parts of a shape, if there are any.
+fn unless_empty<V: Drop>(parts: Option<Items<V>>) -> Option<Items<V>>
+    ensures { (shape : List V → Shape) → map_some shape result ≡ unless_none shape parts }
 {
-    let places = places?;
-    if places.is_empty() {
+    let parts = parts?;
+    if parts.is_empty() {
         return None;
     }
-    Some(TopoShape::MultiPoint(places))
-}
-
-/// The shape of a line, if there is one.
-fn line_shape(line: Option<Items<ArcRef>>) -> Option<TopoShape>
-    ensures { result ≡ map_some kinds.Line line }
-{
-    line.map(TopoShape::Line)
-}
-
-/// The shape of a polygon, if there is one.
-fn area_shape(rings: Option<Items<Items<ArcRef>>>) -> Option<TopoShape>
-    ensures { result ≡ map_some kinds.Area rings }
-{
-    rings.map(TopoShape::Area)
-}
-
-/// The shape of these lines, unless there are none.
-fn lines_shape(lines: Option<Items<Items<ArcRef>>>) -> Option<TopoShape>
-    ensures { result ≡ unless_none kinds.Lines lines }
-{
-    let lines = lines?;
-    if lines.is_empty() {
-        return None;
-    }
-    Some(TopoShape::Lines(lines))
-}
-
-/// The shape of these polygons, unless there are none.
-fn areas_shape(areas: Option<Items<Items<Items<ArcRef>>>>) -> Option<TopoShape>
-    ensures { result ≡ unless_none kinds.Areas areas }
-{
-    let areas = areas?;
-    if areas.is_empty() {
-        return None;
-    }
-    Some(TopoShape::Areas(areas))
+    Some(parts)
 }
 
 /// The shape of this type that the value of `coordinates` at the front is, and what follows it; or why reading stops.
@@ -146,7 +111,7 @@ pub fn places_shape_at<'a>(
                 counts,
             ) {
                 Err(stop) => Err(stop),
-                Ok((read, rest)) => Ok((points_shape(read), rest)),
+                Ok((read, rest)) => Ok((unless_empty(read).map(TopoShape::MultiPoint), rest)),
             }
         }
     }
@@ -168,7 +133,7 @@ pub fn arcs_shape_at<'a>(
             alloc, depth_left, arcs, false, bytes, counts,
         ) {
             Err(stop) => Err(stop),
-            Ok((line, rest)) => Ok((line_shape(line), rest)),
+            Ok((line, rest)) => Ok((line.map(TopoShape::Line), rest)),
         },
         ArcsType::MultiLineString => {
             let lines = LinesAndRings {
@@ -184,12 +149,12 @@ pub fn arcs_shape_at<'a>(
                 counts,
             ) {
                 Err(stop) => Err(stop),
-                Ok((read, rest)) => Ok((lines_shape(read), rest)),
+                Ok((read, rest)) => Ok((unless_empty(read).map(TopoShape::Lines), rest)),
             }
         }
         ArcsType::Polygon => match polygon_at(alloc, depth_left, arcs, bytes, counts) {
             Err(stop) => Err(stop),
-            Ok((rings, rest)) => Ok((area_shape(rings), rest)),
+            Ok((rings, rest)) => Ok((rings.map(TopoShape::Area), rest)),
         },
         ArcsType::MultiPolygon => {
             let areas = Areas { arcs };
@@ -202,7 +167,7 @@ pub fn arcs_shape_at<'a>(
                 counts,
             ) {
                 Err(stop) => Err(stop),
-                Ok((read, rest)) => Ok((areas_shape(read), rest)),
+                Ok((read, rest)) => Ok((unless_empty(read).map(TopoShape::Areas), rest)),
             }
         }
     }

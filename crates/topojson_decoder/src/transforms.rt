@@ -8,12 +8,12 @@ ghost use Rattle.topojson_meaning.specs.Transforms.{transform_members, transform
 ghost use Rattle.topojson_decoder.specs.Transforms.{IsTexts, IsTransform, IsTransformOf};
 ghost use Rattle.topojson_decoder.specs.Transforms as spec;
 
+use crate::arrays::elements_at;
 use crate::held::held;
 use decimal_text::NumText;
 use geojson_types::Counts;
 use json_cursor::{
-    Elements, Kind, Members, Occurrence, Stop, folded_array_at, kind_at, name_at,
-    object_at as members_at,
+    Elements, Kind, Members, Occurrence, Stop, kind_at, name_at, object_at as members_at,
 };
 use json_reading::{Fault, after_value, value_at};
 use std::alloc::Global;
@@ -75,16 +75,10 @@ impl<'a> Elements<'a> for NumberTexts {
 fn both_of(read: Result<NumberTexts, TopoFault>) -> Result<(NumText, NumText), TopoFault>
     ensures { result ≡ spec.both_of read }
 {
-    match read {
-        Err(fault) => Err(fault),
-        Ok(NumberTexts { x, y }) => match x {
-            None => Err(TopoFault::WrongKind),
-            Some(x) => match y {
-                None => Err(TopoFault::WrongKind),
-                Some(y) => Ok((x, y)),
-            },
-        },
-    }
+    let NumberTexts { x, y } = read?;
+    let x = x.ok_or(TopoFault::WrongKind)?;
+    let y = y.ok_or(TopoFault::WrongKind)?;
+    Ok((x, y))
 }
 
 /// The two number texts of the array at the front, or its fault, and what follows it. Elements after them are passed over.
@@ -97,15 +91,7 @@ fn texts_at<'a>(
 {
     let mut counts = Counts::none();
     let none = NumberTexts { x: None, y: None };
-    let answer = folded_array_at::<NumberTexts>(
-        alloc,
-        depth_left,
-        none,
-        bytes,
-        TopoFault::WrongKind,
-        (),
-        &mut counts,
-    );
+    let answer = elements_at::<NumberTexts>(alloc, depth_left, none, bytes, &mut counts);
     let (read, rest) = held(alloc, depth_left, bytes, answer)?;
     Ok((both_of(read), rest))
 }
@@ -175,10 +161,7 @@ fn needed_texts(
 fn number_of(text: NumText) -> Result<TransformNumber, TopoFault>
     ensures { result ≡ transform_number text }
 {
-    match TransformNumber::of(text) {
-        None => Err(TopoFault::Range),
-        Some(number) => Ok(number),
-    }
+    TransformNumber::of(text).ok_or(TopoFault::Range)
 }
 
 /// Two numbers of a transform.

@@ -12,7 +12,7 @@ use Rattle.topojson_decoder.proofs.collected_features.features_after.Given as go
 abbrev pub invariant-features : goal.invariant-features
 invariant-features l = record {
   each : List TopoFeature;
-  so_far : FoldedSoFar (with_read (one (kept_feature l.keeping (option_copied l.transform) l.arcs))) (value_at is_utf8 l.depth_left) (length l.inside) (prefix_elements l.depth_left (length l.inside) l.inside) [] l.fn.counts l.before l.rest each l.counts;
-  are : l.read.items ≡ listed l.keeping each;
+  so_far : FoldedSoFar (with_read (one (kept_feature l.by.keeping (option_copied l.by.transform) l.by.arcs.now))) (value_at is_utf8 l.depth_left) (length l.inside) (prefix_elements l.depth_left (length l.inside) l.inside) [] l.fn.counts l.before l.rest each l.counts;
+  are : l.read.items ≡ listed l.by.keeping each;
   counted : length each ≡ l.before;
 }

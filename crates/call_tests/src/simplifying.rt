@@ -63,7 +63,7 @@ fn is_small_ring(dropped: &[Dropped], ring: usize) -> bool {
             one.cause == Cause::Small
                 && one.address.layer == 0
                 && one.address.feature == 0
-                && one.address.path.as_slice() == [ring].as_slice()
+                && matches!(one.address.path.split_first(), Some((number, [], [])) if number == ring)
         }
         _ => false,
     }

@@ -1,3 +1,4 @@
+pub mod Addresses
 pub mod Areas
 pub mod Joins
 pub mod Lists

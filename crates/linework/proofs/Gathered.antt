@@ -10,7 +10,8 @@ use Rattle.geojson_types.specs.declared.layer.Layer.{Layer}
 use Rattle.junctions.specs.declared.stroke.Stroke.{Stroke}
 use Rattle.junctions.specs.Cleaning.{clean}
 use Rattle.linework.specs.Linework.{line_or_ring_at, feature_lines_and_rings, lines_and_rings_of_layer, lines_and_rings_of_layers, is_collapsed, collapse, linework, collapsed}
-use Rattle.junctions.specs.Gathering.{Gathered, nothing_gathered, with_line_or_ring, with_lines_and_rings, part_address}
+use Rattle.geometry.specs.Addresses.{part_address}
+use Rattle.junctions.specs.Gathering.{Gathered, nothing_gathered, with_line_or_ring, with_lines_and_rings}
 
 pub with_append : (g : Gathered) (ss ts : List Stroke) → with_lines_and_rings (with_lines_and_rings g ss) ts ≡ with_lines_and_rings g (ss ++ ts)
 unfolding with_lines_and_rings

@@ -18,7 +18,8 @@ use Rattle.junctions.specs.declared.stroke.Stroke.{Stroke}
 use Rattle.junctions.specs.Among.{In}
 use Rattle.junctions.specs.Cleaning.{clean, clean_from}
 use Rattle.linework.specs.Laws.{layers_points}
-use Rattle.linework.specs.Linework.{line_or_ring_at, option_placed, feature_address, lines_and_rings_of_layer, lines_and_rings_of_layers, is_collapsed, linework}
+use Rattle.geometry.specs.Addresses.{feature_address}
+use Rattle.linework.specs.Linework.{line_or_ring_at, option_placed, lines_and_rings_of_layer, lines_and_rings_of_layers, is_collapsed, linework}
 use Rattle.junctions.proofs.Members.{in_map, from_map, from_filter}
 use Rattle.linework.proofs.Placing.{reported}
 use Rattle.owned_values.proofs.Members.{in_left, in_right, in_append}

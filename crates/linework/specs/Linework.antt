@@ -4,6 +4,7 @@ use Rattle.std.specs.List.{filter}
 use Rattle.geometry.specs.Points.{Point}
 use Rattle.geojson_types.specs.Features.{Shape, Featured}
 use Rattle.geometry.specs.Paths.{Placed, placed_lines_and_rings}
+use Rattle.geometry.specs.Addresses.{feature_address}
 use Rattle.geometry.specs.declared.address.Address.{Address}
 use Rattle.geometry.specs.declared.address.Dropped.{Dropped}
 use Rattle.geojson_types.specs.declared.layer.Layer.{Layer}
@@ -24,10 +25,6 @@ line_or_ring_at a s =
 abbrev pub option_placed : Option Shape → List (Placed (Bool × List Point))
 option_placed None = []
 option_placed (Some s) = placed_lines_and_rings s
-
--- the address of a feature's geometry
-abbrev pub feature_address : ℕ → ℕ → Address
-feature_address layer feature = record { layer = layer; feature = feature; path = [] }
 
 -- the lines and rings of a feature
 abbrev pub feature_lines_and_rings : ℕ → ℕ → Featured → List Stroke

@@ -1,13 +1,13 @@
 // The walk over layers that gathers their lines and rings, each with its address.
-ghost use Rattle.std.specs.Prelude.{◌≡◌, IfOk, OnOk, true, false, map};
+ghost use Rattle.std.specs.Prelude.{◌≡◌, OnOk, true, false, map};
 ghost use Rattle.geometry.specs.Rings.{is_ring};
 ghost use Rattle.geometry.specs.Paths.{alone, of_parts, placed_lines_and_rings};
 ghost use Rattle.linework.specs.Linework.{line_or_ring_at, lines_and_rings_of_layer};
-ghost use Rattle.junctions.specs.Gathering.{with_lines_and_rings, part_address};
+ghost use Rattle.junctions.specs.Gathering.{with_lines_and_rings};
 
 use crate::cleaning::cleaned;
 use geojson_types::Feature;
-use geometry::{Address, AddressPath, Position, Ring, Shape};
+use geometry::{Address, Position, Ring, Shape};
 use junctions::{Lines, Stroke, Whereabouts};
 use owned_values::{Items, Memory};
 use std::alloc::Global;
@@ -24,11 +24,7 @@ pub fn add_layer(
 {
     for (number, feature) in features.iter().enumerate() {
         if let Some(shape) = feature.shape() {
-            let address = Address {
-                layer,
-                feature: number,
-                path: AddressPath::new(alloc),
-            };
+            let address = Address::of_feature(alloc, layer, number);
             add_shape(alloc, address, shape, lines)?;
         }
     }
@@ -52,7 +48,7 @@ fn add_shape(
         Shape::Lines(parts) => add_lines(alloc, &address, parts.as_slice(), lines),
         Shape::Area(rings) => add_rings(alloc, &address, rings.as_slice(), lines),
         Shape::Areas(areas) => add_areas(alloc, &address, areas.as_slice(), lines),
-        Shape::Group(shapes) => add_shapes(alloc, &address, shapes.as_slice(), lines),
+        Shape::Group(shapes) => add_shapes(alloc, address, shapes.as_slice(), lines),
     }
 }
 
@@ -60,15 +56,16 @@ fn add_shape(
 #[cycle(shapes)]
 fn add_shapes(
     alloc: Global,
-    address: &Address,
+    address: Address,
     shapes: &[Shape],
     lines: &mut Lines,
 ) -> Result<(), Memory>
     ensures { OnOk result
-        (lines.new ≡ with_lines_and_rings lines.old (map (line_or_ring_at address.now) (of_parts 0 (map placed_lines_and_rings shapes.now)))) }
+        (lines.new ≡ with_lines_and_rings lines.old (map (line_or_ring_at address) (of_parts 0 (map placed_lines_and_rings shapes.now)))) }
 {
+    let group = address.into_group(alloc)?;
     for (number, shape) in shapes.iter().enumerate() {
-        let part = part_of(alloc, address, number)?;
+        let part = group.part(alloc, number)?;
         add_shape(alloc, part, shape, lines)?;
     }
     Ok(())
@@ -87,7 +84,7 @@ fn add_areas(
         (map (line_or_ring_at address.now) (of_parts 0 (map (λ rs. of_parts 0 (map (λ r. alone (true, r)) rs)) areas.now)))) }
 {
     for (number, rings) in areas.iter().enumerate() {
-        let part = part_of(alloc, address, number)?;
+        let part = address.part(alloc, number)?;
         add_rings(alloc, &part, rings.as_slice(), lines)?;
     }
     Ok(())
@@ -105,7 +102,7 @@ fn add_rings(
         (lines.new ≡ with_lines_and_rings lines.old (map (line_or_ring_at address.now) (of_parts 0 (map (λ r. alone (true, r)) rings.now)))) }
 {
     for (number, ring) in rings.iter().enumerate() {
-        let part = part_of(alloc, address, number)?;
+        let part = address.part(alloc, number)?;
         add_line_or_ring(alloc, part, true, ring.as_slice(), lines)?;
     }
     Ok(())
@@ -123,7 +120,7 @@ fn add_lines(
         (lines.new ≡ with_lines_and_rings lines.old (map (line_or_ring_at address.now) (of_parts 0 (map (λ l. alone (false, l)) parts.now)))) }
 {
     for (number, line) in parts.iter().enumerate() {
-        let part = part_of(alloc, address, number)?;
+        let part = address.part(alloc, number)?;
         add_line_or_ring(alloc, part, false, line.as_slice(), lines)?;
     }
     Ok(())
@@ -147,18 +144,5 @@ fn add_line_or_ring(
         address,
         closed,
         positions,
-    })
-}
-
-// The address of the part with this number.
-fn part_of(alloc: Global, address: &Address, number: usize) -> Result<Address, Memory>
-    ensures { IfOk result (λ part. part ≡ part_address address.now number) }
-{
-    let mut path = AddressPath::of(alloc, address.path.as_slice())?;
-    path.push(number)?;
-    Ok(Address {
-        layer: address.layer,
-        feature: address.feature,
-        path,
     })
 }

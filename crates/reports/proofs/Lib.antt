@@ -6,4 +6,5 @@ pub mod Lists
 pub mod Lost
 pub mod LostOnce
 mod Objects
+pub mod Paths
 pub mod Reported

@@ -14,19 +14,19 @@ cause_text Collapsed = codes "collapsed"
 cause_text Small = codes "small"
 cause_text Outer = codes "outer"
 
--- the numbers after the first, each after a point
-abbrev pub path_rest : List ℕ → List ℕ
-path_rest [] = []
-path_rest (n ∷ ns) = (codes "." ++ decimal n) ++ path_rest ns
+-- the numbers after the first, each after these bytes
+abbrev pub path_rest : List ℕ → List ℕ → List ℕ
+path_rest between [] = []
+path_rest between (n ∷ ns) = (between ++ decimal n) ++ path_rest between ns
 
--- the numbers of a path with points between, or a hyphen for the empty path
-abbrev pub path_text : List ℕ → List ℕ
-path_text [] = codes "-"
-path_text (n ∷ ns) = decimal n ++ path_rest ns
+-- the numbers of a path with these bytes between, or others for the empty path
+abbrev pub path_text : List ℕ → List ℕ → List ℕ → List ℕ
+path_text between none [] = none
+path_text between none (n ∷ ns) = decimal n ++ path_rest between ns
 
 -- where a line or ring stood: layer, feature and path
 abbrev pub place_text : Dropped → List ℕ
-place_text d = ((((codes "drop " ++ decimal d.address.layer) ++ codes " ") ++ decimal d.address.feature) ++ codes " ") ++ path_text d.address.path
+place_text d = ((((codes "drop " ++ decimal d.address.layer) ++ codes " ") ++ decimal d.address.feature) ++ codes " ") ++ path_text (codes ".") (codes "-") d.address.path
 
 -- the line of a line or ring that isn't written: where it stood, and why
 abbrev pub dropped_text : Dropped → List ℕ

@@ -14,6 +14,7 @@ mod fault_writer;
 mod laws;
 mod losing;
 mod number_writer;
+mod path_writer;
 mod positions;
 mod printing;
 mod report;

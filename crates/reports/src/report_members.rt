@@ -7,8 +7,9 @@ ghost use Rattle.reports.specs.Reports.{cause_text};
 ghost use Rattle.reports.specs.RunReports as spec;
 ghost use Rattle.reports.specs.Values.{number_or_null};
 
+use crate::path_writer::put_path_array;
 use crate::report::Report;
-use crate::value_writer::{Numbers, put_null, put_number_member};
+use crate::value_writer::{put_null, put_number_member};
 use geojson_types::{Cause, Dropped};
 use itoa::Buffer;
 use json_writer::{Out, PutValue, put_array};
@@ -32,7 +33,7 @@ fn put_dropped<O: Out>(dropped: &Dropped, out: &mut O)
     put_number_member(b"{\"layer\":", dropped.address.layer as u64, out);
     put_number_member(b",\"feature\":", dropped.address.feature as u64, out);
     out.put(b",\"path\":");
-    put_array::<Numbers, usize, O>(dropped.address.path.as_slice(), out);
+    put_path_array(&dropped.address.path, out);
     out.put(cause_ending(dropped.cause));
 }
 

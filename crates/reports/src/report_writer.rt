@@ -1,10 +1,11 @@
 // The text of a report.
-ghost use Rattle.std.specs.Prelude.{◌≡◌, ◌++◌, codes, decimal};
+ghost use Rattle.std.specs.Prelude.{◌≡◌, ◌++◌};
 ghost use Rattle.byte_ends.specs.Writes.{Writes};
 ghost use Rattle.json_writer.specs.Standing.{Start};
 ghost use Rattle.reports.specs.Reports as spec;
 
 use crate::number_writer::put_number;
+use crate::path_writer::put_path;
 use crate::report::Report;
 use byte_ends::{Drain, Sink, WriteFault};
 use geojson_types::{Cause, Dropped};
@@ -34,30 +35,6 @@ fn cause_word(cause: Cause) -> &'static str
     }
 }
 
-/// Puts a number of a path after a point.
-#[tactic(auto, using(std::proofs::Common::append_assoc))]
-fn put_next<O: Out>(number: usize, out: &mut O)
-    ensures text { O.text out.new ≡ O.text out.old ++ (codes "." ++ decimal number) }
-    ensures kept { (start : Start) → O.good out.old start → O.good out.new start }
-{
-    out.put(b".");
-    put_number(number as u64, out);
-}
-
-/// Puts the numbers of a path with points between, or a hyphen for the empty path.
-fn put_path<O: Out>(path: &[usize], out: &mut O)
-    ensures text { O.text out.new ≡ O.text out.old ++ spec.path_text path.now }
-    ensures kept { (start : Start) → O.good out.old start → O.good out.new start }
-{
-    let Some((first, rest)) = path.split_first() else {
-        return out.put(b"-");
-    };
-    put_number(*first as u64, out);
-    'numbers: for number in rest {
-        put_next(*number, out);
-    }
-}
-
 /// Puts where a line or ring stood, up to its path.
 #[tactic(auto, using(std::proofs::Common::append_assoc))]
 fn put_place<O: Out>(dropped: &Dropped, out: &mut O)
@@ -69,7 +46,7 @@ fn put_place<O: Out>(dropped: &Dropped, out: &mut O)
     out.put(b" ");
     put_number(dropped.address.feature as u64, out);
     out.put(b" ");
-    put_path(dropped.address.path.as_slice(), out);
+    put_path(&dropped.address.path, b".", b"-", out);
 }
 
 /// Puts the line of a line or ring that isn't written.

@@ -6,7 +6,7 @@ ghost use Rattle.json_writer.specs.Standing.{Start};
 ghost use Rattle.reports.specs.Values as spec;
 
 use crate::number_writer;
-use json_writer::{Out, PutValue, put_text};
+use json_writer::{Out, put_text};
 
 /// Puts a whole number.
 #[tactic(auto, using(json_value::proofs::Texts::texts))]
@@ -75,15 +75,4 @@ pub(crate) fn put_string<O: Out>(text: &str, out: &mut O)
     ensures kept { (start : Start) → O.good out.old start → O.good out.new start }
 {
     put_text(text, out);
-}
-
-/// The way to write whole numbers.
-pub(crate) struct Numbers;
-
-impl PutValue<usize> for Numbers {
-    ghost value = { spec.number };
-
-    fn put<O: Out>(number: &usize, out: &mut O) {
-        put_number(*number as u64, out);
-    }
 }

@@ -13,7 +13,7 @@ use Rattle.geometry.specs.Paths.{Placed, of_parts}
 use Rattle.geometry.specs.Points.{Point}
 use Rattle.geometry.proofs.Cases.{drop_causes-line, drop_causes-lines, drop_causes-area, drop_causes-areas, drop_causes-group, drop_causes_at}
 use Rattle.geometry.specs.Joins.{arc_at, stitched}
-use Rattle.junctions.specs.Gathering.{part_address}
+use Rattle.geometry.specs.Addresses.{part_address}
 use Rattle.build_meaning.specs.Expected.{is_small, unless}
 use Rattle.build_meaning.specs.OuterRings.{ends_here, along, unmarked, rings_marked, marked}
 use Rattle.build_meaning.specs.Protected.{Protection, no_protection, cause_sparing, shape_marked}

@@ -11,7 +11,7 @@ use Rattle.geometry.specs.declared.address.Cause.{Cause}
 use Rattle.geometry.specs.declared.address.Dropped.{Dropped}
 use Rattle.geometry.specs.Lists.{some_of, with_some}
 use Rattle.geometry.specs.Paths.{Placed, of_parts}
-use Rattle.junctions.specs.Gathering.{part_address}
+use Rattle.geometry.specs.Addresses.{part_address}
 use Rattle.build_meaning.specs.Expected.{unless}
 use Rattle.build_meaning.specs.OuterRings.{into_part, along}
 use Rattle.topo_model.specs.Places.{dropped_at}

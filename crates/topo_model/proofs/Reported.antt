@@ -4,7 +4,7 @@ use Rattle.std.proofs.lemmas.List.{at_drop_more, map-append}
 use Rattle.geometry.specs.declared.address.Address.{Address}
 use Rattle.geometry.specs.declared.address.Cause.{Cause}
 use Rattle.geometry.specs.Paths.{Placed, inside_part, of_parts}
-use Rattle.junctions.specs.Gathering.{part_address}
+use Rattle.geometry.specs.Addresses.{part_address}
 use Rattle.topo_model.specs.Places.{dropped_at}
 
 -- ---- part by part

@@ -6,11 +6,10 @@ ghost use Rattle.topojson_types.specs.Topologies.{object_features};
 ghost use Rattle.topo_model.specs.Along.{by_ways, feature_placed_along, large_along, object_placed_along, objects_placed, objects_placed_along, ways_after};
 ghost use Rattle.topo_model.specs.Drops.{object_drops, objects_dropped, objects_drops, unkept_cause};
 
-use crate::places::Place;
 use crate::pruning::{Keeps, prune_feature};
 use crate::rebuilding::Rebuilding;
 use crate::way_steps::Ways;
-use geojson_types::Dropped;
+use geojson_types::{Address, Dropped};
 use json_value::OwnText;
 use owned_values::Memory;
 use std::alloc::Global;
@@ -57,13 +56,11 @@ fn leave_out<K: Keeps>(
     ensures dropped { IfOk result (λ dropped. dropped.items ≡ objects_dropped (unkept_cause (K.keeps keeps.now)) 0 (map (map_some (λ v. v.items)) ways.now) objects.old) }
 {
     let mut dropped = Vec::new(alloc);
-    let mut place = Place::first(alloc);
     let mut rest = Ways::of(ways);
     'objects: for number in 0..objects.len() {
         leave_out_of_object(
             alloc,
             keeps,
-            &mut place,
             number,
             &mut objects[number].1,
             &mut rest,
@@ -77,7 +74,6 @@ fn leave_out<K: Keeps>(
 fn leave_out_of_object<K: Keeps>(
     alloc: Global,
     keeps: &K,
-    place: &mut Place,
     number: usize,
     object: &mut TopoObject,
     ways: &mut Ways<'_>,
@@ -89,19 +85,11 @@ fn leave_out_of_object<K: Keeps>(
 {
     match object {
         TopoObject::One(feature) => {
-            place.go_to(number, 0);
+            let place = Address::of_feature(alloc, number, 0);
             prune_feature(alloc, keeps, place, feature, ways.next(), dropped)
         }
         TopoObject::Many(features) => {
-            leave_out_of_features(
-                alloc,
-                keeps,
-                place,
-                number,
-                features.as_mut_slice(),
-                ways,
-                dropped,
-            )
+            leave_out_of_features(alloc, keeps, number, features.as_mut_slice(), ways, dropped)
         }
     }
 }
@@ -110,7 +98,6 @@ fn leave_out_of_object<K: Keeps>(
 fn leave_out_of_features<K: Keeps>(
     alloc: Global,
     keeps: &K,
-    place: &mut Place,
     object: usize,
     features: &mut [TopoFeature],
     ways: &mut Ways<'_>,
@@ -121,7 +108,7 @@ fn leave_out_of_features<K: Keeps>(
     ensures dropped { OnOk result (dropped.new.items ≡ dropped.old.items ++ object_drops (unkept_cause (K.keeps keeps.now)) object 0 ways.old features.old) }
 {
     'features: for number in 0..features.len() {
-        place.go_to(object, number);
+        let place = Address::of_feature(alloc, object, number);
         prune_feature(
             alloc,
             keeps,

@@ -14,9 +14,9 @@ ghost use Rattle.topo_model.specs.Along.{feature_placed_along};
 ghost use Rattle.topo_model.specs.Drops.{cause_to_go, shape_drops, unkept_cause};
 ghost use Rattle.topo_model.specs.Places.{dropped_at};
 
-use crate::places::{Place, add_here, add_part, hole_cause};
+use crate::places::{add_here, add_part, hole_cause};
 use crate::way_steps::{ends_here, into_part};
-use geojson_types::{Cause, Dropped, Geometry};
+use geojson_types::{Address, Cause, Dropped, Geometry};
 use json_value::Items;
 use owned_values::Memory;
 use std::alloc::Global;
@@ -102,7 +102,7 @@ fn prune_outer<K: Keeps>(
 fn prune_lines<K: Keeps>(
     alloc: Global,
     keeps: &K,
-    place: &Place,
+    place: &Address,
     closed: bool,
     outer: Option<Cause>,
     first: usize,
@@ -132,7 +132,7 @@ fn prune_lines<K: Keeps>(
 fn prune_rings<K: Keeps>(
     alloc: Global,
     keeps: &K,
-    place: &Place,
+    place: &Address,
     rings: &mut Items<Items<ArcRef>>,
     way: Option<&[usize]>,
     dropped: &mut Vec<Dropped>,
@@ -154,29 +154,27 @@ fn prune_rings<K: Keeps>(
 fn prune_areas<K: Keeps>(
     alloc: Global,
     keeps: &K,
-    place: &mut Place,
+    place: &Address,
     areas: &mut Items<Items<Items<ArcRef>>>,
     way: Option<&[usize]>,
     dropped: &mut Vec<Dropped>,
 ) -> Result<(), Memory>
-    ensures place { OnOk result (place.new ≡ place.old) }
     ensures left { OnOk result (areas.new ≡ some_of (area_by (sparing (K.keeps keeps.now) true)) (along rings_marked 0 areas.old (map_some (λ w. w.now) way.entry))) }
-    ensures dropped { OnOk result (dropped.new.items ≡ dropped.old.items ++ dropped_at place.old
+    ensures dropped { OnOk result (dropped.new.items ≡ dropped.old.items ++ dropped_at place.now
         (of_parts 0 (map (area_drop_causes (cause_sparing (unkept_cause (K.keeps keeps.now)) true)) (along rings_marked 0 areas.old (map_some (λ w. w.now) way.entry))))) }
 {
     let parts = areas.as_mut_slice();
     let mut kept: usize = 0;
     for i in 0..parts.len() {
-        place.enter(i)?;
+        let part = place.part(alloc, i)?;
         let stays = prune_rings(
             alloc,
             keeps,
-            place,
+            &part,
             &mut parts[i],
             into_part(way, i),
             dropped,
         )?;
-        place.leave();
         if stays {
             parts.swap(kept, i);
             kept += 1;
@@ -191,14 +189,13 @@ fn prune_areas<K: Keeps>(
 fn prune_shape<K: Keeps>(
     alloc: Global,
     keeps: &K,
-    place: &mut Place,
+    place: Address,
     shape: &mut TopoShape,
     way: Option<&[usize]>,
     dropped: &mut Vec<Dropped>,
 ) -> Result<bool, Memory>
-    ensures place { OnOk result (place.new ≡ place.old) }
     ensures left { IfOk result (λ stays. prune (K.places keeps.now) (sparing (K.keeps keeps.now)) (marked shape.old (map_some (λ w. w.now) way.entry)) ≡ (if stays then Some shape.new else None)) }
-    ensures dropped { OnOk result (dropped.new.items ≡ dropped.old.items ++ dropped_at place.old
+    ensures dropped { OnOk result (dropped.new.items ≡ dropped.old.items ++ dropped_at place
         (drop_causes (cause_sparing (unkept_cause (K.keeps keeps.now))) (marked shape.old (map_some (λ w. w.now) way.entry)))) }
 {
     match shape {
@@ -212,32 +209,32 @@ fn prune_shape<K: Keeps>(
         }
         Geometry::Line(refs) => {
             let cause = prune_line(keeps, false, refs);
-            add_here(alloc, place, cause, dropped)?;
+            add_here(place, cause, dropped)?;
             Ok(cause.is_none())
         }
         Geometry::Lines(lines) => {
-            prune_lines(alloc, keeps, place, false, None, 0, lines, dropped)?;
+            prune_lines(alloc, keeps, &place, false, None, 0, lines, dropped)?;
             Ok(!lines.is_empty())
         }
-        Geometry::Area(rings) => prune_rings(alloc, keeps, place, rings, way, dropped),
+        Geometry::Area(rings) => prune_rings(alloc, keeps, &place, rings, way, dropped),
         Geometry::Areas(areas) => {
-            prune_areas(alloc, keeps, place, areas, way, dropped)?;
+            prune_areas(alloc, keeps, &place, areas, way, dropped)?;
             Ok(!areas.is_empty())
         }
         Geometry::Group(shapes) => {
+            let group = place.into_group(alloc)?;
             let members = shapes.as_mut_slice();
             let mut kept: usize = 0;
             'shapes: for i in 0..members.len() {
-                place.enter(i)?;
+                let part = group.part(alloc, i)?;
                 let stays = prune_shape(
                     alloc,
                     keeps,
-                    place,
+                    part,
                     &mut members[i],
                     into_part(way, i),
                     dropped,
                 )?;
-                place.leave();
                 if stays {
                     members.swap(kept, i);
                     kept += 1;
@@ -253,13 +250,13 @@ fn prune_shape<K: Keeps>(
 pub fn prune_feature<K: Keeps>(
     alloc: Global,
     keeps: &K,
-    place: &mut Place,
+    place: Address,
     feature: &mut TopoFeature,
     way: Option<&[usize]>,
     dropped: &mut Vec<Dropped>,
 ) -> Result<(), Memory>
     ensures feature { OnOk result (feature.new ≡ feature_placed_along (K.places keeps.now) (sparing (K.keeps keeps.now)) (map_some (λ w. w.now) way.entry) feature.old) }
-    ensures dropped { OnOk result (dropped.new.items ≡ dropped.old.items ++ dropped_at place.old
+    ensures dropped { OnOk result (dropped.new.items ≡ dropped.old.items ++ dropped_at place
         (shape_drops (unkept_cause (K.keeps keeps.now)) (map_some (λ w. w.now) way.entry) feature.old.shape)) }
 {
     let Some(shape) = feature.shape.as_mut() else {

@@ -1,4 +1,5 @@
-use Rattle.std.proofs.Common.{List, sym}
+use Rattle.std.proofs.Common.{List, sym, ap, ◌∙◌}
+use Rattle.geometry.specs.Addresses.{part_address}
 use Rattle.geometry.specs.Points.{Point}
 use Rattle.geometry.specs.Paths.{placed_lines_and_rings}
 use Rattle.linework.proofs.Gathered.{with_none, parts_turn}
@@ -31,6 +32,6 @@ add_shapes-loop-number-init t c = sym (with_none c.args.lines.now)
 
 pub add_shapes-loop-number-preserved : goal.add_shapes-loop-number-preserved
 add_shapes-loop-number-preserved t c =
-    parts_turn placed_lines_and_rings c.args.address.now c.args.lines.now c.loop-number.lines c.add_shape.new.lines c.args.shapes.now c.loop-number.number c.index-shapes-number.result
-    c.in_ok-part.part (placed_lines_and_rings c.index-shapes-number.result) c.loop-number-test.true c.index-shapes-number.is c.loop-number.invariant c.in_ok-part.ensures
+    parts_turn placed_lines_and_rings c.args.address c.args.lines.now c.loop-number.lines c.add_shape.new.lines c.args.shapes.now c.loop-number.number c.index-shapes-number.result
+    c.in_ok-part.part (placed_lines_and_rings c.index-shapes-number.result) c.loop-number-test.true c.index-shapes-number.is c.loop-number.invariant (c.in_ok-part.ensures ∙ ap (λ a. part_address a c.loop-number.number) c.in_ok-group.ensures)
     (λ i. placed_lines_and_rings c.index-shapes-number.result) c.in_ok-add_shape.ensures

@@ -1,6 +1,7 @@
-use Rattle.std.proofs.Common.{◌≡◌, [], map, Some, None, ap, sym, ◌∙◌, rules}
+use Rattle.std.proofs.Common.{◌≡◌, map, Some, None, ap, sym, ◌∙◌, rules}
 use Rattle.geometry.specs.Paths.{placed_lines_and_rings}
-use Rattle.linework.specs.Linework.{option_placed, line_or_ring_at, feature_address, feature_lines_and_rings}
+use Rattle.geometry.specs.Addresses.{feature_address}
+use Rattle.linework.specs.Linework.{option_placed, line_or_ring_at, feature_lines_and_rings}
 use Rattle.junctions.specs.Gathering.{with_lines_and_rings}
 use Rattle.linework.proofs.Gathered.{with_none, features_turn}
 use Rattle.linework.proofs.gathering.add_layer.Goals as goal
@@ -14,9 +15,8 @@ loop-number-preserved c =
     elim c.match-shape.branch [
       | in-Some+in_ok-add_shape w ↦
           let e : Some w.in-Some.shape.now ≡ c.index-features-number.result.shape = w.in-Some.ensures.value in
-          let p : w.new.result ≡ [] = w.new.ensures in
           w.lines-is ∙ w.in_ok-add_shape.ensures
-          ∙ ap (λ p. with_lines_and_rings c.loop-number.lines (map (line_or_ring_at (record { layer = c.args.layer; feature = c.loop-number.number; path = p })) (placed_lines_and_rings w.in-Some.shape.now))) p
+          ∙ ap (λ a. with_lines_and_rings c.loop-number.lines (map (line_or_ring_at a) (placed_lines_and_rings w.in-Some.shape.now))) w.of_feature-address.ensures
           ∙ ap (λ o. with_lines_and_rings c.loop-number.lines (map (line_or_ring_at (feature_address c.args.layer c.loop-number.number)) (option_placed o))) e
       | in_default w ↦
           let e : None ≡ c.index-features-number.result.shape = search rules in

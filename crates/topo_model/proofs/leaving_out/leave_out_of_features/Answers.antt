@@ -1,6 +1,6 @@
 use Rattle.std.proofs.Common.{refl, ◌∙◌}
 use Rattle.geometry.specs.Lists.{tail}
-use Rattle.linework.specs.Linework.{feature_address}
+use Rattle.geometry.specs.Addresses.{feature_address}
 use Rattle.build_meaning.specs.Protected.{MarkedRefs, sparing}
 use Rattle.topo_model.specs.Along.{first_way, feature_placed_along}
 use Rattle.topo_model.specs.Drops.{object_drops, shape_drops, unkept_cause}

@@ -1,5 +1,5 @@
 use Rattle.geometry.specs.Lists.{tail}
-use Rattle.linework.specs.Linework.{feature_address}
+use Rattle.geometry.specs.Addresses.{feature_address}
 use Rattle.build_meaning.specs.Protected.{sparing}
 use Rattle.topo_model.specs.Along.{first_way, feature_placed_along}
 use Rattle.topo_model.specs.Drops.{shape_drops, unkept_cause}

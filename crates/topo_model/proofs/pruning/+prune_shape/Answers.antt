@@ -6,7 +6,7 @@ use Rattle.geometry.specs.DropCauses.{here, area_drop_causes, drop_causes}
 use Rattle.geometry.specs.Lists.{map_some, some_of, unless_empty}
 use Rattle.geometry.specs.Paths.{of_parts}
 use Rattle.geometry.specs.Pruning.{area_by, prune}
-use Rattle.junctions.specs.Gathering.{part_address}
+use Rattle.geometry.specs.Addresses.{part_address}
 use Rattle.build_meaning.specs.OuterRings.{along, marked, rings_marked}
 use Rattle.build_meaning.specs.Protected.{cause_sparing, sparing}
 use Rattle.build_meaning.proofs.Marks.{left-point, left-points, left-line, left-lines, left-area, left-areas, left-group}
@@ -21,8 +21,7 @@ use Rattle.topo_model.proofs.pruning.+prune_shape.Goals as goal
 pub shapes-init : goal.shapes-init
 shapes-init g t c = record {
   unvisited = (refl, λ k d h. refl);
-  here = refl;
-  walked = starts marked (prune (g.K.Keeps.places c.args.keeps.now) (sparing (g.K.Keeps.keeps c.args.keeps.now))) (drop_causes (cause_sparing (unkept_cause (g.K.Keeps.keeps c.args.keeps.now)))) (map_some (λ w. w.now) c.args.way) c.args.place.now
+  walked = starts marked (prune (g.K.Keeps.places c.args.keeps.now) (sparing (g.K.Keeps.keeps c.args.keeps.now))) (drop_causes (cause_sparing (unkept_cause (g.K.Keeps.keeps c.args.keeps.now)))) (map_some (λ w. w.now) c.args.way) c.args.place
       0 c.as_mut_slice-members.result.now c.args.dropped.now.items;
 }
 
@@ -33,15 +32,14 @@ shapes-preserved g t c =
     let way = map_some (λ w. w.now) c.args.way in
     let part = map_some (λ w. w.now) c.into_part.result in
     let shape = get_or c.shapes.members c.shapes.i c.index-members-i.result in
-    let at : c.enter.new.self ≡ part_address c.args.place.now c.shapes.i = c.in_ok-enter-in-Group.ensures ∙ ap (λ a. part_address a c.shapes.i) c.shapes.invariant.here in
+    let at = c.in_ok-part-in-Group.ensures ∙ ap (λ a. part_address a c.shapes.i) c.in_ok-group-in-Group.ensures in
     let is = c.in_ok-stays-in-Group.ensures.dropped ∙ ap (λ a. c.shapes.dropped.items ++ dropped_at a (why (marked shape part))) at in
-    let turn = turns marked left why way c.args.place.now 0 c.as_mut_slice-members.result.now c.args.dropped.now.items
+    let turn = turns marked left why way c.args.place 0 c.as_mut_slice-members.result.now c.args.dropped.now.items
     c.shapes.i c.shapes.kept c.shapes.members c.shapes.dropped.items c.prune_shape.new.dropped.items c.index-members-i.result c.prune_shape.new.shape part c.shapes-test.true c.shapes.invariant.walked c.into_part.ensures is c.in_ok-stays-in-Group.stays c.in_ok-stays-in-Group.ensures.left in
-    let walked : InPrefix marked left why way c.args.place.now 0 c.as_mut_slice-members.result.now c.args.dropped.now.items (c.shapes.i + 1) c.if-stays.kept c.if-stays.members c.prune_shape.new.dropped.items =
+    let walked : InPrefix marked left why way c.args.place 0 c.as_mut_slice-members.result.now c.args.dropped.now.items (c.shapes.i + 1) c.if-stays.kept c.if-stays.members c.prune_shape.new.dropped.items =
     elim c.if-stays.branch [ then-stays w ↦ rw (w.members-is, w.kept-is, w.swap.ensures.after) (turn.0 w.if-stays.true) | else-stays w ↦ rw (w.members-is, w.kept-is) (turn.1 w.if-stays.false) ] in
     record {
       unvisited = (walked.long, unvisited c.as_mut_slice-members.result.now c.if-stays.members (c.shapes.i + 1) walked.following);
-      here = c.leave.ensures c.args.place.now c.shapes.i (c.in_ok-stays-in-Group.ensures.place ∙ at);
       walked = walked;
     }
 
@@ -55,7 +53,7 @@ pub returns-in-Point-clause-dropped : goal.returns-in-Point-clause-dropped
 returns-in-Point-clause-dropped g t c =
     let why = unkept_cause (g.K.Keeps.keeps c.args.keeps.now) in
     let way = map_some (λ w. w.now) c.args.way in
-    sym (ap (λ os. c.args.dropped.now.items ++ dropped_at c.args.place.now os) (ap (drops.gone why way) c.in-Point.is ∙ drops.of_point why way c.in-Point.cell) ∙ append-nil c.args.dropped.now.items)
+    sym (ap (λ os. c.args.dropped.now.items ++ dropped_at c.args.place os) (ap (drops.gone why way) c.in-Point.is ∙ drops.of_point why way c.in-Point.cell) ∙ append-nil c.args.dropped.now.items)
 
 pub returns-in-MultiPoint-clause-left : goal.returns-in-MultiPoint-clause-left
 returns-in-MultiPoint-clause-left g t c =
@@ -68,7 +66,7 @@ pub returns-in-MultiPoint-clause-dropped : goal.returns-in-MultiPoint-clause-dro
 returns-in-MultiPoint-clause-dropped g t c =
     let why = unkept_cause (g.K.Keeps.keeps c.args.keeps.now) in
     let way = map_some (λ w. w.now) c.args.way in
-    sym (ap (λ os. c.args.dropped.now.items ++ dropped_at c.args.place.now os) (ap (drops.gone why way) c.in-MultiPoint.is ∙ drops.of_points why way c.in-MultiPoint.cells) ∙ append-nil c.args.dropped.now.items)
+    sym (ap (λ os. c.args.dropped.now.items ++ dropped_at c.args.place os) (ap (drops.gone why way) c.in-MultiPoint.is ∙ drops.of_points why way c.in-MultiPoint.cells) ∙ append-nil c.args.dropped.now.items)
 
 pub returns-in_ok-add_here-in-Line-clause-left : goal.returns-in_ok-add_here-in-Line-clause-left
 returns-in_ok-add_here-in-Line-clause-left g t c =
@@ -82,8 +80,8 @@ pub returns-in_ok-add_here-in-Line-clause-dropped : goal.returns-in_ok-add_here-
 returns-in_ok-add_here-in-Line-clause-dropped g t c =
     let why = unkept_cause (g.K.Keeps.keeps c.args.keeps.now) in
     let way = map_some (λ w. w.now) c.args.way in
-    c.in_ok-add_here-in-Line.ensures ∙ ap (λ o. c.args.dropped.now.items ++ dropped_at c.args.place.now (here o)) (c.prune_line-cause.ensures.cause ∙ ap (why false) c.in-Line.refs-is)
-    ∙ ap (λ os. c.args.dropped.now.items ++ dropped_at c.args.place.now os) (sym (ap (drops.gone why way) c.in-Line.is ∙ drops.of_line why way c.in-Line.refs))
+    c.in_ok-add_here-in-Line.ensures ∙ ap (λ o. c.args.dropped.now.items ++ dropped_at c.args.place (here o)) (c.prune_line-cause.ensures.cause ∙ ap (why false) c.in-Line.refs-is)
+    ∙ ap (λ os. c.args.dropped.now.items ++ dropped_at c.args.place os) (sym (ap (drops.gone why way) c.in-Line.is ∙ drops.of_line why way c.in-Line.refs))
 
 pub returns-in_ok-prune_lines-in-Lines-clause-left : goal.returns-in_ok-prune_lines-in-Lines-clause-left
 returns-in_ok-prune_lines-in-Lines-clause-left g t c =
@@ -96,8 +94,8 @@ pub returns-in_ok-prune_lines-in-Lines-clause-dropped : goal.returns-in_ok-prune
 returns-in_ok-prune_lines-in-Lines-clause-dropped g t c =
     let why = unkept_cause (g.K.Keeps.keeps c.args.keeps.now) in
     let way = map_some (λ w. w.now) c.args.way in
-    c.in_ok-prune_lines-in-Lines.ensures.dropped ∙ ap (λ ls. c.args.dropped.now.items ++ dropped_at c.args.place.now (of_parts 0 (map (λ l. here (why false l)) ls))) c.in-Lines.lines-is
-    ∙ ap (λ os. c.args.dropped.now.items ++ dropped_at c.args.place.now os) (sym (ap (drops.gone why way) c.in-Lines.is ∙ drops.of_lines why way c.in-Lines.lines))
+    c.in_ok-prune_lines-in-Lines.ensures.dropped ∙ ap (λ ls. c.args.dropped.now.items ++ dropped_at c.args.place (of_parts 0 (map (λ l. here (why false l)) ls))) c.in-Lines.lines-is
+    ∙ ap (λ os. c.args.dropped.now.items ++ dropped_at c.args.place os) (sym (ap (drops.gone why way) c.in-Lines.is ∙ drops.of_lines why way c.in-Lines.lines))
 
 pub returns-in-Area-clause-left : goal.returns-in-Area-clause-left
 returns-in-Area-clause-left g t c =
@@ -114,8 +112,8 @@ returns-in-Area-clause-dropped g t c =
     let why = unkept_cause (g.K.Keeps.keeps c.args.keeps.now) in
     let way = map_some (λ w. w.now) c.args.way in
     on_ok_weaker c.prune_rings.result
-    (λ h. h ∙ ap (λ rs. c.args.dropped.now.items ++ dropped_at c.args.place.now (area_drop_causes (cause_sparing why true) (rings_marked rs way))) c.in-Area.rings-is
-    ∙ ap (λ os. c.args.dropped.now.items ++ dropped_at c.args.place.now os) (sym (ap (drops.gone why way) c.in-Area.is ∙ drops.of_area why way c.in-Area.rings))) c.prune_rings.ensures.dropped
+    (λ h. h ∙ ap (λ rs. c.args.dropped.now.items ++ dropped_at c.args.place (area_drop_causes (cause_sparing why true) (rings_marked rs way))) c.in-Area.rings-is
+    ∙ ap (λ os. c.args.dropped.now.items ++ dropped_at c.args.place os) (sym (ap (drops.gone why way) c.in-Area.is ∙ drops.of_area why way c.in-Area.rings))) c.prune_rings.ensures.dropped
 
 pub returns-in_ok-prune_areas-in-Areas-clause-left : goal.returns-in_ok-prune_areas-in-Areas-clause-left
 returns-in_ok-prune_areas-in-Areas-clause-left g t c =
@@ -131,15 +129,15 @@ returns-in_ok-prune_areas-in-Areas-clause-dropped g t c =
     let why = unkept_cause (g.K.Keeps.keeps c.args.keeps.now) in
     let way = map_some (λ w. w.now) c.args.way in
     c.in_ok-prune_areas-in-Areas.ensures.dropped
-    ∙ ap (λ rss. c.args.dropped.now.items ++ dropped_at c.args.place.now (of_parts 0 (map (area_drop_causes (cause_sparing why true)) (along rings_marked 0 rss way)))) c.in-Areas.areas-is
-    ∙ ap (λ os. c.args.dropped.now.items ++ dropped_at c.args.place.now os) (sym (ap (drops.gone why way) c.in-Areas.is ∙ drops.of_areas why way c.in-Areas.areas))
+    ∙ ap (λ rss. c.args.dropped.now.items ++ dropped_at c.args.place (of_parts 0 (map (area_drop_causes (cause_sparing why true)) (along rings_marked 0 rss way)))) c.in-Areas.areas-is
+    ∙ ap (λ os. c.args.dropped.now.items ++ dropped_at c.args.place os) (sym (ap (drops.gone why way) c.in-Areas.is ∙ drops.of_areas why way c.in-Areas.areas))
 
 pub returns-after-shapes-clause-left : goal.returns-after-shapes-clause-left
 returns-after-shapes-clause-left g t c =
     let k = g.K.Keeps.keeps c.args.keeps.now in
     let left = prune (g.K.Keeps.places c.args.keeps.now) (sparing k) in
     let way = map_some (λ w. w.now) c.args.way in
-    let walk = ends marked left (drop_causes (cause_sparing (unkept_cause k))) way c.args.place.now 0 c.as_mut_slice-members.result.now _ c.args.dropped.now.items c.shapes.i c.shapes.kept c.shapes.members c.shapes.dropped.items
+    let walk = ends marked left (drop_causes (cause_sparing (unkept_cause k))) way c.args.place 0 c.as_mut_slice-members.result.now _ c.args.dropped.now.items c.shapes.i c.shapes.kept c.shapes.members c.shapes.dropped.items
     c.as_mut_slice-members.ensures.value c.shapes-test.false c.shapes.invariant.walked in
     rw (c.in-Group.is, v.outs-Group)
     (left-group (g.K.Keeps.places c.args.keeps.now) (sparing k) c.in-Group.shapes way
@@ -150,7 +148,7 @@ returns-after-shapes-clause-dropped g t c =
     let k = g.K.Keeps.keeps c.args.keeps.now in
     let why = drop_causes (cause_sparing (unkept_cause k)) in
     let way = map_some (λ w. w.now) c.args.way in
-    let walk = ends marked (prune (g.K.Keeps.places c.args.keeps.now) (sparing k)) why way c.args.place.now 0 c.as_mut_slice-members.result.now _ c.args.dropped.now.items c.shapes.i c.shapes.kept c.shapes.members c.shapes.dropped.items
+    let walk = ends marked (prune (g.K.Keeps.places c.args.keeps.now) (sparing k)) why way c.args.place 0 c.as_mut_slice-members.result.now _ c.args.dropped.now.items c.shapes.i c.shapes.kept c.shapes.members c.shapes.dropped.items
     c.as_mut_slice-members.ensures.value c.shapes-test.false c.shapes.invariant.walked in
-    walk.1 ∙ ap (λ ss. c.args.dropped.now.items ++ dropped_at c.args.place.now (of_parts 0 (map why (along marked 0 ss way)))) c.in-Group.shapes-is
-    ∙ ap (λ os. c.args.dropped.now.items ++ dropped_at c.args.place.now os) (sym (ap (drops.gone (unkept_cause k) way) c.in-Group.is ∙ drops.of_group (unkept_cause k) way c.in-Group.shapes))
+    walk.1 ∙ ap (λ ss. c.args.dropped.now.items ++ dropped_at c.args.place (of_parts 0 (map why (along marked 0 ss way)))) c.in-Group.shapes-is
+    ∙ ap (λ os. c.args.dropped.now.items ++ dropped_at c.args.place os) (sym (ap (drops.gone (unkept_cause k) way) c.in-Group.is ∙ drops.of_group (unkept_cause k) way c.in-Group.shapes))

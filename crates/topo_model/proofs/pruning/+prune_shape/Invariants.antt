@@ -12,7 +12,6 @@ use Rattle.topo_model.proofs.pruning.+prune_shape.Given as goal
 abbrev pub invariant-shapes : goal.invariant-shapes
 invariant-shapes g l = record {
   unvisited : (length l.members ≡ length l.initial.members) × ((k : ℕ) (d : TopoShape) → l.i ≤ k → get_or l.members k d ≡ get_or l.initial.members k d);
-  here : l.place ≡ l.initial.place;
-  walked : InPrefix marked (prune (g.K.Keeps.places l.keeps) (sparing (g.K.Keeps.keeps l.keeps))) (drop_causes (cause_sparing (unkept_cause (g.K.Keeps.keeps l.keeps)))) (map_some (λ w. w.now) l.way) l.initial.place
+  walked : InPrefix marked (prune (g.K.Keeps.places l.keeps) (sparing (g.K.Keeps.keeps l.keeps))) (drop_causes (cause_sparing (unkept_cause (g.K.Keeps.keeps l.keeps)))) (map_some (λ w. w.now) l.way) l.fn.place
       0 l.initial.members l.initial.dropped.items l.i l.kept l.members l.dropped.items;
 }

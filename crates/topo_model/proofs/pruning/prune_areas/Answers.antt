@@ -1,8 +1,7 @@
-use Rattle.std.proofs.Common.{◌≡◌, true, ◌++◌, get_or, ap, ◌∙◌}
+use Rattle.std.proofs.Common.{true, ◌++◌, get_or, ap, ◌∙◌}
 use Rattle.geometry.specs.DropCauses.{area_drop_causes}
 use Rattle.geometry.specs.Lists.{map_some}
 use Rattle.geometry.specs.Pruning.{area_by}
-use Rattle.junctions.specs.Gathering.{part_address}
 use Rattle.build_meaning.specs.OuterRings.{rings_marked}
 use Rattle.build_meaning.specs.Protected.{cause_sparing, sparing}
 use Rattle.topo_model.specs.Drops.{unkept_cause}
@@ -17,11 +16,7 @@ loop-i-preserved g c =
     let why = area_drop_causes (cause_sparing (unkept_cause (g.K.Keeps.keeps c.args.keeps.now)) true) in
     let part = map_some (λ w. w.now) c.into_part.result in
     let rings = get_or c.loop-i.parts c.loop-i.i c.index-parts-i.result in
-    let at : c.enter.new.self ≡ part_address c.args.place.now c.loop-i.i = c.in_ok-enter.ensures ∙ ap (λ a. part_address a c.loop-i.i) c.loop-i.invariant.here in
-    let is = c.in_ok-stays.ensures.dropped ∙ ap (λ a. c.loop-i.dropped.items ++ dropped_at a (why (rings_marked rings part))) at in
+    let is = c.in_ok-stays.ensures.dropped ∙ ap (λ a. c.loop-i.dropped.items ++ dropped_at a (why (rings_marked rings part))) c.in_ok-part.ensures in
     let turn = turns rings_marked left why (map_some (λ w. w.now) c.args.way) c.args.place.now 0 c.as_mut_slice-parts.result.now c.args.dropped.now.items
-    c.loop-i.i c.loop-i.kept c.loop-i.parts c.loop-i.dropped.items c.prune_rings.new.dropped.items c.index-parts-i.result c.prune_rings.new.rings part c.loop-i-test.true c.loop-i.invariant.walked c.into_part.ensures is c.in_ok-stays.stays c.in_ok-stays.ensures.left in
-    record {
-      here = c.leave.ensures c.args.place.now c.loop-i.i at;
-      walked = elim c.if-stays.branch [ then-stays w ↦ rw (w.parts-is, w.kept-is, w.swap.ensures.after) (turn.0 w.if-stays.true) | else-stays w ↦ rw (w.parts-is, w.kept-is) (turn.1 w.if-stays.false) ];
-    }
+    c.loop-i.i c.loop-i.kept c.loop-i.parts c.loop-i.dropped.items c.prune_rings.new.dropped.items c.index-parts-i.result c.prune_rings.new.rings part c.loop-i-test.true c.loop-i.invariant c.into_part.ensures is c.in_ok-stays.stays c.in_ok-stays.ensures.left in
+    elim c.if-stays.branch [ then-stays w ↦ rw (w.parts-is, w.kept-is, w.swap.ensures.after) (turn.0 w.if-stays.true) | else-stays w ↦ rw (w.parts-is, w.kept-is) (turn.1 w.if-stays.false) ]

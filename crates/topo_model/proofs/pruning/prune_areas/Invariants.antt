@@ -1,4 +1,4 @@
-use Rattle.std.proofs.Common.{◌≡◌, true}
+use Rattle.std.proofs.Common.{true}
 use Rattle.geometry.specs.DropCauses.{area_drop_causes}
 use Rattle.geometry.specs.Lists.{map_some}
 use Rattle.geometry.specs.Pruning.{area_by}
@@ -9,8 +9,6 @@ use Rattle.topo_model.proofs.Prefix.{InPrefix}
 use Rattle.topo_model.proofs.pruning.prune_areas.Given as goal
 
 abbrev pub invariant-loop-i : goal.invariant-loop-i
-invariant-loop-i g l = record {
-  here : l.place ≡ l.initial.place;
-  walked : InPrefix rings_marked (area_by (sparing (g.K.Keeps.keeps l.keeps) true)) (area_drop_causes (cause_sparing (unkept_cause (g.K.Keeps.keeps l.keeps)) true)) (map_some (λ w. w.now) l.way) l.initial.place
-      0 l.initial.parts l.initial.dropped.items l.i l.kept l.parts l.dropped.items;
-}
+invariant-loop-i g l =
+    InPrefix rings_marked (area_by (sparing (g.K.Keeps.keeps l.keeps) true)) (area_drop_causes (cause_sparing (unkept_cause (g.K.Keeps.keeps l.keeps)) true)) (map_some (λ w. w.now) l.way) l.place
+    0 l.initial.parts l.initial.dropped.items l.i l.kept l.parts l.dropped.items

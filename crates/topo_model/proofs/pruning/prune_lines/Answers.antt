@@ -1,9 +1,9 @@
-use Rattle.std.proofs.Common.{ℕ, ◌+◌, ℤ, ◌++◌, List, map, take, drop, Option, None, refl, ap, ◌∙◌}
+use Rattle.std.proofs.Common.{ℕ, ℤ, ◌++◌, List, map, take, drop, Option, None, refl, ap, ◌∙◌}
 use Rattle.geometry.specs.declared.address.Cause.{Cause}
 use Rattle.geometry.specs.DropCauses.{here, inner_cause}
 use Rattle.geometry.specs.Lists.{some_of}
 use Rattle.geometry.specs.Paths.{Placed, of_parts}
-use Rattle.junctions.specs.Gathering.{part_address}
+use Rattle.geometry.specs.Addresses.{part_address}
 use Rattle.topo_model.specs.Drops.{unkept_cause}
 use Rattle.topo_model.specs.Places.{dropped_at}
 use Rattle.topo_model.proofs.Prefix.{along_alone, if_none, turns, ends}

@@ -1,12 +1,12 @@
 #!/usr/bin/env python3
-"""Runs commands twenty times each, and shows that all runs of a command write the same bytes, whatever number the system gives a run:
+"""Runs commands twenty-one times each, and shows that all runs of a command write the same bytes, whatever number the system gives a run:
 
     scripts/same-bytes.py                     the program of ./mapchain, which is proved and built first where it has to be
     scripts/same-bytes.py path/to/mapchain    another program with the same commands
 
 The tables in which `build` finds positions and arcs begin their hashes with a number of the run, for which it asks the system (`getentropy`), so
 that each run lays its tables out in another way. Nothing that is written may depend on it. A library that the program is made to load gives
-most runs a number that stands here, and notes that it was asked; the other runs get one of the system's. It takes a C compiler, as
+most runs a number that stands here, one of them none, and notes that it was asked; the other runs get one of the system's. It takes a C compiler, as
 scripts/refused-memory.py does.
 
 The files are a mesh of 2,025 areas with 4,136 arcs (scripts/mesh.py), the same as two layers, of which each border within has an area of either
@@ -30,21 +30,29 @@ PROGRAM_PATH = [f"{ROOT}/scripts/program-path.sh"]
 
 # What gives a run its number, and notes that it did in a file.
 GIVING = r"""
+#include <errno.h>
 #include <stddef.h>
 #include <stdlib.h>
+#include <string.h>
 #include <unistd.h>
 
 int getentropy(void *room, size_t size) {
-    unsigned long long number = strtoull(getenv("GIVEN_NUMBER"), NULL, 10);
+    const char *given = getenv("GIVEN_NUMBER");
+    if (write(atoi(getenv("GIVEN_TOLD")), ".", 1) != 1) return -1;
+    if (strcmp(given, "refused") == 0) {
+        errno = ENOSYS;
+        return -1;
+    }
+    unsigned long long number = strtoull(given, NULL, 10);
     for (size_t i = 0; i < size; i++) ((unsigned char *)room)[i] = number >> i % 8 * 8;
-    return write(atoi(getenv("GIVEN_TOLD")), ".", 1) == 1 ? 0 : -1;
+    return 0;
 }
 """
 
-# The numbers that are given to the runs of a command, and with none one of the system's; how many runs are compared in all; and the cells of
+# The numbers that are given to the runs of a command, to one that the system has none, and with none here one of the system's; how many runs are compared in all; and the cells of
 # the mesh in a row with the segments of their sides.
-NUMBERS = (*range(5), *(10**17 * it + it for it in range(1, 9)), (1 << 63) - 1, (1 << 64) - 1, *(None,) * 5)
-RUNS = 220
+NUMBERS = (*range(5), *(10**17 * it + it for it in range(1, 9)), (1 << 63) - 1, (1 << 64) - 1, "refused", *(None,) * 5)
+RUNS = 231
 CELLS, SEGMENTS = 45, 4
 OUTPUT, REPORT = "output", "run.json"
 

@@ -1,42 +1,19 @@
 -- What is assembled of layers, in the words of their lines; and with each arc reduced at a threshold it is what is built of them.
-use Rattle.std.proofs.Common.{rules, arith, ◌≡◌, ℕ, Bool, List, [], map, Option, None, ap, ◌∙◌, false, subst}
-use Rattle.build_meaning.proofs.Names.{AllByRecursion, all_weaker, dropped_of_layers, then_some, Point, option_lines_and_rings, Cause, Shape, Featured, Stroke, linework, Contents, TopoObject, reduce, reduced, DirectionLaw, ZeroLaw, EndsStay, NoneIsNew, all_arcs, kept_refs, untrimmed, built, removed_count, own_cause, unless, kept_line, expected_dropped, AreSound, whole_line, Kept, objects_by, trimmed, arcs_of_layers, arc_indexes, own_refs, assembled_cause, option_caused, layers_caused, assembled, assembled_dropped, assembled_removed_count, AssemblesToBuilt, AssemblingDropsExpected, AssemblingRemoves, ArcIndexesReach, AssembledIsValid, large_refs, retained_arcs, retained_whole, objects_pruned, simplified_by, removed_count_by, Named, layers_of, named_lines_and_rings, ArcsRise, EachFromFirstToLast, UnguardedIndexLaw, guarded_by, reduce_arcs, Layer, features_lines_and_rings}
+use Rattle.std.proofs.Common.{arith, ◌≡◌, ℕ, Bool, List, [], map, Option, None, ap, ◌∙◌, false, subst}
+use Rattle.build_meaning.proofs.Names.{AllByRecursion, all_weaker, dropped_of_layers, Point, option_lines_and_rings, Cause, Shape, Featured, Stroke, linework, Contents, TopoObject, reduce, reduced, DirectionLaw, ZeroLaw, untrimmed, built, removed_count, own_cause, expected_dropped, AreSound, trimmed, arcs_of_layers, arc_indexes, assembled_cause, option_caused, layers_caused, assembled, assembled_dropped, assembled_removed_count, AssemblesToBuilt, AssemblingDropsExpected, AssemblingRemoves, ArcIndexesReach, retained_arcs, retained_whole, simplified_by, removed_count_by, Named, layers_of, named_lines_and_rings, ArcsRise, EachFromFirstToLast, UnguardedIndexLaw, guarded_by, reduce_arcs, Layer, features_lines_and_rings}
 use Rattle.geometry.proofs.Omitted.{drop_causes_agree}
-use Rattle.build_meaning.proofs.Guarded.{each_through}
-use Rattle.build_meaning.proofs.Linework.{Line, StandsIn, all_clean, each_stands, own_apart}
-use Rattle.build_meaning.proofs.Made.{objects_made}
+use Rattle.build_meaning.proofs.Reduced.{each_through}
+use Rattle.build_meaning.proofs.Linework.{StandsIn, all_clean, each_stands, own_apart}
 use Rattle.build_meaning.proofs.Reshaped.{alike}
-use Rattle.build_meaning.proofs.Simplified.{IsWholeAtZero, no_small, cause_same, objects_again}
+use Rattle.build_meaning.proofs.Simplified.{cause_same, objects_again}
 use Rattle.build_meaning.proofs.Trimmed.{kept_of_map}
 use Rattle.build_meaning.proofs.ValidIndexes.{arcs_long}
 use Rattle.build_meaning.proofs.ValidRetained.{retained_each, each_reduced}
-use Rattle.build_meaning.proofs.ValidSimplified.{simplified_is_valid}
-use Rattle.build_meaning.proofs.ValidUntrimmed.{untrimmed_is_valid}
-use Rattle.build_meaning.proofs.Whole.{each_stays, loses_nothing}
-
--- ---- in the words of the layers' lines
+use Rattle.build_meaning.proofs.Whole.{each_stays}
 
 -- objects over arcs, without a transform
 abbrev pub contents : List (List ℕ × TopoObject) → List (List Point) → Contents
 contents os arcs = record { objects = os; arcs = arcs; transform = None }
-
--- each line by the indexes of its own pieces, unless it is dropped
-abbrev pub kept_by : List Stroke → List (List Point) → ℕ → Kept
-kept_by lines arcs limit closed ps = unless (assembled_cause lines arcs limit closed ps) (own_refs lines closed ps)
-
-line_kept : (lines : List Stroke) (arcs : List (List Point)) (limit : ℕ) (b : Line) → IsWholeAtZero lines b → then_some (large_refs limit arcs b.0) (kept_refs lines 0 0 b.0 b.1) ≡ kept_by lines arcs limit b.0 b.1
-line_kept lines arcs limit b whole = grind (arith, no_small)
-
--- what is left of the layers over all arcs, before those that no line uses are left out
-pub before_trimming : ZeroLaw → (kept : List (List ℕ)) (limit : ℕ) (ls : Named) → AreSound ls →
-    retained_whole kept limit (untrimmed 0 0 ls) ≡ contents (objects_by (kept_by (linework (layers_of ls)) (retained_arcs kept (arcs_of_layers ls)) limit) ls) (retained_arcs kept (arcs_of_layers ls))
-before_trimming zero kept limit ls sound =
-    let lines : List Stroke = linework (layers_of ls) in
-    let fewer : List (List Point) = retained_arcs kept (arcs_of_layers ls) in
-    ap (λ arcs. contents (objects_pruned (large_refs limit (retained_arcs kept arcs)) (objects_by (kept_refs lines 0 0) ls)) (retained_arcs kept arcs)) (each_stays zero (all_arcs lines))
-    ∙ ap (λ os. contents os fewer) (objects_made (kept_refs lines 0 0) (large_refs limit fewer) (kept_by lines fewer limit) ls
-    (all_weaker (λ b. kept_line lines 0 0 b.0 b.1 ≡ whole_line ls b.0 b.1) (λ b. then_some (large_refs limit fewer b.0) (kept_refs lines 0 0 b.0 b.1) ≡ kept_by lines fewer limit b.0 b.1)
-    (line_kept lines fewer limit) (named_lines_and_rings ls) (loses_nothing zero ls sound)))
 
 -- ---- with each arc reduced
 
@@ -85,7 +62,3 @@ indexes_reach law rise t ls sound =
     let arcs : List (List Point) = arcs_of_layers ls in
     subst (λ kept. EachFromFirstToLast kept arcs) (law t arcs)
     (each_through (reduce_arcs (guarded_by false []) t arcs) arcs (rise (guarded_by false []) t arcs) (arcs_long (linework (layers_of ls)) (all_clean ls sound)))
-
-pub assembled_is_valid : EndsStay → NoneIsNew → ZeroLaw → AssembledIsValid
-unfolding assembled
-assembled_is_valid stay none zero kept limit ls sound distinct through = search (rules, simplified_is_valid, untrimmed_is_valid, each_stays)

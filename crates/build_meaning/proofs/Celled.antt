@@ -1,6 +1,6 @@
--- A topology on a grid is reduced to the cells of the reduced topology.
+-- What is left of arcs, lines and topologies on a grid is what is left of them, put on the grid.
 use Rattle.std.proofs.Common.{rules, arith, ◌≡◌, ◌==◌, ℕ, zero, suc, ℤ, Bool, List, [], ◌∷◌, map, Option, None, Some, refl, sym, ap, ◌∙◌, map-id}
-use Rattle.build_meaning.proofs.Names.{AllByRecursion, list_any, agreed, composed, at, number_of, map_some, then_some, with_some, Point, prune, TopoShape, Contents, objects_lines_and_rings, place_on, TopoObject, Transform, reduce, is_used, keep_from, line_renumbered, trimmed, objects_celled, celled, LiesBack, Refs, retained, retained_arcs, large_refs, objects_pruned, retained_whole, simplified_by, simplified_contents}
+use Rattle.build_meaning.proofs.Names.{AllByRecursion, list_any, agreed, composed, at, number_of, map_some, then_some, with_some, Point, prune, TopoShape, Contents, objects_lines_and_rings, place_on, Transform, is_used, keep_from, line_renumbered, trimmed, objects_celled, celled, LiesBack, Refs, retained, retained_arcs, objects_pruned}
 use Rattle.build_meaning.proofs.Again.{all_hold}
 use Rattle.build_meaning.proofs.Objects.{lines_placed}
 use Rattle.build_meaning.proofs.Reshaped.{Objects, pruned_shape, objects_same, objects_twice}
@@ -35,10 +35,6 @@ module _ (transform : Transform) (cell : Point → Point) where
   pub all_lie_back : (arcs : List (List Point)) → AllByRecursion Lies arcs → map (map (place_on transform)) (map (map cell) arcs) ≡ arcs
   all_lie_back [] h = refl
   all_lie_back (a ∷ arcs) h = ap (λ x. x ∷ map (map (place_on transform)) (map (map cell) arcs)) (lies_back a h.0) ∙ ap (λ xs. a ∷ xs) (all_lie_back arcs h.1)
-
-  indexes_same : (t : ℕ) (arcs : List (List Point)) → AllByRecursion Lies arcs → map (λ cells. reduce t (map (place_on transform) cells)) (map (map cell) arcs) ≡ map (reduce t) arcs
-  indexes_same t [] h = refl
-  indexes_same t (a ∷ arcs) h = grind (arith, lies_back, indexes_same t arcs h.1)
 
   pub retained_lie : (kept : List (List ℕ)) (arcs : List (List Point)) → AllByRecursion Lies arcs → AllByRecursion Lies (retained_arcs kept arcs)
   retained_lie [] arcs h = tt
@@ -83,25 +79,3 @@ module _ (transform : Transform) (cell : Point → Point) where
       ∙ ap (λ os. record { objects = os; arcs = keep_from (is_used y.objects) 0 (map (map cell) y.arcs); transform = Some transform }) (objects_turn (line_renumbered (is_used y.objects)) y.objects)
       ∙ ap (λ arcs. record { objects = objects_celled cell (objects_pruned (line_renumbered (is_used y.objects)) y.objects); arcs = arcs; transform = Some transform })
       (sym (kept_of_map (map cell) (is_used y.objects) 0 y.arcs))
-
-  module _ (limit : ℕ) (os : List (List ℕ × TopoObject)) (arcs : List (List Point)) (lie : AllByRecursion Lies arcs) where
-    abbrev plain : Contents
-    plain = record { objects = os; arcs = arcs; transform = None }
-
-    abbrev on_grid : List (List Point) → List (List Point) → Contents
-    on_grid places cells = record { objects = objects_pruned (large_refs limit places) (objects_celled cell os); arcs = cells; transform = Some transform }
-
-    -- by the same numbers
-    pub retained_celled : (kept : List (List ℕ)) → simplified_by kept limit (celled transform cell (record { objects = os; arcs = arcs; transform = None })) ≡ celled transform cell (simplified_by kept limit (record { objects = os; arcs = arcs; transform = None }))
-    unfolding simplified_by celled
-    retained_celled kept =
-        let fewer : List (List Point) = retained_arcs kept arcs in
-        ap (λ x. trimmed (on_grid (map (map (place_on transform)) x) x)) (arcs_map cell kept arcs)
-        ∙ ap (λ x. trimmed (on_grid x (map (map cell) fewer))) (all_lie_back fewer (retained_lie kept arcs lie))
-        ∙ ap (λ x. trimmed (record { objects = x; arcs = map (map cell) fewer; transform = Some transform })) (objects_turn (large_refs limit fewer) os)
-        ∙ trimmed_celled (retained_whole kept limit plain)
-
-    pub simplified_celled : (t : ℕ) → simplified_contents t limit (celled transform cell (record { objects = os; arcs = arcs; transform = None })) ≡ celled transform cell (simplified_contents t limit (record { objects = os; arcs = arcs; transform = None }))
-    unfolding simplified_contents celled
-    simplified_celled t =
-        ap (λ k. simplified_by k limit (celled transform cell plain)) (indexes_same t arcs lie) ∙ retained_celled (map (reduce t) arcs)

@@ -1,6 +1,6 @@
 -- The ring that encloses most of what is left of a shape is what is made of the one that encloses most of the shape.
-use Rattle.std.proofs.Common.{◌≡◌, ℕ, ℤ, suc, nat_lt, Bool, true, false, cond, List, [], ◌∷◌, map, Option, None, Some, refl, sym, ap, ◌∙◌, subst}
-use Rattle.build_meaning.proofs.Names.{AllByRecursion, filter, all_append, all_left, all_right, all_weaker, lines_and_rings_at, composed, by_kinds, map_some, then_some, joined, Placed, inside_part, of_parts, Point, prune, lines_and_rings, Geometry, TopoShape, is_long, outer_ring, outer_rings, marked, greater, greatest, enclosed, greatest_ring}
+use Rattle.std.proofs.Common.{◌≡◌, ℕ, ℤ, suc, nat_lt, Bool, true, false, ◌&&◌, cond, List, [], ◌∷◌, map, Option, None, Some, refl, sym, ap, ◌∙◌, subst}
+use Rattle.build_meaning.proofs.Names.{fun_ext, AllByRecursion, filter, all_append, all_left, all_right, all_weaker, lines_and_rings_at, composed, by_kinds, map_some, then_some, joined, Placed, inside_part, of_parts, Point, prune, lines_and_rings, Geometry, TopoShape, is_long, outer_ring, outer_rings, marked, greater, greatest, enclosed, greatest_ring, protection}
 use Rattle.build_meaning.proofs.Marks.{outer_rings_at}
 use Rattle.build_meaning.proofs.MarksLeft.{Follows, nothing, made, left_out}
 use Rattle.build_meaning.proofs.ShapesLeft.{keeping_mark, rings_left, Turns, TurnsOver, stays}
@@ -91,6 +91,22 @@ ring_made arcs refs xs = greatest_made refs (enclosed arcs) (is_long arcs) xs
 pub ring_among : (arcs : List (List Point)) (s : TopoShape) (xs : List (Placed (List ℤ))) → outer_rings s ≡ xs → greatest_ring arcs s ≡ greatest (λ x. enclosed arcs x.part) (filter (λ x. is_long arcs x.part) xs)
 unfolding greatest_ring
 ring_among arcs s xs e = ap (λ xs. greatest (λ x. enclosed arcs x.part) (filter (λ x. is_long arcs x.part) xs)) e
+
+none_chosen : {L : Type 0} (size : L → ℕ) (long : L → Bool) (xs : List (Placed L)) → greatest_of size (λ l. false && long l) xs ≡ None
+none_chosen size long [] = refl
+none_chosen size long (x ∷ xs) = none_chosen size long xs
+
+-- the greatest ring of these, where shapes stay, and otherwise none
+pub chosen_if : {L : Type 0} (keep_shapes : Bool) (size : L → ℕ) (long : L → Bool) (xs : List (Placed L))
+    → cond keep_shapes (greatest (λ x. size x.part) (filter (λ x. long x.part) xs)) None ≡ greatest_of size (λ l. keep_shapes && long l) xs
+chosen_if true size long xs = refl
+chosen_if false size long xs = sym (none_chosen size long xs)
+
+-- the protected ring of a shape is the greatest one that passes
+pub protection_is : (keep_shapes : Bool) (arcs : List (List Point)) → protection keep_shapes arcs ≡ (λ s. greatest_of (enclosed arcs) (λ refs. keep_shapes && is_long arcs refs) (outer_rings s))
+unfolding greatest_ring
+protection_is true arcs = refl
+protection_is false arcs = fun_ext (λ s. chosen_if false (enclosed arcs) (is_long arcs) (outer_rings s))
 
 -- the way to it
 abbrev pub way_of : {L : Type 0} → Option (Placed L) → Option (List ℕ)

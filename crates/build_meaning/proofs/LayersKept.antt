@@ -1,11 +1,11 @@
--- In each feature of layers the protected ring stays.
-use Rattle.std.proofs.Common.{◌≡◌, ℕ, ℤ, Bool, List, [], ◌∷◌, map, Option, None, Some, sym, ap, ◌∙◌, subst}
-use Rattle.build_meaning.proofs.Names.{map-map, AllByRecursion, all_of_map, all_two, all_weaker, joined, map_some, Point, option_lines_and_rings, Featured, Axes, cell, linework, Contents, TopoFeature, NoneIsNew, ZeroLaw, ArcsRise, RingsStay, EachTo, kept_refs, untrimmed, built, AreSound, feature_by, is_used, keep_from, line_renumbered, renumbered, trimmed, arcs_of_layers, feature_celled, celled, LiesBack, all_features, transform_of, arc_positions, greatest_ring, protected_of, protecting_contents, protecting_reduced, HasRing, ring_refs, protecting_arc_indexes, assembled_sparing, greatest_rings, BuiltFeaturesHaveRings, LayersShapesStay, AreOn, IsOn, quantized, feature_pruned, Named, layers_of}
+-- In each feature of layers the same ring is protected as in what is built of them, and it stays.
+use Rattle.std.proofs.Common.{◌≡◌, ℕ, ℤ, Bool, true, List, [], ◌∷◌, map, Option, None, Some, sym, ap, ◌∙◌, subst}
+use Rattle.build_meaning.proofs.Names.{map-map, AllByRecursion, all_of_map, all_two, all_weaker, joined, map_some, Point, option_lines_and_rings, Featured, Axes, cell, linework, Contents, TopoFeature, NoneIsNew, ZeroLaw, ArcsRise, RingsStay, EachTo, kept_refs, untrimmed, built, AreSound, feature_by, is_used, keep_from, line_renumbered, renumbered, trimmed, arcs_of_layers, feature_celled, celled, LiesBack, all_features, transform_of, arc_positions, greatest_ring, protected_of, HasRing, ring_refs, BuiltFeaturesHaveRings, LayersShapesStay, AreOn, IsOn, quantized, feature_pruned, Named, layers_of, Guards, UnguardedIndexLaw, left_arcs, left_of, BuiltRingsAreOfLayers}
 use Rattle.build_meaning.proofs.OnGrid.{all_lie, built_on}
-use Rattle.build_meaning.proofs.Protected.{each_to_made, each_of_objects, shapes_stay}
-use Rattle.build_meaning.proofs.ProtectedLayers.{IsWholeFeature, ring_of_layer, features_of_layers, each_layer, is_assembled}
+use Rattle.build_meaning.proofs.LeftOf.{each_to_made, each_of_objects, shapes_stay}
+use Rattle.build_meaning.proofs.LayersLeft.{IsWholeFeature, ring_of_layer, features_of_layers, each_layer, are_left}
 use Rattle.build_meaning.proofs.Reshaped.{pruned_shape, features_with}
-use Rattle.build_meaning.proofs.RingsAlike.{ring_alike, ring_celled}
+use Rattle.build_meaning.proofs.RingsAlike.{ring_alike, ring_celled, rings_each}
 use Rattle.build_meaning.proofs.SparedAlike.{positions_alike, placed_same}
 use Rattle.build_meaning.proofs.Trimmed.{AllUsed, all_renumbered, all_used}
 use Rattle.build_meaning.proofs.Whole.{each_stays, loses_nothing}
@@ -62,7 +62,7 @@ module _ (zero : ZeroLaw) (ls : Named) (sound : AreSound ls) where
       (subst (AllByRecursion (λ (f : TopoFeature). AllByRecursion (AllUsed used) (option_lines_and_rings f.shape))) (features_of_layers ls ls) (each_of_objects (AllUsed used) whole.objects (all_used whole.objects)))
 
   has_ring : (f : Featured) → IsUsed f → IsWholeFeature ls f → RingOf (keep_from used 0 (arcs_of_layers ls)) (by_new_refs f) f
-  has_ring f uses whole_lines = ring_alike (λ p. p) (map (renumbered used)) (arcs_of_layers ls) (keep_from used 0 (arcs_of_layers ls)) (AllUsed used) (λ b h. all_renumbered used (arcs_of_layers ls) b.1 h) (by_refs f).shape uses ∙ ap (map_some (map (renumbered used))) (ring_of_layer ls f.shape whole_lines)
+  has_ring f uses whole_lines = ring_alike true (λ p. p) (map (renumbered used)) (arcs_of_layers ls) (keep_from used 0 (arcs_of_layers ls)) (AllUsed used) (λ b h. all_renumbered used (arcs_of_layers ls) b.1 h) (by_refs f).shape uses ∙ ap (map_some (map (renumbered used))) (ring_of_layer ls f.shape whole_lines)
 
   positions_are : arc_positions (built 0 0 ls) ≡ keep_from used 0 (arcs_of_layers ls)
   unfolding built
@@ -87,9 +87,9 @@ module _ (zero : ZeroLaw) (ls : Named) (sound : AreSound ls) where
     celled_have : AllByRecursion (λ a. AllByRecursion (LiesBack (transform_of g) (cell g)) a) arcs → Have (celled (transform_of g) (cell g) (built 0 0 ls))
     unfolding celled built trimmed
     celled_have lie =
-        subst (λ ps. EachTo (RingOf ps) (all_features (celled (transform_of g) (cell g) (built 0 0 ls))) features) (sym (placed_same (transform_of g) (cell g) 0 (built 0 0 ls).objects arcs lie))
+        subst (λ ps. EachTo (RingOf ps) (all_features (celled (transform_of g) (cell g) (built 0 0 ls))) features) (sym (placed_same true (transform_of g) (cell g) 0 (built 0 0 ls).objects arcs lie))
         (subst (λ fs. EachTo (RingOf arcs) fs features) (sym (features_with (pruned_shape (cell g) (λ closed refs. Some refs)) (built 0 0 ls).objects))
-        (each_further (RingOf arcs) (RingOf arcs) (feature_celled (cell g)) (λ before f e. ring_celled (cell g) arcs before.shape ∙ e) (all_features (built 0 0 ls)) features built_have))
+        (each_further (RingOf arcs) (RingOf arcs) (feature_celled (cell g)) (λ before f e. ring_celled true (cell g) arcs before.shape ∙ e) (all_features (built 0 0 ls)) features built_have))
 
   quantized_have : NoneIsNew → (g : Option Axes) → AreOn g ls → Have (quantized g (built 0 0 ls))
   quantized_have none None on = built_have
@@ -98,30 +98,31 @@ module _ (zero : ZeroLaw) (ls : Named) (sound : AreSound ls) where
 
   -- ---- they stay
 
-  module _ (no_crossings : Bool) (g : Option Axes) (t limit : ℕ) where
+  module _ (guards : Guards) (g : Option Axes) (t limit : ℕ) where
     abbrev at_zero : Contents
     at_zero = quantized g (built 0 0 ls)
 
-    abbrev reduced : List (List Point)
-    reduced = protecting_reduced no_crossings (greatest_rings at_zero) t at_zero
-
     abbrev KeepsIn : List (List Point) → TopoFeature → Featured → Type 0
-    KeepsIn left after f = (refs : List ℤ) → ring_refs ls f ≡ Some refs → HasRing reduced left (map (renumbered used) refs) after
+    KeepsIn left after f = (refs : List ℤ) → ring_refs ls f ≡ Some refs → HasRing (left_arcs guards t at_zero) left (map (renumbered used) refs) after
 
     abbrev AllKeep : Contents → Type 0
     AllKeep z = EachTo (KeepsIn (arc_positions z)) (all_features z) features
 
-    rings_stay : RingsStay → Have at_zero → AllKeep (protecting_contents no_crossings (greatest_rings at_zero) t limit at_zero)
-    rings_stay stay have =
-        let left : Contents = protecting_contents no_crossings (greatest_rings at_zero) t limit at_zero in
-        each_joined (λ after before. (refs : List ℤ) → protected_of (greatest_rings at_zero) before ≡ Some refs → HasRing reduced (arc_positions left) refs after) (RingOf (arc_positions at_zero)) (KeepsIn (arc_positions left))
-        (λ after before f h e refs k. h (map (renumbered used) refs) (e ∙ ap (map_some (map (renumbered used))) k)) (all_features left) (all_features at_zero) features (shapes_stay stay no_crossings t limit at_zero) have
-
-    pub kept_in_assembled : NoneIsNew → ArcsRise → RingsStay → AreOn g ls → AllKeep (quantized g (assembled_sparing (protecting_arc_indexes no_crossings t ls) limit ls))
-    kept_in_assembled none rise stay on = subst AllKeep (is_assembled none zero rise no_crossings g t limit ls on sound).contents (rings_stay stay (quantized_have none g on))
+    rings_stay : RingsStay → guards.keep_shapes ≡ true → Have at_zero → AllKeep (left_of guards t limit at_zero).contents
+    rings_stay stay k have =
+        let left : Contents = (left_of guards t limit at_zero).contents in
+        each_joined (λ after before. (refs : List ℤ) → protected_of (greatest_ring (arc_positions at_zero)) before ≡ Some refs → HasRing (left_arcs guards t at_zero) (arc_positions left) refs after)
+        (RingOf (arc_positions at_zero)) (KeepsIn (arc_positions left))
+        (λ after before f h e refs k. h (map (renumbered used) refs) (e ∙ ap (map_some (map (renumbered used))) k)) (all_features left) (all_features at_zero) features (shapes_stay stay guards t limit at_zero k) have
 
 pub features_have : NoneIsNew → ZeroLaw → BuiltFeaturesHaveRings
 features_have none zero g ls on sound = quantized_have zero ls sound none g on
 
-pub layers_stay : NoneIsNew → ZeroLaw → ArcsRise → RingsStay → LayersShapesStay
-layers_stay none zero rise stay no_crossings g t limit ls on sound = kept_in_assembled zero ls sound no_crossings g t limit none rise stay on
+pub built_rings : ZeroLaw → BuiltRingsAreOfLayers
+built_rings zero ls sound =
+    let used : ℕ → Bool = is_used (untrimmed 0 0 ls).objects in
+    rings_each (ring_refs ls) (protected_of (greatest_ring (arc_positions (built 0 0 ls)))) (map (renumbered used)) (all_features (built 0 0 ls)) (joined (map (λ l. l.1.features) ls)) (built_have zero ls sound)
+
+pub layers_stay : NoneIsNew → ZeroLaw → ArcsRise → UnguardedIndexLaw → RingsStay → LayersShapesStay
+layers_stay none zero rise law stay guards g t limit ls k on sound =
+    subst (AllKeep zero ls sound guards g t limit) (are_left none zero rise law guards g t limit ls on sound).contents (rings_stay zero ls sound guards g t limit stay k (quantized_have zero ls sound none g on))

@@ -1,6 +1,6 @@
 -- What holds of each cell and of each feature of a topology holds of what is left of it, where rings are protected too, and what stays.
 use Rattle.std.proofs.Common.{◌≡◌, ℕ, List, map, Option, refl, ap, subst, ◌∙◌, suc, ◌+◌, ◌≤◌, max, Bool, [], ◌∷◌, None, Some, sym, arith}
-use Rattle.build_meaning.proofs.Names.{fun_ext, map-map, TopoShape, object_features, TopoFeature, TopoObject, trimmed, labels, SimplifiedKeeps, no_protection, spared_by, SparedKeeps, simplified_by, AllByRecursion, by_kinds, map_some, Point, Geometry, nesting_at, option_pruned_nests, nesting, option_nesting, properties_nesting, placed_arcs, Contents, is_used, line_renumbered, EachCell, all_features, along, into_part, unmarked, rings_marked, marked, Protection, MarkedRefs, sparing, shape_marked, feature_spared, spared_whole, SparedCellsAreOn, SparedNestsNoDeeper, IsOn, Refs, feature_pruned, large_refs, retained_arcs, retained_whole, option_places, objects_pruned}
+use Rattle.build_meaning.proofs.Names.{fun_ext, map-map, TopoShape, object_features, TopoFeature, TopoObject, trimmed, labels, SimplifiedKeeps, no_protection, spared_by, SparedKeeps, simplified_by, AllByRecursion, by_kinds, map_some, Point, Geometry, nesting_at, option_pruned_nests, nesting, option_nesting, properties_nesting, placed_arcs, Contents, is_used, line_renumbered, EachCell, all_features, along, into_part, unmarked, rings_marked, marked, Protection, MarkedRefs, sparing, shape_marked, feature_spared, spared_whole, SparedCellsAreOn, SparedNestsNoDeeper, IsOn, Refs, feature_pruned, large_refs, retained_arcs, option_places, objects_pruned}
 use Rattle.json_value.specs.Depth.{greatest}
 use Rattle.json_value.specs.declared.json.Json.{Json}
 use Rattle.geojson_types.specs.declared.id.Id.{Id}
@@ -37,20 +37,11 @@ module _ (X : Point → Type 0) where
             (objects_over X X option_places option_places (spared_shape protects left) (shape_has protects left) y.objects h.1),
       )
 
-  pub left_cells : (kept : List (List ℕ)) (limit : ℕ) (y : Contents) → EachCell X y → EachCell X (simplified_by kept limit y)
-  unfolding simplified_by spared_by
-  left_cells kept limit y h = subst (λ whole. EachCell X (trimmed whole)) (whole_plain kept limit y) (spared_cells no_protection kept limit y h)
-
 -- ---- features
 
 module _ (X : TopoFeature → Type 0) (stays : (refs : Refs) (f : TopoFeature) → X f → X (feature_pruned refs f)) where
   again : (refs : Refs) (os : Objects) → AllByRecursion X (features_of os) → AllByRecursion X (features_of (objects_pruned refs os))
   again refs os h = features_hold X (pruned_shape (λ p. p) refs) (stays refs) os h
-
-  pub left_features : (kept : List (List ℕ)) (limit : ℕ) (y : Contents) → AllByRecursion X (features_of y.objects) → AllByRecursion X (features_of (simplified_by kept limit y).objects)
-  unfolding simplified_by trimmed
-  left_features kept limit y h =
-      again (line_renumbered (is_used (retained_whole kept limit y).objects)) (retained_whole kept limit y).objects (again (large_refs limit (placed_arcs y.transform (retained_arcs kept y.arcs))) y.objects h)
 
   spared_features : (protects : Protection) → ((kept : MarkedRefs) (f : TopoFeature) → X f → X (feature_spared protects kept f)) → (kept : List (List ℕ)) (limit : ℕ) (y : Contents)
       → AllByRecursion X (all_features y) → AllByRecursion X (all_features (spared_by protects kept limit y))

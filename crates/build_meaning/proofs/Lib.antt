@@ -22,18 +22,17 @@ pub mod BuiltCells
 pub mod Celled
 pub mod CelledDecoding
 mod GridRows
-pub mod Guarded
+pub mod Reduced
 pub mod Greatest
-pub mod GuardedAssembled
-pub mod GuardedLayers
-mod GuardedRows
+pub mod Spread
+mod LeftRows
 pub mod Left
 pub mod Simplified
 pub mod Made
 pub mod Marks
 pub mod Objects
 pub mod OnGrid
-pub mod Protected
+pub mod LeftOf
 pub mod ProtectedRings
 mod ProtectedRows
 pub mod Replaced
@@ -51,8 +50,8 @@ pub mod GreatestLeft
 pub mod LayersKept
 pub mod MarkedRing
 pub mod MarksLeft
-pub mod ProtectedLayers
-mod ProtectedLayersRows
+pub mod LayersLeft
+mod LayersLeftRows
 pub mod RingsAlike
 pub mod ShapesLeft
 pub mod SparedAlike

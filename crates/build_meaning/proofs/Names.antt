@@ -95,6 +95,7 @@ pub use Rattle.guarded_meaning.specs.Guards.{guarded_by, is_long}
 unfoldable pub use Rattle.guarded_meaning.specs.Guards.{is_free, keeps_rings}
 pub use Rattle.guarded_meaning.specs.Laws.{ArcsRise, CrossingsNeverRise, FewerArcsLaw, NoneStaysNone, RingsStay, UnguardedIndexLaw}
 pub use Rattle.guarded_meaning.specs.Lists.{EachTo, IsThinned}
+pub use Rattle.build_meaning.specs.ArcPositions.{arc_positions, crossings_of}
 pub use Rattle.build_meaning.specs.Assembled.{arc_indexes, arcs_of_layers, assembled_cause, layers_caused, option_caused, own_refs}
 unfoldable pub use Rattle.build_meaning.specs.Assembled.{assembled, assembled_dropped, assembled_removed_count}
 pub use Rattle.build_meaning.specs.Built.{all_arcs, kept_refs, positions_of, untrimmed}
@@ -106,26 +107,25 @@ pub use Rattle.build_meaning.specs.DroppableLines.{DroppableLine, area_droppable
 unfoldable pub use Rattle.build_meaning.specs.DroppableLines.{droppable_lines}
 pub use Rattle.build_meaning.specs.Expected.{cleaned, expected_feature, is_small, kept_line, own_cause, own_pieces, rebuilt, unless}
 unfoldable pub use Rattle.build_meaning.specs.Expected.{expected, expected_dropped}
-pub use Rattle.build_meaning.specs.GridLaws.{BuiltCellsAreOn, BuiltDecodesQuantized, BuiltIsValidQuantized, EachFeature, IsSnapped, Keeps, QuantizedDecodes, QuantizedIsValid, QuantizedKeeps, SimplifiesQuantized, SnappedAreOn, SnappedKeep, all_features}
+pub use Rattle.build_meaning.specs.GridLaws.{BuiltCellsAreOn, BuiltDecodesQuantized, BuiltIsValidQuantized, EachFeature, IsSnapped, Keeps, QuantizedDecodes, QuantizedIsValid, QuantizedKeeps, SnappedAreOn, SnappedKeep, all_features}
 unfoldable pub use Rattle.build_meaning.specs.GridTransforms.{transform_of}
-pub use Rattle.build_meaning.specs.Guarded.{all_indexes, arc_positions, crossings_of, guarded_indexes, spread}
-unfoldable pub use Rattle.build_meaning.specs.Guarded.{guarded_contents, guarded_dropped, guarded_removed_count}
-pub use Rattle.build_meaning.specs.GuardedLaws.{ArcsRetainedAreReduced, GuardedArcIndexesReach, GuardedArcsAreReduced, GuardedCrossingsNeverRise, GuardedIndexesReach, GuardedIsAssembled, GuardedIsValid, GuardedKeeps, GuardedNoneStaysNone, TrimmedFirstIsAlike, UnguardedIsSimplified}
 pub use Rattle.build_meaning.specs.Layers.{Named, features_lines_and_rings, layers_of, named_lines_and_rings, names_of}
+pub use Rattle.build_meaning.specs.Left.{Left, guard_of, left_arcs, left_indexes, no_guards, protection_of, rings_to_stay}
+unfoldable pub use Rattle.build_meaning.specs.Left.{left_of}
+pub use Rattle.build_meaning.specs.LeftLaws.{ArcsRetainedAreReduced, CrossingsNeverRise as LeftCrossingsNeverRise, GreatestRingIsGreatest, HasRing, IsAlikeOnGrid, KeepsRings, LeftArcsAreReduced, LeftIndexesReach, LeftIsValid, LeftKeeps, LeftOnGrid, NoneIsGreatest, NoneStaysNone as LeftNoneStaysNone, ShapesStay, SparedCellsAreOn, SparedIsValid, SparedKeeps, SparedNestsNoDeeper, UnguardedIsSimplified, UnprotectedIsSimplified}
+pub use Rattle.build_meaning.specs.LeftOfLayers.{all_indexes, drafted_refs, feature_assembled, layer_protection, layer_shape_marked, layers_indexes, layers_rings, left_of_layers, option_unspared, ring_refs, spread, unprotected_cause, unprotected_cause_by, unprotected_refs}
+unfoldable pub use Rattle.build_meaning.specs.LeftOfLayers.{assembled_by, greatest_of_layers}
+pub use Rattle.build_meaning.specs.LeftOfLayersLaws.{AssembledByIsValid, AssembledIsOfLines, BuiltFeaturesHaveRings, BuiltRingsAreOfLayers, LayersAreLeftOfBuilt, LayersIndexesReach, LayersLeftAreOn, LayersShapesStay, TrimmedFirstIsAlike, UnguardedIsBuilt, UnprotectedIsAssembled}
 pub use Rattle.build_meaning.specs.Objects.{Kept, feature_by, features_by, objects_by}
 pub use Rattle.build_meaning.specs.OuterRings.{along, ends_here, into_part, marked_step, outer_ring, outer_rings_step, rings_marked, unmarked}
 unfoldable pub use Rattle.build_meaning.specs.OuterRings.{marked, outer_rings}
-pub use Rattle.build_meaning.specs.Protected.{MarkedRefs, Protection, cause_sparing, enclosed, feature_spared, greater, greatest, no_protection, object_spared, objects_spared, option_unprotected, protected_of, protected_rings, protecting_indexes, shape_marked, spared_whole, sparing}
-unfoldable pub use Rattle.build_meaning.specs.Protected.{greatest_ring, protecting_contents, protecting_dropped, protecting_removed_count, spared_by, spared_dropped, spared_removed_count}
-pub use Rattle.build_meaning.specs.ProtectedLaws.{GreatestRingIsGreatest, HasRing, NoneIsGreatest, ProtectingArcsAreReduced, ProtectingCrossingsNeverRise, ProtectingIndexesReach, ProtectingIsValid, ProtectingKeeps, ProtectingNoneStaysNone, ShapesStay, SparedIsValid, SparedKeeps, UnprotectedIsGuarded, UnprotectedIsSimplified, protecting_reduced}
-pub use Rattle.build_meaning.specs.ProtectedLayers.{drafted_refs, feature_sparing, layer_shape_marked, layers_rings, protecting_arc_indexes, ring_refs, unprotected_cause, unprotected_cause_by, unprotected_refs}
-unfoldable pub use Rattle.build_meaning.specs.ProtectedLayers.{assembled_sparing, assembled_sparing_dropped, assembled_sparing_removed_count, greatest_of_layers}
-pub use Rattle.build_meaning.specs.ProtectedLayersLaws.{AssembledSparingIsOn, AssembledSparingIsValid, BuiltFeaturesHaveRings, BuiltRingsAreOfLayers, IsAlikeOnGrid, LayersShapesStay, ProtectingArcIndexesAreOfLayers, ProtectingArcIndexesReach, ProtectingIsAssembled, ProtectingOnGrid, SparedCellsAreOn, SparedNestsNoDeeper, SparingIsOfLayers, TrimmedFirstIsAlikeSparing, greatest_rings}
+pub use Rattle.build_meaning.specs.Protected.{MarkedRefs, Protection, cause_sparing, enclosed, feature_spared, greater, greatest, no_protection, object_spared, objects_spared, option_unprotected, protected_of, protected_rings, protection, shape_marked, spared_whole, sparing}
+unfoldable pub use Rattle.build_meaning.specs.Protected.{greatest_ring, spared_by, spared_dropped, spared_removed_count}
 pub use Rattle.build_meaning.specs.Quantized.{AreInputs, AreOn, IsCount, IsOn, named_grid, named_points, quantized, snapped_named}
 pub use Rattle.build_meaning.specs.Simplified.{EachFromFirstToLast, FromFirstToLast, Refs, feature_pruned, large_refs, objects_pruned, option_small, retained, retained_arcs, retained_whole, small_cause}
 unfoldable pub use Rattle.build_meaning.specs.Simplified.{dropped_by, removed_count_by, simplified_by}
-pub use Rattle.build_meaning.specs.SimplifiedLaws.{ArcIndexesReach, AssembledIsValid, AssemblesToBuilt, AssemblingDropsExpected, AssemblingRemoves, BuiltDecodesOnGrid, BuiltIsValidOnGrid, CelledDecodes, CelledIsValid, DecodesBackOnGrid, IndexesReach, ReducedIsValid, RetainedIsReduced, SimplifiedIsValid, SimplifiedKeeps, SimplifiesToBuilt, SimplifiesToBuiltOnGrid, labels}
+pub use Rattle.build_meaning.specs.SimplifiedLaws.{ArcIndexesReach, AssemblesToBuilt, AssemblingDropsExpected, AssemblingRemoves, BuiltDecodesOnGrid, BuiltIsValidOnGrid, CelledDecodes, CelledIsValid, DecodesBackOnGrid, IndexesReach, RetainedIsReduced, SimplifiedKeeps, labels}
 pub use Rattle.build_meaning.specs.Thresholds.{placed_cells, reduced_indexes}
-unfoldable pub use Rattle.build_meaning.specs.Thresholds.{simplified_contents, simplified_dropped, simplified_removed_count}
 pub use Rattle.build_meaning.specs.Trimming.{feature_renumbered, is_used, keep_from, line_renumbered, new_index_from, object_renumbered, renumbered}
 unfoldable pub use Rattle.build_meaning.specs.Trimming.{trimmed}
+pub use Rattle.build_meaning.specs.declared.guards.Guards.{Guards}

@@ -1,6 +1,6 @@
 -- Topologies whose positions lie on a grid, put on that grid: they are valid, decode to the same, and keep names, identifiers and properties.
 use Rattle.std.proofs.Common.{◌≡◌, ℕ, ◌+◌, ◌≤◌, max, List, [], ◌∷◌, map, length, None, Some, refl, ap, ◌∙◌, arith, Option, ◌*◌, sym, ℤ, pos, unsigned_abs, subst, rules}
-use Rattle.build_meaning.proofs.Names.{map-map, all_features, TopoShape, length-map, Point, option_pruned_nests, option_nesting, properties_nesting, IdHasNumbers, PropertiesHaveNumbers, IdHasTexts, PropertiesHaveTexts, cell, Contents, TopoFeature, Transform, feature_celled, celled, Keeps, QuantizedKeeps, transform_of, IsPosition, settled, covered_within, covered_parts, number_within, Axes, IsAxis, IsGrid, number, snapped, Settles, Axis, place_on, AllByRecursion, all_weaker, NoneIsNew, DecodesBack, IsValid, LiesBack, IsOnGrid, EachCell, QuantizedIsValid, QuantizedDecodes, BuiltCellsAreOn, BuiltIsValidQuantized, BuiltDecodesQuantized, SimplifiesQuantized, BuiltIsValidOnGrid, DecodesBackOnGrid, SimplifiesToBuilt, SimplifiesToBuiltOnGrid, IsOn, named_points, objects_places}
+use Rattle.build_meaning.proofs.Names.{map-map, all_features, TopoShape, length-map, Point, option_pruned_nests, option_nesting, properties_nesting, IdHasNumbers, PropertiesHaveNumbers, IdHasTexts, PropertiesHaveTexts, cell, Contents, TopoFeature, Transform, feature_celled, celled, Keeps, QuantizedKeeps, transform_of, IsPosition, settled, covered_within, covered_parts, number_within, Axes, IsAxis, IsGrid, number, snapped, Settles, Axis, place_on, AllByRecursion, all_weaker, NoneIsNew, DecodesBack, IsValid, LiesBack, IsOnGrid, EachCell, QuantizedIsValid, QuantizedDecodes, BuiltCellsAreOn, BuiltIsValidQuantized, BuiltDecodesQuantized, BuiltIsValidOnGrid, DecodesBackOnGrid, IsOn, named_points, objects_places}
 use Rattle.std.proofs.Math.Nat.{mul-le-mul_left}
 use Rattle.geometry.specs.Units.{position_limit}
 use Rattle.topojson_types.proofs.ExactTexts.{units_are_numbers, stands_exactly}
@@ -103,10 +103,6 @@ built_valid valid celled (Some g) t limit ls on sound distinct = grind (arith, h
 pub built_decodes : DecodesBack → DecodesBackOnGrid → BuiltDecodesQuantized
 built_decodes back celled None t limit ls on sound distinct = back t limit ls sound distinct
 built_decodes back celled (Some g) t limit ls on sound distinct = celled (transform_of g) (cell g) t limit ls sound distinct (all_lie g on.0 (named_points ls) on.1)
-
-pub simplifies : SimplifiesToBuilt → SimplifiesToBuiltOnGrid → SimplifiesQuantized
-simplifies plain celled None t limit ls on sound = plain t limit ls sound
-simplifies plain celled (Some g) t limit ls on sound = celled (transform_of g) (cell g) t limit ls sound (all_lie g on.0 (named_points ls) on.1)
 
 -- ---- what stays: names, identifiers, properties, and the lengths of arcs
 

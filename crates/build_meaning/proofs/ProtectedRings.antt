@@ -3,7 +3,7 @@ use Rattle.std.proofs.Common.{◌≡◌, ℕ, ℤ, Bool, true, List, ◌∷◌, 
 use Rattle.build_meaning.proofs.Names.{AllByRecursion, length-map, AreInRange, Meet, arc_at, In, joined, Point, option_lines_and_rings, all_weaker, each_of, in_right, TopoFeature, TopoObject, Transform, placed_arcs, object_features, objects_lines_and_rings, place_on, IsJoined, arc_positions, outer_rings, greatest_ring, protected_of, protected_rings}
 use Rattle.build_meaning.proofs.Greatest.{greatest_is}
 use Rattle.build_meaning.proofs.GreatestLeft.{rings_within}
-use Rattle.build_meaning.proofs.Protected.{are_long, OfFeature, Protects, all_given, each_of_objects, protected_parts}
+use Rattle.build_meaning.proofs.LeftOf.{are_long, OfFeature, Protects, all_given, each_of_objects, protected_parts}
 use Rattle.build_meaning.proofs.ValidCelled.{line_map, meet_map}
 use Rattle.build_meaning.specs.ProtectedRings.{ProtectedRingsCanStay}
 

@@ -1,9 +1,9 @@
 -- Worked rows of topologies in which rings are protected, in whole units, computed from the definitions. The fold of a shape is opened by
 -- its kind.
 use Rattle.std.proofs.Common.{◌≡◌, ℕ, ◌+◌, ℤ, pos, negsuc, true, false, List, [], ◌∷◌, None, Some, refl, ap, ◌∙◌}
-use Rattle.build_meaning.proofs.Names.{drop_causes-area, drop_causes-areas, cross, twice_area, shoelace, number_of, Placed, Point, same, Small, TopoShape, Contents, TopoFeature, reduce_arcs, goes_before, keeps_rings, guarded_by, outer_rings, marked, greatest_ring, protected_rings, protecting_indexes, sparing, objects_spared, spared_dropped, large_refs}
+use Rattle.build_meaning.proofs.Names.{drop_causes-area, drop_causes-areas, cross, twice_area, shoelace, number_of, Placed, Point, same, Small, TopoShape, Contents, TopoFeature, reduce_arcs, goes_before, keeps_rings, guarded_by, outer_rings, marked, greatest_ring, protected_rings, sparing, objects_spared, spared_dropped, large_refs, Guards, left_indexes, left_of}
 use Rattle.build_meaning.proofs.Assembled.{contents}
-use Rattle.build_meaning.proofs.GuardedRows.{layer}
+use Rattle.build_meaning.proofs.LeftRows.{layer}
 use Rattle.build_meaning.proofs.Marks.{outer_rings_at, marked-line, marked-area, marked-areas, marked-group, left-area, left-areas}
 use Rattle.build_meaning.proofs.SimplifiedRows.{at}
 use Rattle.geometry.specs.declared.shape.Geometry.TheVariants as g
@@ -14,6 +14,10 @@ triangle x y side = at x y ∷ (at (x + side) y ∷ (at x (y + side) ∷ (at x y
 
 abbrev feature : TopoShape → TopoFeature
 feature s = record { id = None; properties = None; shape = Some s }
+
+-- where shapes stay
+abbrev keeping_shapes : Guards
+keeping_shapes = record { no_crossings = false; keep_shapes = true }
 
 abbrev ring : ℕ → List ℤ
 ring k = pos k ∷ []
@@ -49,15 +53,16 @@ greater_island = simp (rings_of_polygons)
 island_rings : protected_rings (greatest_ring islands.arcs) islands.objects ≡ ring 0 ∷ (ring 2 ∷ [])
 island_rings = simp (first_island, greater_island)
 
-island_indexes : protecting_indexes false (greatest_ring islands.arcs) 200 islands ≡ (0 ∷ (1 ∷ (2 ∷ (3 ∷ [])))) ∷ ((0 ∷ (3 ∷ [])) ∷ ((0 ∷ (1 ∷ (2 ∷ (3 ∷ [])))) ∷ []))
+island_indexes : left_indexes keeping_shapes 200 islands ≡ (0 ∷ (1 ∷ (2 ∷ (3 ∷ [])))) ∷ ((0 ∷ (3 ∷ [])) ∷ ((0 ∷ (1 ∷ (2 ∷ (3 ∷ [])))) ∷ []))
 island_indexes = ap (λ rings. reduce_arcs (guarded_by false rings) 200 islands.arcs) island_rings ∙ (unfold reduce_arcs keeps_rings goes_before twice_area cross same number_of in refl)
 
 abbrev islands_left : List (List Point)
 islands_left = triangle 0 0 1 ∷ ((at 20 20 ∷ (at 20 20 ∷ [])) ∷ (triangle 10 10 2 ∷ []))
 
 -- the lesser island is small, and dropped
-islands_dropped : spared_dropped (greatest_ring islands.arcs) (protecting_indexes false (greatest_ring islands.arcs) 200 islands) 0 islands
+islands_dropped : (left_of keeping_shapes 200 0 islands).dropped
     ≡ record { address = record { layer = 0; feature = 1; path = 0 ∷ (0 ∷ []) }; cause = Small } ∷ []
+unfolding left_of
 islands_dropped = ap (λ kept. spared_dropped (greatest_ring islands.arcs) kept 0 islands) island_indexes ∙ (unfold spared_dropped same shoelace in simp (first_island, greater_island, marked-area, marked-areas, drop_causes-area, drop_causes-areas))
 
 islands_spared : objects_spared (greatest_ring islands.arcs) (sparing (large_refs 0 islands_left)) islands.objects ≡ layer (feature (polygon 0) ∷ (feature (g.Areas ((ring 2 ∷ []) ∷ [])) ∷ []))
@@ -75,7 +80,7 @@ square_rings : protected_rings (greatest_ring squares.arcs) squares.objects ≡ 
 unfolding greatest_ring same shoelace
 square_rings = simp ((outer_rings_at Point (List ℤ)).area)
 
-square_indexes : protecting_indexes false (greatest_ring squares.arcs) 200 squares ≡ (0 ∷ (1 ∷ [])) ∷ ((0 ∷ (1 ∷ (3 ∷ []))) ∷ ((0 ∷ (2 ∷ (3 ∷ []))) ∷ []))
+square_indexes : left_indexes keeping_shapes 200 squares ≡ (0 ∷ (1 ∷ [])) ∷ ((0 ∷ (1 ∷ (3 ∷ []))) ∷ ((0 ∷ (2 ∷ (3 ∷ []))) ∷ []))
 square_indexes = ap (λ rings. reduce_arcs (guarded_by false rings) 200 squares.arcs) square_rings ∙ (unfold reduce_arcs keeps_rings goes_before twice_area cross same number_of in refl)
 
 -- ---- a ring under the limit stays where it is protected, but for a second polygon with the same ring, which is dropped

@@ -1,11 +1,9 @@
 -- What is built of layers at a threshold and a limit of zero and then reduced by both is what is built of them by both.
-use Rattle.std.proofs.Common.{rules, arith, ◌≡◌, ℕ, ℤ, Bool, false, cond, List, map, None, Some, refl, sym, ◌∙◌}
-use Rattle.build_meaning.proofs.Names.{AllByRecursion, all_weaker, all_two, then_some, Point, Small, clean, is_short, Stroke, linework, pieces, from_start, objects_lines_and_rings, TopoObject, index_in, reduced, DirectionLaw, ZeroLaw, all_arcs, kept_refs, cleaned, own_pieces, own_cause, rebuilt, is_small, kept_line, AreSound, whole_line, objects_by, keep_from, renumbered, line_renumbered, small_cause, large_refs, objects_pruned, same_stitched, In, AreDistinct as Apart, interior, is_cut, Named, layers_of, named_lines_and_rings}
-use Rattle.build_meaning.proofs.Again.{all_hold}
+use Rattle.std.proofs.Common.{rules, arith, ◌≡◌, ℕ, ℤ, Bool, false, cond, List, map, None, Some}
+use Rattle.build_meaning.proofs.Names.{all_two, then_some, Point, Small, clean, is_short, Stroke, linework, pieces, from_start, index_in, reduced, DirectionLaw, ZeroLaw, all_arcs, kept_refs, cleaned, own_pieces, own_cause, rebuilt, is_small, kept_line, AreSound, whole_line, objects_by, keep_from, renumbered, line_renumbered, small_cause, large_refs, objects_pruned, same_stitched, In, AreDistinct as Apart, interior, is_cut, Named, layers_of, named_lines_and_rings}
 use Rattle.build_meaning.proofs.Decoding.{pieces_back}
 use Rattle.build_meaning.proofs.Linework.{Line, StandsIn, each_stands, own_apart, own_in}
 use Rattle.build_meaning.proofs.Made.{objects_made}
-use Rattle.build_meaning.proofs.Objects.{objects_then}
 use Rattle.build_meaning.proofs.Trimmed.{AllUsed, all_renumbered}
 use Rattle.build_meaning.proofs.Whole.{loses_nothing}
 
@@ -45,15 +43,6 @@ module _ (limit : ℕ) (u : ℕ → Bool) (arcs : List (List Point)) where
 
   pub refs_same : (b : Bool × List ℤ) → AllUsed u b → large_refs limit fewer b.0 (map (renumbered u) b.1) ≡ then_some (line_renumbered u b.0) (large_refs limit arcs b.0 b.1)
   refs_same b h = search (arith, all_renumbered u arcs b.1 h)
-
-  -- reduced and then renumbered is renumbered and then reduced
-  pub objects_same : (os : List (List ℕ × TopoObject)) → AllByRecursion (AllUsed u) (objects_lines_and_rings os) →
-      objects_pruned (large_refs limit fewer) (objects_pruned (line_renumbered u) os) ≡ objects_pruned (line_renumbered u) (objects_pruned (large_refs limit arcs) os)
-  objects_same os h =
-      objects_then (line_renumbered u) (large_refs limit fewer) (λ closed refs. then_some (line_renumbered u closed) (large_refs limit arcs closed refs)) os
-      (all_weaker (AllUsed u) (λ b. large_refs limit fewer b.0 (map (renumbered u) b.1) ≡ then_some (line_renumbered u b.0) (large_refs limit arcs b.0 b.1)) refs_same (objects_lines_and_rings os) h)
-      ∙ sym (objects_then (large_refs limit arcs) (line_renumbered u) (λ closed refs. then_some (line_renumbered u closed) (large_refs limit arcs closed refs)) os
-      (all_hold (λ b. then_some (line_renumbered u b.0) (large_refs limit arcs b.0 b.1) ≡ then_some (line_renumbered u b.0) (large_refs limit arcs b.0 b.1)) (λ b. refl) (objects_lines_and_rings os)))
 
 -- ---- topologies
 

@@ -1,6 +1,6 @@
 -- Worked rows of topologies whose arcs are reduced, computed from the definitions. The fold of a shape is opened by its kind.
 use Rattle.std.proofs.Common.{◌≡◌, ◌==◌, ℕ, ◌-◌, ℤ, pos, negsuc, Bool, true, false, List, [], ◌∷◌, Option, None, Some, refl, ap, ◌∙◌}
-use Rattle.build_meaning.proofs.Names.{list_any, prune-line, prune-area, lines_and_rings-line, lines_and_rings-area, drop_causes-area, drop_causes-line, cross, twice_area, shoelace, drop_causes, number_of, Point, prune, same, Small, Outer, TopoShape, Contents, objects_lines_and_rings, TopoFeature, TopoObject, One, Many, is_before, reduce, positions_of, is_used, keep_from, line_renumbered, trimmed, retained_arcs, small_cause, large_refs, retained_whole, simplified_by, dropped_by, removed_count_by, reduced_indexes, simplified_contents, simplified_dropped, simplified_removed_count}
+use Rattle.build_meaning.proofs.Names.{list_any, prune-line, prune-area, lines_and_rings-line, lines_and_rings-area, drop_causes-area, drop_causes-line, cross, twice_area, shoelace, drop_causes, number_of, Point, prune, same, Small, Outer, TopoShape, Contents, objects_lines_and_rings, TopoFeature, TopoObject, One, Many, is_before, reduce, positions_of, is_used, keep_from, line_renumbered, trimmed, retained_arcs, small_cause, large_refs, retained_whole, simplified_by, dropped_by, removed_count_by, reduced_indexes}
 use Rattle.geometry.specs.declared.shape.Geometry.TheVariants as g
 
 abbrev pub at : ℕ → ℕ → Point
@@ -78,8 +78,8 @@ trimmed_by u =
       transform = None;
     }
 
-holed_at_two : simplified_contents 2 0 holed ≡ simplified_holed
-unfolding simplified_contents simplified_by trimmed number_of
+holed_at_two : simplified_by (reduced_indexes 2 holed) 0 holed ≡ simplified_holed
+unfolding simplified_by trimmed number_of
 holed_at_two =
     ap trimmed holed_left
     ∙ ap (λ bs. trimmed_by (used_in bs)) left_lines_and_rings
@@ -89,13 +89,13 @@ holed_at_two =
     (prune-line (λ (p : Point). p) (line_renumbered (used_in names)) (negsuc 2 ∷ []))
 
 -- the hole is reported, as Small
-holed_dropped : simplified_dropped 2 0 holed ≡ record { address = record { layer = 0; feature = 0; path = 1 ∷ [] }; cause = Small } ∷ []
-unfolding simplified_dropped dropped_by same shoelace
+holed_dropped : dropped_by (reduced_indexes 2 holed) 0 holed ≡ record { address = record { layer = 0; feature = 0; path = 1 ∷ [] }; cause = Small } ∷ []
+unfolding dropped_by same shoelace
 holed_dropped = simp (holed_arcs, drop_causes-area, drop_causes-line)
 
 -- of the arcs that stay nothing is removed: the triangle's isn't counted
-holed_removed_count : simplified_removed_count 2 0 holed ≡ 0
-unfolding simplified_removed_count removed_count_by simplified_by trimmed number_of
+holed_removed_count : removed_count_by (reduced_indexes 2 holed) 0 holed ≡ 0
+unfolding removed_count_by simplified_by trimmed number_of
 holed_removed_count =
     ap (λ y. positions_of (keep_from (is_used y.objects) 0 holed.arcs) - positions_of (trimmed y).arcs) holed_left
     ∙ ap (λ bs. positions_of (keep_from (used_in bs) 0 holed.arcs) - positions_of (keep_from (used_in bs) 0 fewer)) left_lines_and_rings
@@ -144,6 +144,6 @@ lone_arcs : retained_arcs (reduced_indexes 2 lone) lone.arcs ≡ lone_fewer
 unfolding reduce is_before twice_area cross
 lone_arcs = refl
 
-lone_dropped : simplified_dropped 2 0 lone ≡ record { address = record { layer = 1; feature = 0; path = [] }; cause = Small } ∷ []
-unfolding simplified_dropped dropped_by same shoelace
+lone_dropped : dropped_by (reduced_indexes 2 lone) 0 lone ≡ record { address = record { layer = 1; feature = 0; path = [] }; cause = Small } ∷ []
+unfolding dropped_by same shoelace
 lone_dropped = simp (lone_arcs, drop_causes-line)

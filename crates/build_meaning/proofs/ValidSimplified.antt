@@ -1,8 +1,8 @@
 -- A topology whose arcs are reduced stays valid.
 use Rattle.std.proofs.Common.{arith, ◌≡◌, ℕ, ◌≤◌, ℤ, Bool, true, cond, List, map, length, Option, Some, sym, subst}
-use Rattle.build_meaning.proofs.Names.{AllByRecursion, all_weaker, all_two, arc_at, Meet, Closes, Point, Cause, is_some_list, placed_arcs, Contents, objects_lines_and_rings, TopoObject, unless, is_used, keep_from, renumbered, line_renumbered, trimmed, SimplifiedIsValid, Protection, no_protection, sparing, objects_spared, spared_whole, spared_by, SparedIsValid, small_cause, large_refs, objects_pruned, retained_arcs, simplified_by, EachFromFirstToLast, AreDistinct, AreInRange, IsJoined, IsClosed, IsArc, IsObject, IsTopology, EndsStay, IsValid, NoneIsNew, built, untrimmed}
+use Rattle.build_meaning.proofs.Names.{AllByRecursion, all_weaker, all_two, arc_at, Meet, Closes, Point, Cause, is_some_list, placed_arcs, Contents, objects_lines_and_rings, TopoObject, unless, is_used, keep_from, renumbered, line_renumbered, trimmed, Protection, no_protection, sparing, objects_spared, spared_whole, spared_by, SparedIsValid, small_cause, large_refs, objects_pruned, retained_arcs, EachFromFirstToLast, AreDistinct, AreInRange, IsJoined, IsClosed, IsArc, IsObject, IsTopology, EndsStay, IsValid, NoneIsNew, built, untrimmed}
 use Rattle.build_meaning.proofs.Reshaped.{pruned_shape, names_stay}
-use Rattle.build_meaning.proofs.Spared.{spared_shape, by_refs, objects_plain, whole_plain, objects_left}
+use Rattle.build_meaning.proofs.Spared.{spared_shape, by_refs, objects_plain, objects_left}
 use Rattle.build_meaning.proofs.Trimmed.{AllUsed, all_renumbered, all_used}
 use Rattle.build_meaning.proofs.ValidEnds.{meet_as, close_as}
 use Rattle.build_meaning.proofs.ValidPruned.{MarkedGivesSome, objects_are}
@@ -88,11 +88,6 @@ valid_whole protects kept limit y h through =
 pub spared_is_valid : SparedIsValid
 unfolding spared_by
 spared_is_valid protects kept limit y h through = valid_trimmed (spared_whole protects kept limit y) (valid_whole protects kept limit y h through)
-
-pub simplified_is_valid : SimplifiedIsValid
-unfolding simplified_by
-simplified_is_valid kept limit y h through =
-    subst (λ whole. IsTopology (trimmed whole)) (whole_plain kept limit y) (valid_trimmed (spared_whole no_protection kept limit y) (valid_whole no_protection kept limit y h through))
 
 pub built_is_valid : EndsStay → NoneIsNew → IsValid
 unfolding built

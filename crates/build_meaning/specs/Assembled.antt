@@ -3,9 +3,8 @@
 use Rattle.std.specs.Prelude.{ℕ, ℤ, Bool, List, [], Option, None, Some, map, if◌then◌else◌}
 use Rattle.arc_table.specs.Arcs.{index_in}
 use Rattle.build_meaning.specs.Built.{all_arcs, untrimmed}
-use Rattle.build_meaning.specs.Expected.{own_pieces, unless}
+use Rattle.build_meaning.specs.Expected.{own_pieces}
 use Rattle.build_meaning.specs.Layers.{Named, layers_of}
-use Rattle.build_meaning.specs.Objects.{objects_by}
 use Rattle.elimination_meaning.specs.Elimination.{reduce}
 use Rattle.geojson_types.specs.Features.{Shape}
 use Rattle.geometry.specs.declared.address.Cause.{Cause}
@@ -53,16 +52,6 @@ option_caused why (Some s) = drop_causes why s
 -- the lines and rings of all layers that are dropped, in reading order
 abbrev pub layers_caused : (Bool → List Point → Option Cause) → Named → List Dropped
 layers_caused why ls = dropped_of_layers 0 (map (λ l. map (λ f. option_caused why f.shape) l.1.features) ls)
-
--- ---- what is left of layers
-
--- the indexes of a line's own pieces among the arcs, unless it is dropped
-abbrev pub assembled_refs : List (List ℕ) → ℕ → Named → Bool → List Point → Option (List ℤ)
-assembled_refs kept limit ls closed ps = unless (cause_by kept limit ls closed ps) (own_refs (linework (layers_of ls)) closed ps)
-
--- the layers over all their arcs, of each arc the positions of these numbers, without the lines and rings that are dropped
-abbrev pub assembled_whole : List (List ℕ) → ℕ → Named → Contents
-assembled_whole kept limit ls = record { objects = objects_by (assembled_refs kept limit ls) ls; arcs = retained_arcs kept (arcs_of_layers ls); transform = None }
 
 -- ---- topologies
 

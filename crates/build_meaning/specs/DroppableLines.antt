@@ -6,7 +6,6 @@ use Rattle.geometry.specs.declared.shape.Geometry.{Geometry, fold-Geometry}
 use Rattle.geometry.specs.declared.shape.Geometry.TheOpen.{Geometry-F}
 use Rattle.geometry.specs.Lists.{joined}
 use Rattle.geometry.specs.DropCauses.{inner_cause}
-use Rattle.geometry.specs.Points.{Point}
 
 -- an open line (false) or a ring (true); around a hole lies the outer ring, which may be left out
 pub record DroppableLine (L : Type 0) : Type 0 where

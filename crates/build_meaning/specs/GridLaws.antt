@@ -13,7 +13,6 @@ use Rattle.geojson_types.specs.Texts.{IdHasTexts, PropertiesHaveTexts, FeatureHa
 use Rattle.geometry.specs.Lists.{joined}
 use Rattle.grid_snap.specs.Axes.{Axes}
 use Rattle.build_meaning.specs.Celled.{EachCell}
-use Rattle.build_meaning.specs.Thresholds.{simplified_contents}
 use Rattle.topojson_types.specs.declared.feature.TopoFeature.{TopoFeature}
 use Rattle.topojson_types.specs.Decoding.{decoded}
 use Rattle.topojson_types.specs.Topologies.{Contents, object_features}
@@ -90,7 +89,3 @@ BuiltIsValidQuantized = (g : Option Axes) (t limit : ℕ) (ls : Named) → AreOn
 abbrev pub BuiltDecodesQuantized : Type 0
 BuiltDecodesQuantized = (g : Option Axes) (t limit : ℕ) (ls : Named) → AreOn g ls → AreSound ls → AreDistinct (names_of ls)
     → AllByRecursion (λ l. decoded (quantized g (built t limit ls)) l.0 ≡ Some (set.Many l.1.features)) (expected t limit ls)
-
--- what is built at a threshold and a limit of zero and then reduced by both on the grid is what is built by both
-abbrev pub SimplifiesQuantized : Type 0
-SimplifiesQuantized = (g : Option Axes) (t limit : ℕ) (ls : Named) → AreOn g ls → AreSound ls → simplified_contents t limit (quantized g (built 0 0 ls)) ≡ quantized g (built t limit ls)

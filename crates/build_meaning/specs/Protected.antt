@@ -13,14 +13,12 @@ use Rattle.geometry.specs.Lists.{joined, map_some, then_some, some_of}
 use Rattle.geometry.specs.Paths.{Placed}
 use Rattle.geometry.specs.Points.{Point}
 use Rattle.geometry.specs.Pruning.{prune}
-use Rattle.guarded_meaning.specs.Elimination.{reduce_arcs}
-use Rattle.guarded_meaning.specs.Guards.{is_long, guarded_by}
+use Rattle.guarded_meaning.specs.Guards.{is_long}
 use Rattle.topojson_types.specs.declared.feature.TopoFeature.{TopoFeature}
 use Rattle.topojson_types.specs.declared.object.TopoObject.{TopoObject}
 use Rattle.topojson_types.specs.declared.object.TopoObject.TheVariants.{One, Many}
 use Rattle.topojson_types.specs.Decoding.{placed_arcs}
 use Rattle.topojson_types.specs.Topologies.{TopoShape, Contents, object_features}
-use Rattle.build_meaning.specs.Guarded.{arc_positions}
 use Rattle.build_meaning.specs.OuterRings.{outer_rings, marked}
 use Rattle.build_meaning.specs.Simplified.{Refs, small_cause, large_refs, retained_arcs}
 
@@ -51,6 +49,10 @@ enclosed arcs refs = twice_ring_area (stitched (map (arc_at arcs) refs))
 -- of the outer rings that have four positions or more, with equal neighbours as one, the one that encloses most, the first of equals
 unfoldable pub greatest_ring : List (List Point) → Protection
 greatest_ring arcs s = greatest (λ x. enclosed arcs x.part) (filter (λ x. is_long arcs x.part) (outer_rings s))
+
+-- where shapes stay (true) that ring is protected, and otherwise none is
+abbrev pub protection : Bool → List (List Point) → Protection
+protection keep_shapes arcs = if keep_shapes then greatest_ring arcs else no_protection
 
 -- ---- the protected rings of a topology
 
@@ -117,21 +119,3 @@ spared_dropped protects kept limit y =
 unfoldable pub spared_removed_count : Protection → List (List ℕ) → ℕ → Contents → ℕ
 spared_removed_count protects kept limit y =
     positions_of (keep_from (is_used (spared_whole protects kept limit y).objects) 0 y.arcs) - positions_of (spared_by protects kept limit y).arcs
-
--- ---- topologies whose arcs are reduced at once
-
--- of each arc the numbers of the cells that stay, where crossings may not be made (true) or may, and each protected ring keeps four positions
-abbrev pub protecting_indexes : Bool → Protection → ℕ → Contents → List (List ℕ)
-protecting_indexes no_crossings protects t y = reduce_arcs (guarded_by no_crossings (protected_rings protects y.objects)) t (arc_positions y)
-
--- the topology with its arcs reduced so at a threshold, without the lines and rings that are then small by a limit and not protected
-unfoldable pub protecting_contents : Bool → Protection → ℕ → ℕ → Contents → Contents
-protecting_contents no_crossings protects t limit y = spared_by protects (protecting_indexes no_crossings protects t y) limit y
-
--- the lines and rings that are then dropped, in reading order
-unfoldable pub protecting_dropped : Bool → Protection → ℕ → ℕ → Contents → List Dropped
-protecting_dropped no_crossings protects t limit y = spared_dropped protects (protecting_indexes no_crossings protects t y) limit y
-
--- how many positions are then removed from the arcs that stay
-unfoldable pub protecting_removed_count : Bool → Protection → ℕ → ℕ → Contents → ℕ
-protecting_removed_count no_crossings protects t limit y = spared_removed_count protects (protecting_indexes no_crossings protects t y) limit y

@@ -6,7 +6,7 @@ use Rattle.geometry.specs.Points.{Point}
 use Rattle.guarded_meaning.specs.Guards.{is_long}
 use Rattle.topojson_types.specs.Topologies.{Contents}
 use Rattle.topojson_types.specs.Validity.{IsTopology}
-use Rattle.build_meaning.specs.Guarded.{arc_positions}
+use Rattle.build_meaning.specs.ArcPositions.{arc_positions}
 use Rattle.build_meaning.specs.Protected.{greatest_ring, protected_rings}
 
 -- rings of these arcs that can be asked to stay: each index names an arc, the arcs meet, and there are four positions or more

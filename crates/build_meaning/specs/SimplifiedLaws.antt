@@ -1,7 +1,7 @@
 -- What is true of reducing a topology again.
 use Rattle.std.specs.Prelude.{◌≡◌, ℕ, List, Option, None, Some, map}
 use Rattle.std.specs.List.{AllByRecursion}
-use Rattle.build_meaning.specs.Built.{untrimmed, built, removed_count}
+use Rattle.build_meaning.specs.Built.{built, removed_count}
 use Rattle.build_meaning.specs.Expected.{expected, expected_dropped}
 use Rattle.build_meaning.specs.BuiltLaws.{AreSound}
 use Rattle.build_meaning.specs.Layers.{Named, names_of, layers_of}
@@ -16,26 +16,16 @@ use Rattle.topojson_types.specs.Decoding.{decoded}
 use Rattle.topojson_types.specs.Topologies.{Contents, object_features}
 use Rattle.topojson_types.specs.Transforms.{IsTransform}
 use Rattle.topojson_types.specs.Validity.{AreDistinct, IsTopology}
-use Rattle.build_meaning.specs.Assembled.{arcs_of_layers, arc_indexes, assembled_whole, assembled, assembled_dropped, assembled_removed_count}
+use Rattle.build_meaning.specs.Assembled.{arcs_of_layers, arc_indexes, assembled, assembled_dropped, assembled_removed_count}
 use Rattle.build_meaning.specs.Celled.{celled, LiesBack, IsOnGrid, EachCell}
-use Rattle.build_meaning.specs.Simplified.{retained, EachFromFirstToLast, retained_whole, simplified_by}
-use Rattle.build_meaning.specs.Thresholds.{reduced_indexes, simplified_contents}
+use Rattle.build_meaning.specs.Simplified.{retained, EachFromFirstToLast, simplified_by}
+use Rattle.build_meaning.specs.Thresholds.{reduced_indexes}
 
 -- ---- reduction
 
 -- the positions of the indexes that stay are those of the reduced line
 abbrev pub RetainedIsReduced : Type 0
 RetainedIsReduced = (t : ℕ) (ps : List Point) → retained (reduce t ps) ps ≡ reduced t ps
-
--- what is built of layers at a threshold and a limit of zero and then reduced by both is what is built of them by both
-abbrev pub SimplifiesToBuilt : Type 0
-SimplifiesToBuilt = (t limit : ℕ) (ls : Named) → AreSound ls → simplified_contents t limit (built 0 0 ls) ≡ built t limit ls
-
--- on a grid on which each position of the layers lies, what is built at a threshold and a limit of zero and then reduced by both is what is
--- built by both
-abbrev pub SimplifiesToBuiltOnGrid : Type 0
-SimplifiesToBuiltOnGrid = (transform : Transform) (cell : Point → Point) (t limit : ℕ) (ls : Named) → AreSound ls → AllByRecursion (LiesBack transform cell) (layers_points (layers_of ls))
-    → simplified_contents t limit (celled transform cell (built 0 0 ls)) ≡ celled transform cell (built t limit ls)
 
 -- the name of each object, with the identifier and the properties of each of its features, in order
 abbrev pub labels : Contents → List (List ℕ × List (Option Id × Option (List (List ℕ × Json))))
@@ -75,17 +65,9 @@ BuiltIsValidOnGrid = (transform : Transform) (cell : Point → Point) (t limit :
 
 -- ---- validity
 
--- a topology whose arcs keep their ends stays valid
-abbrev pub SimplifiedIsValid : Type 0
-SimplifiedIsValid = (kept : List (List ℕ)) (limit : ℕ) (y : Contents) → IsTopology y → EachFromFirstToLast kept y.arcs → IsTopology (simplified_by kept limit y)
-
 -- the numbers of the cells that stay begin with the first and end with the last
 abbrev pub IndexesReach : Type 0
 IndexesReach = (t : ℕ) (y : Contents) → IsTopology y → EachFromFirstToLast (reduced_indexes t y) y.arcs
-
--- a valid topology that is reduced at a threshold stays valid
-abbrev pub ReducedIsValid : Type 0
-ReducedIsValid = (t limit : ℕ) (y : Contents) → IsTopology y → IsTopology (simplified_contents t limit y)
 
 -- ---- assembling
 
@@ -97,10 +79,6 @@ AssemblesToBuilt = (t limit : ℕ) (ls : Named) → AreSound ls → assembled (a
 abbrev pub AssemblingDropsExpected : Type 0
 AssemblingDropsExpected = (t limit : ℕ) (ls : Named) → AreSound ls → assembled_dropped (arc_indexes t ls) limit ls ≡ expected_dropped t limit ls
 
--- what is left of the layers over all their arcs is left by their own lines: each is dropped for the cause for which it is reported
-abbrev pub AssemblingIsOfLayers : Type 0
-AssemblingIsOfLayers = (kept : List (List ℕ)) (limit : ℕ) (ls : Named) → AreSound ls → retained_whole kept limit (untrimmed 0 0 ls) ≡ assembled_whole kept limit ls
-
 -- as many positions are removed as reduction removes
 abbrev pub AssemblingRemoves : Type 0
 AssemblingRemoves = (t limit : ℕ) (ls : Named) → AreSound ls → assembled_removed_count (arc_indexes t ls) limit ls ≡ removed_count t limit ls
@@ -108,8 +86,3 @@ AssemblingRemoves = (t limit : ℕ) (ls : Named) → AreSound ls → assembled_r
 -- the numbers of the positions that stay of the layers' arcs begin with the first and end with the last
 abbrev pub ArcIndexesReach : Type 0
 ArcIndexesReach = (t : ℕ) (ls : Named) → AreSound ls → EachFromFirstToLast (arc_indexes t ls) (arcs_of_layers ls)
-
--- what is assembled of arcs that keep their ends is valid
-abbrev pub AssembledIsValid : Type 0
-AssembledIsValid = (kept : List (List ℕ)) (limit : ℕ) (ls : Named) → AreSound ls → AreDistinct (names_of ls) → EachFromFirstToLast kept (arcs_of_layers ls)
-    → IsTopology (assembled kept limit ls)

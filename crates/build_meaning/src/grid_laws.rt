@@ -1,11 +1,8 @@
 // Laws of the definitions. A function here changes nothing: its contract is the law.
-ghost use Rattle.build_meaning.specs.GridLaws.{BuiltCellsAreOn, BuiltDecodesQuantized, BuiltIsValidQuantized, QuantizedDecodes, QuantizedIsValid, QuantizedKeeps, SimplifiesQuantized, SnappedAreOn, SnappedKeep};
+ghost use Rattle.build_meaning.specs.GridLaws.{BuiltCellsAreOn, BuiltDecodesQuantized, BuiltIsValidQuantized, QuantizedDecodes, QuantizedIsValid, QuantizedKeeps, SnappedAreOn, SnappedKeep};
 
 use crate::built_laws::{built_decodes_back, built_is_valid};
-use crate::simplified_laws::{
-    built_decodes_back_on_grid, built_is_valid_on_grid, simplifies_to_built,
-    simplifies_to_built_on_grid,
-};
+use crate::simplified_laws::{built_decodes_back_on_grid, built_is_valid_on_grid};
 use elimination_meaning::nothing_is_new;
 
 /// Sound layers snapped to the grid that is asked for are sound under the same names, and each of their positions lies on the grid.
@@ -57,14 +54,4 @@ pub fn built_decodes_quantized()
 {
     built_decodes_back();
     built_decodes_back_on_grid();
-}
-
-/// What is built of such layers at a threshold and a limit of zero, put on the grid and then reduced by both, is what is built by both,
-/// put on the grid.
-#[tactic(auto, using(crate::proofs::OnGrid::simplifies))]
-pub fn simplifies_quantized()
-    ensures { SimplifiesQuantized }
-{
-    simplifies_to_built();
-    simplifies_to_built_on_grid();
 }

@@ -4,15 +4,16 @@
 //! that are reduced at once, on `grid_snap`, whose grids have cells, and on `topojson_types`, which says what a topology decodes to and where a
 //! cell lies by a transform. The layers above use the definitions and the laws: what is built, reduced or put on a grid is valid, decodes to
 //! the features that are expected of the layers, and names no arc that isn't there; each segment of the lines lies once, in exactly one arc;
-//! arcs don't depend on where the lines stand; and what is built at a threshold of zero and then reduced is what is built at the threshold,
-//! with a grid and without. `specs/Protected.antt` says what is left where in each feature one ring is protected.
+//! arcs don't depend on where the lines stand; and what is left of layers at a threshold is what is left of what is built of them at zero, with
+//! a grid and without, and without a guard what is built of them at the threshold. `specs/Left.antt` says what is left of a topology, and
+//! `specs/LeftOfLayers.antt` what is left of layers.
 #![tactic(auto)]
 
 mod built_laws;
 mod grid_laws;
-mod guarded_laws;
-mod protected_laws;
-mod protected_layers_laws;
+mod guards;
+mod left_laws;
+mod left_of_layers_laws;
 mod ring_laws;
 mod simplified_laws;
 mod transform_laws;
@@ -23,31 +24,24 @@ pub use built_laws::{
 };
 pub use grid_laws::{
     built_cells_are_on, built_decodes_quantized, built_is_valid_quantized, quantized_decodes,
-    quantized_is_valid, quantized_keeps, simplifies_quantized, snapped_are_on, snapped_keep,
+    quantized_is_valid, quantized_keeps, snapped_are_on, snapped_keep,
 };
-pub use guarded_laws::{
-    arcs_retained_are_reduced, guarded_arc_indexes_reach, guarded_arcs_are_reduced,
-    guarded_crossings_never_rise, guarded_indexes_reach, guarded_is_assembled, guarded_is_valid,
-    guarded_keeps, guarded_none_stays_none, trimmed_first_is_alike, unguarded_is_simplified,
+pub use guards::Guards;
+pub use left_laws::{
+    arcs_retained_are_reduced, crossings_never_rise, greatest_ring_is_greatest,
+    left_arcs_are_reduced, left_indexes_reach, left_is_valid, left_keeps, left_on_grid,
+    none_is_greatest, none_stays_none, shapes_stay, spared_cells_are_on, spared_is_valid,
+    spared_keeps, spared_nests_no_deeper, unguarded_is_simplified, unprotected_is_simplified,
 };
-pub use protected_laws::{
-    greatest_ring_is_greatest, none_is_greatest, protecting_arcs_are_reduced,
-    protecting_crossings_never_rise, protecting_indexes_reach, protecting_is_valid,
-    protecting_keeps, protecting_none_stays_none, shapes_stay, spared_is_valid, spared_keeps,
-    unprotected_is_guarded, unprotected_is_simplified,
-};
-pub use protected_layers_laws::{
-    assembled_sparing_is_on, assembled_sparing_is_valid, built_features_have_rings,
-    built_rings_are_of_layers, layers_shapes_stay, protecting_arc_indexes_are_of_layers,
-    protecting_arc_indexes_reach, protecting_is_assembled, protecting_on_grid, spared_cells_are_on,
-    spared_nests_no_deeper, sparing_is_of_layers, trimmed_first_is_alike_sparing,
+pub use left_of_layers_laws::{
+    assembled_by_is_valid, assembled_is_of_lines, built_features_have_rings,
+    built_rings_are_of_layers, layers_are_left_of_built, layers_indexes_reach, layers_left_are_on,
+    layers_shapes_stay, trimmed_first_is_alike, unguarded_is_built, unprotected_is_assembled,
 };
 pub use ring_laws::protected_rings_can_stay;
 pub use simplified_laws::{
-    arc_indexes_reach, assembled_is_valid, assembles_to_built, assembling_drops_expected,
-    assembling_is_of_layers, assembling_removes, built_decodes_back_on_grid, built_decodes_on_grid,
-    built_is_valid_on_grid, celled_decodes, celled_is_valid, indexes_reach, reduced_is_valid,
-    retained_is_reduced, simplified_is_valid, simplified_keeps, simplifies_to_built,
-    simplifies_to_built_on_grid,
+    arc_indexes_reach, assembles_to_built, assembling_drops_expected, assembling_removes,
+    built_decodes_back_on_grid, built_decodes_on_grid, built_is_valid_on_grid, celled_decodes,
+    celled_is_valid, indexes_reach, retained_is_reduced, simplified_keeps,
 };
 pub use transform_laws::{cells_are_on_grid, cells_lie_there, grid_has_transform};

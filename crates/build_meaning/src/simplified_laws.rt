@@ -1,5 +1,5 @@
 // Laws of the definitions. A function here changes nothing: its contract is the law.
-ghost use Rattle.build_meaning.specs.SimplifiedLaws.{ArcIndexesReach, AssembledIsValid, AssemblesToBuilt, AssemblingDropsExpected, AssemblingIsOfLayers, AssemblingRemoves, BuiltDecodesOnGrid, BuiltIsValidOnGrid, CelledDecodes, CelledIsValid, DecodesBackOnGrid, IndexesReach, SimplifiedIsValid, SimplifiedKeeps, SimplifiesToBuilt, SimplifiesToBuiltOnGrid, RetainedIsReduced, ReducedIsValid};
+ghost use Rattle.build_meaning.specs.SimplifiedLaws.{ArcIndexesReach, AssemblesToBuilt, AssemblingDropsExpected, AssemblingRemoves, BuiltDecodesOnGrid, BuiltIsValidOnGrid, CelledDecodes, CelledIsValid, DecodesBackOnGrid, IndexesReach, SimplifiedKeeps, RetainedIsReduced};
 
 use crate::built_laws::{built_decodes_back, built_is_valid};
 use elimination_meaning::{direction_law, ends_stay, nothing_is_new, zero_law};
@@ -10,26 +10,6 @@ use guarded_meaning::{arcs_rise, unguarded_index_law};
 pub fn retained_is_reduced()
     ensures { RetainedIsReduced }
 {}
-
-/// What is built of layers at a threshold and a limit of zero and then reduced by both is what is built of them by both.
-#[tactic(auto, using(crate::proofs::GuardedAssembled::simplifies_to_built))]
-pub fn simplifies_to_built()
-    ensures { SimplifiesToBuilt }
-{
-    direction_law();
-    zero_law();
-}
-
-/// On a grid on which each position of the layers lies, the cells of what is built at zero are reduced to the cells of what
-/// is built at the threshold.
-#[tactic(auto, using(crate::proofs::GuardedAssembled::simplifies_on_grid))]
-pub fn simplifies_to_built_on_grid()
-    ensures { SimplifiesToBuiltOnGrid }
-{
-    direction_law();
-    zero_law();
-    nothing_is_new();
-}
 
 /// Reducing a topology leaves its objects with their names, their features with identifiers and properties, and its transform.
 pub fn simplified_keeps()
@@ -71,23 +51,10 @@ pub fn built_is_valid_on_grid()
     nothing_is_new();
 }
 
-/// A topology of whose arcs cells are left out between the ends is valid again, without the lines and rings that are then small.
-pub fn simplified_is_valid()
-    ensures { SimplifiedIsValid }
-{}
-
 /// The indexes that reduction leaves of a valid topology's arc reach from its first cell to its last.
-#[tactic(auto, using(crate::proofs::Protected::reduced_indexes_reach))]
+#[tactic(auto, using(crate::proofs::LeftOf::reduced_indexes_reach))]
 pub fn indexes_reach()
     ensures { IndexesReach }
-{
-    arcs_rise();
-    unguarded_index_law();
-}
-
-/// A topology whose arcs are reduced is valid again.
-pub fn reduced_is_valid()
-    ensures { ReducedIsValid }
 {
     arcs_rise();
     unguarded_index_law();
@@ -111,14 +78,6 @@ pub fn assembling_drops_expected()
     zero_law();
 }
 
-/// What is left of layers over all their arcs is left by their own lines and rings: what is reported of one, and whether it is left, has one
-/// cause.
-pub fn assembling_is_of_layers()
-    ensures { AssemblingIsOfLayers }
-{
-    zero_law();
-}
-
 /// As many positions are then removed from the arcs that stay as reduction removes from them.
 #[tactic(auto, using(crate::proofs::Assembled::removes))]
 pub fn assembling_removes()
@@ -135,13 +94,4 @@ pub fn arc_indexes_reach()
 {
     arcs_rise();
     unguarded_index_law();
-}
-
-/// What is assembled of layers is valid, where each arc keeps its ends.
-pub fn assembled_is_valid()
-    ensures { AssembledIsValid }
-{
-    ends_stay();
-    nothing_is_new();
-    zero_law();
 }

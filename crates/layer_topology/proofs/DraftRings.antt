@@ -20,12 +20,13 @@ use Rattle.owned_values.proofs.Elements.{all_weaker}
 use Rattle.build_meaning.specs.Assembled.{arcs_of_layers, own_refs}
 use Rattle.build_meaning.specs.OuterRings.{outer_rings}
 use Rattle.build_meaning.specs.Protected.{greatest_ring, protected_of, protected_rings}
-use Rattle.build_meaning.specs.ProtectedLayers.{drafted_refs, greatest_of_layers, ring_refs, layers_rings}
-use Rattle.build_meaning.specs.ProtectedLayersLaws.{greatest_rings, BuiltRingsAreOfLayers}
+use Rattle.build_meaning.specs.ArcPositions.{arc_positions}
+use Rattle.build_meaning.specs.LeftOfLayers.{drafted_refs, greatest_of_layers, ring_refs, layers_rings}
+use Rattle.build_meaning.specs.LeftOfLayersLaws.{BuiltRingsAreOfLayers}
 use Rattle.build_meaning.specs.ProtectedRings.{CanStay, ProtectedRingsCanStay}
 use Rattle.build_meaning.proofs.Again.{all_hold}
 use Rattle.build_meaning.proofs.GreatestLeft.{put, ring_among, ring_made}
-use Rattle.build_meaning.proofs.ProtectedLayers.{rings_of_layers}
+use Rattle.build_meaning.proofs.LayersLeft.{rings_of_layers}
 use Rattle.build_meaning.proofs.RingsAlike.{as_it_is, rings_made}
 use Rattle.topojson_types.specs.declared.object.TopoObject.{TopoObject}
 use Rattle.topojson_types.specs.Topologies.{object_features}
@@ -115,5 +116,5 @@ module _ (ls : Named) where
       found_in_range can used many =
           subst (λ (n : ℕ). AllByRecursion (AreInRange n) rings) (sym (many ∙ ap (λ (xs : List (List Point)). length xs) are)) (subst (AllByRecursion (AreInRange (length arcs))) (sym found_are) (rings_can_stay can).in_range)
 
-      pub found_of_built : BuiltRingsAreOfLayers → map (map (renumbered (is_used (untrimmed 0 0 ls).objects))) rings ≡ protected_rings (greatest_rings (built 0 0 ls)) (built 0 0 ls).objects
+      pub found_of_built : BuiltRingsAreOfLayers → map (map (renumbered (is_used (untrimmed 0 0 ls).objects))) rings ≡ protected_rings (greatest_ring (arc_positions (built 0 0 ls))) (built 0 0 ls).objects
       found_of_built rings_are = ap (map (map (renumbered (is_used (untrimmed 0 0 ls).objects)))) found_are ∙ sym (rings_are ls sound)

@@ -1,5 +1,5 @@
 -- Arcs of which some are reduced at once and the others stay whole.
-use Rattle.std.proofs.Common.{◌≡◌, ℕ, ◌≤◌, ℤ, zero, suc, Bool, true, false, cond, List, [], ◌∷◌, map, length, Option, refl, subst, sym, ap, ◌∙◌}
+use Rattle.std.proofs.Common.{◌≡◌, ℕ, ◌≤◌, zero, suc, Bool, true, false, cond, List, [], ◌∷◌, map, length, Option, refl, subst, sym, ap, ◌∙◌}
 use Rattle.std.specs.List.{AllByRecursion}
 use Rattle.std.specs.Prelude.{not}
 use Rattle.build_meaning.specs.Built.{built, untrimmed}
@@ -12,16 +12,16 @@ use Rattle.geometry.specs.Joins.{or_empty, first_of}
 use Rattle.geometry.specs.Lists.{tail}
 use Rattle.geometry.specs.Points.{Point}
 use Rattle.guarded_meaning.specs.Elimination.{Guard, reduce_arcs}
-use Rattle.guarded_meaning.specs.Guards.{guarded_by}
 use Rattle.guarded_meaning.specs.Laws.{ArcsRise}
 use Rattle.guarded_meaning.proofs.Lists.{as_many as each_as_many}
-use Rattle.layer_topology.specs.GuardedLevels.{guarded_chosen, guarded_threshold, reduced_by}
+use Rattle.layer_topology.specs.Levels.{chosen_for, reduced_by, threshold_by}
 use Rattle.layer_topology.specs.declared.level.Level.{Level}
 use Rattle.build_meaning.specs.Assembled.{arcs_of_layers}
-use Rattle.build_meaning.specs.Guarded.{all_indexes, arc_positions, spread}
+use Rattle.build_meaning.specs.ArcPositions.{arc_positions}
+use Rattle.build_meaning.specs.LeftOfLayers.{all_indexes, spread}
 use Rattle.build_meaning.specs.Simplified.{EachFromFirstToLast, retained, retained_arcs}
-use Rattle.build_meaning.proofs.Guarded.{each_through, sub_left}
-use Rattle.build_meaning.proofs.GuardedLayers.{all_retained, built_arcs, built_positions, layers_long, spread_left}
+use Rattle.build_meaning.proofs.Reduced.{each_through, sub_left}
+use Rattle.build_meaning.proofs.Spread.{all_retained, built_arcs, built_positions, layers_long, spread_left}
 use Rattle.topojson_types.specs.declared.object.TopoObject.{TopoObject}
 use Rattle.topo_model.specs.Retaining.{IsDraftOf}
 use Rattle.topo_model.specs.DraftLaws.{DraftUsesAtZero}
@@ -122,21 +122,21 @@ module _ (ls : Named) where
     pub marked_of_layers : ZeroLaw → chosen flags arcs ≡ arc_positions (built 0 0 ls)
     marked_of_layers stays = chosen_as used (length arcs) flags arcs flags_are refl ∙ ap (keep_from used 0) are ∙ sym (arcs_are stays)
 
-    module _ (no_crossings : Bool) (rings : List (List ℤ)) (level : Level) (stays : ZeroLaw) where
+    module _ (guard : Guard) (level : Level) (stays : ZeroLaw) where
       -- how they are reduced
       abbrev by : List (List Point) → List (List ℕ)
-      by = reduced_by no_crossings rings level
+      by = reduced_by guard level
 
       through : ArcsRise → EachFromFirstToLast (by (arc_positions (built 0 0 ls))) (arc_positions (built 0 0 ls))
       through rise =
           each_through (by (arc_positions (built 0 0 ls))) (arc_positions (built 0 0 ls))
-          (rise (guarded_by no_crossings rings) (guarded_threshold no_crossings rings level (arc_positions (built 0 0 ls))) (arc_positions (built 0 0 ls))) (arcs_long stays draft.sound)
+          (rise guard (threshold_by guard level (arc_positions (built 0 0 ls))) (arc_positions (built 0 0 ls))) (arcs_long stays draft.sound)
 
       -- their numbers, spread over all arcs, are those of the layers' arcs
       pub left_of_layers : ArcsRise → (left : List (List Point))
-          → ((passes : ℕ → Bool) → flags ≡ answers passes 0 (length arcs) → EachFromFirstToLast (reduced_by no_crossings rings level (keep_from passes 0 arcs)) (keep_from passes 0 arcs)
-          → left ≡ retained_arcs (spread passes 0 (reduced_by no_crossings rings level (keep_from passes 0 arcs)) arcs) arcs)
-          → left ≡ retained_arcs (spread (is_used (untrimmed 0 0 ls).objects) 0 (reduced_by no_crossings rings level (arc_positions (built 0 0 ls))) (arcs_of_layers ls)) (arcs_of_layers ls)
+          → ((passes : ℕ → Bool) → flags ≡ answers passes 0 (length arcs) → EachFromFirstToLast (reduced_by guard level (keep_from passes 0 arcs)) (keep_from passes 0 arcs)
+          → left ≡ retained_arcs (spread passes 0 (reduced_by guard level (keep_from passes 0 arcs)) arcs) arcs)
+          → left ≡ retained_arcs (spread (is_used (untrimmed 0 0 ls).objects) 0 (reduced_by guard level (arc_positions (built 0 0 ls))) (arcs_of_layers ls)) (arcs_of_layers ls)
       left_of_layers rise left f =
           let same : arc_positions (built 0 0 ls) ≡ keep_from used 0 arcs = arcs_are stays ∙ ap (keep_from used 0) (sym are) in
           f used flags_are (subst (λ xs. EachFromFirstToLast (by xs) xs) same (through rise))
@@ -144,6 +144,6 @@ module _ (ls : Named) where
           ∙ ap (λ xs. retained_arcs (spread used 0 (by (arc_positions (built 0 0 ls))) xs) xs) are
 
       -- and the threshold is that of these arcs
-      pub chosen_of_layers : (t : Option ℕ) → ((passes : ℕ → Bool) → flags ≡ answers passes 0 (length arcs) → t ≡ guarded_chosen no_crossings rings level (keep_from passes 0 arcs))
-          → t ≡ guarded_chosen no_crossings rings level (arc_positions (built 0 0 ls))
-      chosen_of_layers t f = f used flags_are ∙ ap (λ xs. guarded_chosen no_crossings rings level (keep_from used 0 xs)) are ∙ ap (guarded_chosen no_crossings rings level) (sym (arcs_are stays))
+      pub chosen_of_layers : (t : Option ℕ) → ((passes : ℕ → Bool) → flags ≡ answers passes 0 (length arcs) → t ≡ chosen_for level (threshold_by guard level (keep_from passes 0 arcs)))
+          → t ≡ chosen_for level (threshold_by guard level (arc_positions (built 0 0 ls)))
+      chosen_of_layers t f = f used flags_are ∙ ap (λ xs. chosen_for level (threshold_by guard level (keep_from used 0 xs))) are ∙ ap (λ xs. chosen_for level (threshold_by guard level xs)) (sym (arcs_are stays))

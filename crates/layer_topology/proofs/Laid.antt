@@ -7,7 +7,7 @@ use Rattle.build_meaning.specs.Built.{built}
 use Rattle.build_meaning.specs.Layers.{Named, names_of}
 use Rattle.build_meaning.specs.Quantized.{named_grid}
 use Rattle.build_meaning.specs.GridLaws as grid
-use Rattle.layer_topology.specs.Laws.{IsValid, HasNames, DecodesBack, EachSegmentOnce, NestsNoDeeper, NumbersStay, TextsStay, SimplifiesToWritten}
+use Rattle.layer_topology.specs.Laws.{IsValid, HasNames, DecodesBack, EachSegmentOnce, NestsNoDeeper, NumbersStay, TextsStay}
 use Rattle.layer_topology.specs.Written.{snapped_to, written, AreTaken}
 use Rattle.layer_topology.proofs.Kept.{built_names, built_nests, built_numbers, built_texts}
 use Rattle.owned_values.proofs.Elements.{all_of_map}
@@ -37,10 +37,6 @@ back on decodes count t limit ls h = let s = snapped on count ls h in decodes (n
 
 pub once : grid.SnappedAreOn → build.EachSegmentOnce → EachSegmentOnce
 once on segments count ls h = segments (snapped_to count ls) (snapped on count ls h).sound
-
-pub simplifies : grid.SnappedAreOn → grid.SimplifiesQuantized → SimplifiesToWritten
-unfolding written
-simplifies on less count t limit ls h = let s = snapped on count ls h in less (named_grid count ls) t limit (snapped_to count ls) s.on s.sound
 
 pub nests : grid.SnappedKeep → grid.QuantizedKeeps → NestsNoDeeper
 unfolding written

@@ -1,4 +1,5 @@
 pub mod Agreeing
+pub mod Asked
 pub mod AtOnceRows
 pub mod AtZero
 pub mod Chosen

@@ -19,12 +19,12 @@ use Rattle.guarded_meaning.proofs.Counts.{segments_by_points}
 use Rattle.guarded_meaning.proofs.Lists.{filter_map}
 use Rattle.guarded_meaning.proofs.Neighbours.{all_segments, segments_are}
 use Rattle.guarded_meaning.proofs.Thinned.{remaining_thinned}
-use Rattle.layer_topology.specs.Guarded.{HasOrigins}
-use Rattle.build_meaning.specs.Guarded.{arc_positions, guarded_contents, guarded_indexes}
-use Rattle.build_meaning.specs.GuardedLaws.{GuardedArcsAreReduced}
-use Rattle.build_meaning.specs.Protected.{Protection, protected_rings, protecting_contents, protecting_indexes, spared_whole}
-use Rattle.build_meaning.specs.ProtectedLaws.{ProtectingArcsAreReduced}
-use Rattle.build_meaning.specs.Simplified.{retained_whole}
+use Rattle.layer_topology.specs.Promises.{HasOrigins}
+use Rattle.build_meaning.specs.ArcPositions.{arc_positions}
+use Rattle.build_meaning.specs.Left.{left_indexes, left_of, protection_of, rings_to_stay}
+use Rattle.build_meaning.specs.LeftLaws.{LeftArcsAreReduced}
+use Rattle.build_meaning.specs.Protected.{spared_whole}
+use Rattle.build_meaning.specs.declared.guards.Guards.{Guards}
 use Rattle.topojson_types.specs.Topologies.{Contents}
 
 -- ---- the segments of some of the arcs
@@ -98,14 +98,11 @@ some_origins law rings t y left stays some = record {
   met = law rings t (arc_positions y);
 }
 
-pub protecting_origins : NoCrossingsLaw → ProtectingArcsAreReduced → (protects : Protection) (t limit : ℕ) (y : Contents) → HasOrigins y (protecting_contents true protects t limit y)
-protecting_origins law some protects t limit y =
-    some_origins law (protected_rings protects y.objects) t y (protecting_contents true protects t limit y)
-    (is_used (spared_whole protects (protecting_indexes true protects t y) limit y).objects) (some true protects t limit y)
-
-pub guarded_origins : NoCrossingsLaw → GuardedArcsAreReduced → (t limit : ℕ) (y : Contents) → HasOrigins y (guarded_contents true t limit y)
-guarded_origins law some t limit y =
-    some_origins law [] t y (guarded_contents true t limit y) (is_used (retained_whole (guarded_indexes true t y) limit y).objects) (some true t limit y)
+pub origins : NoCrossingsLaw → LeftArcsAreReduced → (guards : Guards) (t limit : ℕ) (y : Contents) → guards.no_crossings ≡ true → HasOrigins y (left_of guards t limit y).contents
+origins law some guards t limit y e =
+    let passes : ℕ → Bool = is_used (spared_whole (protection_of guards y) (left_indexes guards t y) limit y).objects in
+    some_origins law (rings_to_stay guards y) t y (left_of guards t limit y).contents passes
+    (some guards t limit y ∙ ap (λ b. keep_from passes 0 (reduced_arcs (guarded_by b (rings_to_stay guards y)) t (arc_positions y))) e)
 
 -- ---- a row
 

@@ -23,12 +23,12 @@ use Rattle.guarded_meaning.specs.Weights.{passing, weight}
 use Rattle.guarded_meaning.proofs.Weights.{kept_at_zero}
 use Rattle.junctions.specs.Cleaning.{clean, is_short}
 use Rattle.owned_values.proofs.Elements.{all_weaker}
-use Rattle.build_meaning.specs.Guarded.{arc_positions}
+use Rattle.build_meaning.specs.ArcPositions.{arc_positions}
 use Rattle.build_meaning.specs.OuterRings.{outer_rings, into_part, along, unmarked, rings_marked, marked}
 use Rattle.build_meaning.specs.Protected.{enclosed, greatest_ring, sparing, shape_marked, feature_spared, object_spared, objects_spared, spared_by}
 use Rattle.build_meaning.specs.Simplified.{Refs, feature_pruned, object_pruned, objects_pruned, large_refs, retained, retained_arcs, simplified_by}
 use Rattle.build_meaning.proofs.GreatestLeft.{greatest_of, way_of}
-use Rattle.build_meaning.proofs.GuardedLayers.{all_retained}
+use Rattle.build_meaning.proofs.Spread.{all_retained}
 use Rattle.build_meaning.proofs.MarkedRing.{MarkPasses, marks_pass}
 use Rattle.build_meaning.proofs.Marks.{left-point, left-points, left-line, left-lines, left-area, left-areas, left-group, some_made}
 use Rattle.build_meaning.proofs.Spared.{by_refs}

@@ -11,7 +11,6 @@ use Rattle.geojson_types.specs.Nesting.{feature_nesting}
 use Rattle.geojson_types.specs.Numbers.{FeatureHasNumbers}
 use Rattle.geojson_types.specs.Texts.{FeatureHasTexts}
 use Rattle.build_meaning.specs.GridLaws.{EachFeature}
-use Rattle.build_meaning.specs.Thresholds.{simplified_contents}
 use Rattle.linework.specs.Linework.{linework}
 use Rattle.topojson_meaning.specs.Bounds as bounds
 use Rattle.topojson_meaning.specs.Texts.{ContentsHaveTexts}
@@ -61,7 +60,3 @@ pub record WrittenLaws : Type 0 where
   pub nests : NestsNoDeeper
   pub numbers : NumbersStay
   pub texts : TextsStay
-
--- what is written at a threshold and a limit of zero and then reduced by both is what is written by both
-abbrev pub SimplifiesToWritten : Type 0
-SimplifiesToWritten = (count : Option ℕ) (t limit : ℕ) (ls : Named) → AreTaken count ls → simplified_contents t limit (written count 0 0 ls) ≡ written count t limit ls

@@ -1,9 +1,8 @@
-pub mod Guarded
-pub mod GuardedLaws
-pub mod GuardedLevels
-pub mod GuardedWritten
+pub mod GuardLaws
 pub mod Laws
 pub mod Levels
+pub mod Promises
 pub mod Replacing
 pub mod Written
 pub mod Splitting
+pub mod Topologies

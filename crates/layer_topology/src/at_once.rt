@@ -1,11 +1,8 @@
 // Which positions of arcs stay that are reduced at once, and at which threshold.
 ghost use Rattle.std.specs.Prelude.{◌≡◌, IfOk, length, map, true};
-ghost use Rattle.std.specs.List.{AllByRecursion};
-ghost use Rattle.geometry.specs.Joins.{AreInRange, Meet, arc_at};
-ghost use Rattle.guarded_meaning.specs.Elimination.{reduce_arcs};
-ghost use Rattle.guarded_meaning.specs.Guards.{guarded_by, is_long};
-ghost use Rattle.layer_topology.specs.Guarded.{is_simplifying_level};
-ghost use Rattle.layer_topology.specs.GuardedLevels.{guarded_chosen, guarded_threshold};
+ghost use Rattle.build_meaning.specs.ProtectedRings.{CanStay};
+ghost use Rattle.guarded_meaning.specs.Guards.{guarded_by};
+ghost use Rattle.layer_topology.specs.Levels.{chosen_for, is_simplifying_level, reduced_by, threshold_by};
 
 use crate::level::Level;
 use geojson_types::Position;
@@ -26,12 +23,10 @@ pub fn kept_at_once(
     level: Level,
 ) -> Result<(Vec<Vec<usize>>, Option<u128>), Memory>
     requires level { is_simplifying_level level ≡ true }
-    requires in_range { AllByRecursion (AreInRange (length arcs.now)) rings.now }
-    requires meet { AllByRecursion (λ refs. Meet (map (arc_at arcs.now) refs)) rings.now }
-    requires long { AllByRecursion (λ refs. is_long arcs.now refs ≡ true) rings.now }
+    requires rings { CanStay arcs.now rings.now }
     ensures kept { IfOk result (λ r. map (λ k. k.items) r.0.items
-        ≡ reduce_arcs (guarded_by no_crossings rings.now) (guarded_threshold no_crossings rings.now level arcs.now) arcs.now) }
-    ensures chosen { IfOk result (λ r. r.1 ≡ guarded_chosen no_crossings rings.now level arcs.now) }
+        ≡ reduced_by (guarded_by no_crossings rings.now) level arcs.now) }
+    ensures chosen { IfOk result (λ r. r.1 ≡ chosen_for level (threshold_by (guarded_by no_crossings rings.now) level arcs.now)) }
 {
     match level {
         Level::Fixed(threshold) => {

@@ -6,7 +6,7 @@ ghost use Rattle.effective_area.specs.Capped.{AreCapped};
 ghost use Rattle.effective_area.specs.Shares.{interior_weights, kept_at, share};
 ghost use Rattle.effective_area.specs.Weights.{weights_of};
 ghost use Rattle.elimination_meaning.specs.Elimination.{reduce};
-ghost use Rattle.layer_topology.specs.Levels.{calls_at, chosen_at, is_level, threshold_at};
+ghost use Rattle.layer_topology.specs.Levels.{calls_at, chosen_for, is_simplifying_level, threshold_at};
 ghost use Rattle.build_meaning.specs.Simplified.{retained, retained_arcs};
 
 use crate::level::Level;
@@ -18,7 +18,7 @@ use geojson_types::Position;
 use json_value::Items;
 use owned_values::Memory;
 use std::alloc::Global;
-use topo_model::{Cell, retained_positions};
+use topo_model::{Cell, positions_of_all, retained_positions};
 
 /// The positions of a line that stay at a threshold.
 pub fn reduced_line<Q: Reducer>(
@@ -36,7 +36,7 @@ pub fn reduced_line<Q: Reducer>(
 }
 
 /// Of each arc the positions that stay at a threshold. An arc is freed before the next one is reduced.
-#[tactic(auto, using(effective_area::proofs::CallLists::one_called, topo_model::proofs::Retained::retained_more))]
+#[tactic(auto, using(effective_area::proofs::CallLists::one_called, topo_model::proofs::RetainedArcs::retained_more))]
 fn reduced_arcs<Q: Reducer>(
     alloc: Global,
     reducer: &mut Q,
@@ -84,45 +84,10 @@ fn weighed_arcs(
     Ok(all)
 }
 
-/// The positions of an arc that stay at a threshold by their weights.
-fn arc_by_weights(
-    alloc: Global,
-    arc: &[Position],
-    weights: &[Weight],
-    threshold: u128,
-) -> Result<Items<Cell>, Memory>
-    ensures { IfOk result (λ cells. cells ≡ retained (kept_at threshold weights.now) arc.now) }
-{
-    let kept = kept_by_weights(alloc, weights, threshold)?;
-    retained_positions(alloc, &kept, arc)
-}
-
-/// Of each arc the positions that stay at a threshold by its own weights. An arc is freed before the next one is taken.
-#[tactic(auto, using(topo_model::proofs::Retained::picks_first, topo_model::proofs::Retained::picks_none, topo_model::proofs::Retained::picks_more))]
-fn arcs_by_weights(
-    alloc: Global,
-    arcs: Vec<Items<Position>>,
-    weights: &[Vec<Weight>],
-    threshold: u128,
-) -> Result<Vec<Items<Cell>>, Memory>
-    ensures { IfOk result (λ left. left.items ≡ retained_arcs (map (λ w. kept_at threshold w.items) weights.now) arcs.items) }
-{
-    let mut left = Vec::with_capacity(alloc, arcs.len())?;
-    let mut later = weights;
-    'arcs: for arc in arcs {
-        let Some((own, rest)) = later.split_first() else {
-            continue;
-        };
-        later = rest;
-        left.push(arc_by_weights(alloc, arc.as_slice(), own.as_slice(), threshold)?)?;
-    }
-    Ok(left)
-}
-
 /// The weights of the positions of each arc, and the greatest threshold at which at least p of q of the positions between the ends of all
 /// arcs stay. Each arc is weighed once, and no further than the threshold can lie, so a long arc costs no more than reducing it. At the
 /// threshold the weights say what stays of each arc.
-pub fn weigh_arcs(
+fn weigh_arcs(
     alloc: Global,
     arcs: &[Items<Position>],
     p: u64,
@@ -142,7 +107,39 @@ pub fn weigh_arcs(
     Ok((all, threshold))
 }
 
-/// Of each arc the positions that stay at the greatest threshold that keeps a share, and this threshold. No reducer is needed.
+/// Of each arc the numbers of the positions that stay at a threshold by its own weights. These are freed before the next arc's are looked at.
+fn kept_of_arcs(
+    alloc: Global,
+    weights: Vec<Vec<Weight>>,
+    threshold: u128,
+) -> Result<Vec<Vec<usize>>, Memory>
+    ensures { IfOk result (λ kept. map (λ k. k.items) kept.items ≡ map (λ w. kept_at threshold w.items) weights.items) }
+{
+    let mut kept = Vec::with_capacity(alloc, weights.len())?;
+    'arcs: for own in weights {
+        kept.push(kept_by_weights(alloc, own.as_slice(), threshold)?)?;
+    }
+    Ok(kept)
+}
+
+/// Of each arc the numbers of the positions that stay at the greatest threshold that keeps a share, and this threshold. No reducer is needed.
+pub(crate) fn kept_by_share(
+    alloc: Global,
+    arcs: &[Items<Position>],
+    p: u64,
+    q: u64,
+) -> Result<(Vec<Vec<usize>>, u128), Memory>
+    requires whole { 0 < q }
+    requires part { p ≤ q }
+    ensures kept { IfOk result (λ r. map (λ k. k.items) r.0.items ≡ map (reduce r.1) arcs.now) }
+    ensures chosen { IfOk result (λ r. r.1 ≡ share p q (interior_weights (map weights_of arcs.now))) }
+{
+    let (weights, threshold) = weigh_arcs(alloc, arcs, p, q)?;
+    let kept = kept_of_arcs(alloc, weights, threshold)?;
+    Ok((kept, threshold))
+}
+
+/// Of each arc the positions that stay at the greatest threshold that keeps a share, and this threshold.
 fn shared_out_arcs(
     alloc: Global,
     arcs: Vec<Items<Position>>,
@@ -154,8 +151,8 @@ fn shared_out_arcs(
     ensures retained { IfOk result (λ r. r.0.items ≡ retained_arcs (map (reduce r.1) arcs.items) arcs.items) }
     ensures chosen { IfOk result (λ r. r.1 ≡ share p q (interior_weights (map weights_of arcs.items))) }
 {
-    let (weights, threshold) = weigh_arcs(alloc, &arcs, p, q)?;
-    let left = arcs_by_weights(alloc, arcs, &weights, threshold)?;
+    let (kept, threshold) = kept_by_share(alloc, &arcs, p, q)?;
+    let left = positions_of_all(alloc, &kept, &arcs)?;
     Ok((left, threshold))
 }
 
@@ -166,10 +163,10 @@ pub(crate) fn left_of_arcs<Q: Reducer>(
     arcs: Vec<Items<Position>>,
     level: Level,
 ) -> Result<(Vec<Items<Cell>>, Option<u128>), Memory>
-    requires level { is_level level ≡ true }
+    requires level { is_simplifying_level level ≡ true }
     requires long { AllByRecursion (λ arc. 2 ≤ length arc) arcs.items }
     ensures retained { IfOk result (λ r. r.0.items ≡ retained_arcs (map (reduce (threshold_at level arcs.items)) arcs.items) arcs.items) }
-    ensures chosen { IfOk result (λ r. r.1 ≡ chosen_at level arcs.items) }
+    ensures chosen { IfOk result (λ r. r.1 ≡ chosen_for level (threshold_at level arcs.items)) }
     ensures called { IfOk result (λ _. Q.calls reducer.new ≡ Q.calls reducer.old ++ calls_at level arcs.items) }
 {
     match level {

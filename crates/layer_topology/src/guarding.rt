@@ -1,9 +1,9 @@
 // Reducing the arcs of layers at once.
 ghost use Rattle.std.specs.Prelude.{◌≡◌, ℕ, Bool, IfOk, length, true};
-ghost use Rattle.layer_topology.specs.Guarded.{is_simplifying_level};
-ghost use Rattle.layer_topology.specs.GuardedLevels.{guarded_chosen, reduced_by};
+ghost use Rattle.guarded_meaning.specs.Guards.{guarded_by};
+ghost use Rattle.layer_topology.specs.Levels.{chosen_for, is_simplifying_level, reduced_by, threshold_by};
 ghost use Rattle.build_meaning.specs.Trimming.{keep_from};
-ghost use Rattle.build_meaning.specs.Guarded.{spread};
+ghost use Rattle.build_meaning.specs.LeftOfLayers.{spread};
 ghost use Rattle.build_meaning.specs.ProtectedRings.{CanStay};
 ghost use Rattle.build_meaning.specs.Simplified.{EachFromFirstToLast, retained_arcs};
 ghost use Rattle.topo_model.specs.Uses.{answers, chosen as chosen_of};
@@ -30,8 +30,8 @@ fn reduced_at_once(
 ) -> Result<(Vec<Items<Cell>>, Option<u128>), Memory>
     requires level { is_simplifying_level level ≡ true }
     requires rings { CanStay arcs.items rings.now }
-    ensures left { IfOk result (λ r. r.0.items ≡ retained_arcs (reduced_by no_crossings rings.now level arcs.items) arcs.items) }
-    ensures chosen { IfOk result (λ r. r.1 ≡ guarded_chosen no_crossings rings.now level arcs.items) }
+    ensures left { IfOk result (λ r. r.0.items ≡ retained_arcs (reduced_by (guarded_by no_crossings rings.now) level arcs.items) arcs.items) }
+    ensures chosen { IfOk result (λ r. r.1 ≡ chosen_for level (threshold_by (guarded_by no_crossings rings.now) level arcs.items)) }
 {
     arcs_rise();
     let (kept, chosen) = kept_at_once(alloc, &arcs, no_crossings, rings, level)?;
@@ -67,10 +67,10 @@ pub(crate) fn guarded_arcs(
     requires level { is_simplifying_level level ≡ true }
     requires rings { CanStay (chosen_of used.now arcs.items) rings.now }
     ensures left { IfOk result (λ r. (passes : ℕ → Bool) → used.now ≡ answers passes 0 (length arcs.items)
-        → EachFromFirstToLast (reduced_by no_crossings rings.now level (keep_from passes 0 arcs.items)) (keep_from passes 0 arcs.items)
-        → r.0.items ≡ retained_arcs (spread passes 0 (reduced_by no_crossings rings.now level (keep_from passes 0 arcs.items)) arcs.items) arcs.items) }
+        → EachFromFirstToLast (reduced_by (guarded_by no_crossings rings.now) level (keep_from passes 0 arcs.items)) (keep_from passes 0 arcs.items)
+        → r.0.items ≡ retained_arcs (spread passes 0 (reduced_by (guarded_by no_crossings rings.now) level (keep_from passes 0 arcs.items)) arcs.items) arcs.items) }
     ensures chosen { IfOk result (λ r. (passes : ℕ → Bool) → used.now ≡ answers passes 0 (length arcs.items)
-        → r.1 ≡ guarded_chosen no_crossings rings.now level (keep_from passes 0 arcs.items)) }
+        → r.1 ≡ chosen_for level (threshold_by (guarded_by no_crossings rings.now) level (keep_from passes 0 arcs.items))) }
 {
     let (marked, others) = split_arcs(alloc, arcs, used)?;
     let (reduced, chosen) = reduced_at_once(alloc, marked, no_crossings, rings, level)?;

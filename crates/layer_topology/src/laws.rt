@@ -1,9 +1,9 @@
 // Laws of the definitions. A function here changes nothing: its contract is the law.
-ghost use Rattle.layer_topology.specs.Laws.{SimplifiesToWritten, WrittenLaws};
+ghost use Rattle.layer_topology.specs.Laws.{WrittenLaws};
 
 use build_meaning::{
     built_decodes_quantized, built_is_valid_quantized, each_segment_once, quantized_keeps,
-    simplifies_quantized, snapped_are_on, snapped_keep,
+    snapped_are_on, snapped_keep,
 };
 
 /// What is written of layers is a valid topology with an object for each layer. Decoding it gives each layer the features that are
@@ -18,13 +18,4 @@ pub fn written_laws()
     built_is_valid_quantized();
     built_decodes_quantized();
     each_segment_once();
-}
-
-/// What is written of layers at a threshold and a limit of zero and then reduced by both is what is written of them by both.
-#[tactic(auto, using(crate::proofs::Laid::simplifies))]
-pub fn simplifies_to_written()
-    ensures { SimplifiesToWritten }
-{
-    snapped_are_on();
-    simplifies_quantized();
 }

@@ -8,28 +8,30 @@
 mod at_once;
 mod cells;
 mod choosing;
-mod guarded_laws;
+mod drafts;
 mod guarding;
-mod guards;
 mod laws;
 mod layers;
+mod left_laws;
 mod level;
 mod making;
+mod reduction;
 mod renumbering;
-mod sparing;
 mod splitting;
+mod topologies;
 mod topology;
 mod transforms;
 
-pub use at_once::kept_at_once;
-pub use choosing::{reduced_line, weigh_arcs};
-pub use guarded_laws::{
-    guarded_at_zero, share_stays_at_once, simplified_under_law, written_is_made, written_under_law,
-};
-pub use guards::Guards;
-pub use laws::{simplifies_to_written, written_laws};
+pub use build_meaning::Guards;
+pub use laws::written_laws;
 pub use layers::snap_layers;
+pub use left_laws::{
+    guarded_at_zero, left_law, share_stays, unguarded_is_written, written_left_law,
+};
 pub use level::Level;
 pub use making::topology_of_layers;
+pub use reduction::Reduction;
+pub use topo_model::Left;
+pub use topologies::{arc_positions, left_of_topology};
 pub use topology::on_grid;
 pub use transforms::{transform, units_number};

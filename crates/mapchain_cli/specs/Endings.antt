@@ -9,7 +9,7 @@ use Rattle.inputs.specs.declared.file_fault.FileFault.{FileFault}
 use Rattle.inputs.specs.declared.file_fault.FileFault.TheVariants as file
 use Rattle.inputs.specs.Names.{name_fault}
 use Rattle.inputs.specs.Sources.{Sources}
-use Rattle.layer_topology.specs.declared.guards.Guards.{Guards}
+use Rattle.build_meaning.specs.declared.guards.Guards.{Guards}
 use Rattle.layer_topology.specs.declared.level.Level.{Level}
 use Rattle.reports.specs.declared.report.Report.{Report}
 use Rattle.reports.specs.declared.summary.Summary.{Summary}

@@ -3,7 +3,7 @@ ghost use Rattle.std.specs.Prelude.{◌≡◌, ◌≤◌, None, Some, IfErr, IfO
 ghost use Rattle.byte_ends.specs.declared.source.ReadFault.TheVariants as read;
 ghost use Rattle.geometry.specs.Units.{threshold_limit};
 ghost use Rattle.inputs.specs.declared.file_fault.FileFault.TheVariants as file;
-ghost use Rattle.layer_topology.specs.Guarded.{is_simplifying_level};
+ghost use Rattle.layer_topology.specs.Levels.{is_simplifying_level};
 ghost use Rattle.reports.specs.Summaries as spec;
 ghost use Rattle.mapchain_engine.specs.Files.{FailsToGive, IsReported};
 ghost use Rattle.mapchain_engine.specs.Geo.{IsGeoFaultWithin, SendsText};

@@ -1,5 +1,5 @@
 -- The outcome of building layers.
-use Rattle.std.proofs.Common.{◌≡◌, ◌∙◌, inl, inr, ℕ, suc, ◌<◌, ◌^◌, Bool, true, false, cond, List, ◌∷◌, length, map, Some, None, Ok, Err, ap, arith, refl, subst, sym}
+use Rattle.std.proofs.Common.{◌≡◌, ◌∙◌, inl, inr, ℕ, suc, ◌<◌, ◌^◌, Bool, true, false, List, ◌∷◌, length, map, Option, Some, None, Ok, Err, ap, arith, refl, sym}
 use Rattle.std.specs.List.{AllByRecursion}
 use Rattle.std.specs.Prelude.{◌||◌, IsUtf8}
 use Rattle.byte_ends.specs.Ends.{Fed, Drained}
@@ -9,20 +9,21 @@ use Rattle.byte_ends.specs.declared.sink.WriteFault.TheVariants as write
 use Rattle.json_value.specs.Limits.{layer_depth, topology_depth}
 use Rattle.json_value.specs.Text.{json_text}
 use Rattle.geojson_types.specs.declared.counts.Counts.{Counts}
-use Rattle.geojson_types.specs.declared.layer.FeatureSet.TheVariants as set
-use Rattle.topojson_types.specs.Decoding.{decoded}
 use Rattle.topojson_types.specs.Topologies.{Contents}
 use Rattle.topojson_types.specs.Validity.{AreDistinct}
 use Rattle.topojson_types.specs.Values.{topology_value}
 use Rattle.build_meaning.specs.Layers.{names_of}
-use Rattle.layer_topology.specs.Guarded.{is_at_once}
-use Rattle.layer_topology.specs.Written.{AreTaken, written as written_on}
-use Rattle.layer_topology.proofs.Guarded.{layers_under}
+use Rattle.build_meaning.specs.Left.{Left, is_at_once, no_guards}
+use Rattle.geometry.specs.declared.address.Dropped.{Dropped}
+use Rattle.layer_topology.specs.Topologies.{IsLeft}
+use Rattle.layer_topology.specs.Written.{AreTaken, written_left, written as written_on}
 use Rattle.topojson_meaning.specs.Laws.{IsStored}
 use Rattle.inputs.specs.declared.fault.BuildFault.{BuildFault}
 use Rattle.inputs.specs.declared.fault.BuildFault.TheVariants.{Write, Memory}
 use Rattle.reports.specs.declared.report.Report.{Report}
-use Rattle.mapchain_engine.specs.Building.{expected_for, threshold_for, whole_for, written_for, BuildingLaws, IsGuarded, SaysTopology, Builds, IsBuilt, IsLateFault, Sends, report_of}
+use Rattle.reports.specs.Summaries.{report_with}
+use Rattle.mapchain_engine.specs.Building.{threshold_for, whole_for, written_for, BuildingLaws, IsGuarded, SaysTopology, Builds, IsBuilt, IsLateFault, Sends, report_of}
+use Rattle.mapchain_engine.specs.Simplified.{report_of_left}
 use Rattle.mapchain_engine.specs.BuildLaws.{LayerLaws}
 use Rattle.mapchain_engine.specs.declared.options.Options.{Options}
 use Rattle.inputs.specs.Sent.{build_fault_of}
@@ -34,45 +35,60 @@ use Rattle.mapchain_engine.proofs.NamesDistinct.{distinct_names}
 use Rattle.mapchain_engine.proofs.SimplifiedTexts.{numbers_kept, texts_kept}
 use Rattle.inputs.proofs.SourcesRead.{untroubled_all}
 
+-- the report of what an answer has is that of what is left
+pub report_is : (counts : Counts) (left : Left) (topology : Contents) (dropped : List Dropped) (removed_count : ℕ) (chosen : Option ℕ) → IsLeft left topology dropped removed_count
+    → report_with counts dropped topology.objects topology.arcs removed_count chosen ≡ report_of_left counts left chosen
+report_is counts left topology dropped removed_count chosen is = rw (is.topology_is, is.dropped_are, is.count_is) refl
+
 -- the text of the topology of layers
 abbrev pub text_for : Options → Named → List ℕ
 text_for o ls = json_text (topology_value (written_for o ls))
 
 -- ---- what is written
 
+-- guards that ask for nothing are none
+nothing_asked : (b s : Bool) → b || s ≡ false → record { no_crossings = b; keep_shapes = s } ≡ no_guards
+nothing_asked false false e = refl
+nothing_asked b s e = absurd cc
+
 module _ (laws : BuildingLaws) (o : Options) where
   -- without guards it is what is written without one
-  plainly : (ls : Named) → is_at_once o.guards ≡ false → written_on o.grid (threshold_for o ls) o.ring_limit ls ≡ written_for o ls
-  plainly ls e = by o.guards.keep_shapes o.guards.no_crossings e
-    where
-      by : (s b : Bool) → b || s ≡ false → written_on o.grid (threshold_for o ls) o.ring_limit ls ≡ layers_under o.grid (threshold_for o ls) o.ring_limit ls s b
-      by false false e = refl
-      by false true e = absurd cc
-      by true false e = absurd cc
-      by true true e = absurd cc
+  plainly : (ls : Named) → AreTaken o.grid ls → is_at_once o.guards ≡ false → written_for o ls ≡ written_on o.grid (threshold_for o ls) o.ring_limit ls
+  plainly ls are e =
+      ap (λ guards. (written_left guards o.grid (threshold_for o ls) o.ring_limit ls).contents) (nothing_asked o.guards.no_crossings o.guards.keep_shapes e)
+      ∙ laws.unguarded o.grid (threshold_for o ls) o.ring_limit ls are
 
   guarded : (ls : Named) → AreTaken o.grid ls → is_at_once o.guards ≡ true → IsGuarded o ls (written_for o ls)
   guarded ls are e =
-      let under = laws.under o.guards o.grid (threshold_for o ls) o.ring_limit ls are in
-      record { valid = under.valid; whole = laws.written.back o.grid 0 0 ls are; labels_stay = under.labels_stay; crosses = under.crosses; stays = under.stays; left = sym under.simplified; share = laws.share o.guards o.level (whole_for o ls) (simplifying_level_of o) }
+      let left = laws.left o.guards o.grid (threshold_for o ls) o.ring_limit ls are in
+      record {
+        valid = left.valid;
+        whole = laws.written.back o.grid 0 0 ls are;
+        labels_stay = left.is_left.labels_stay;
+        crosses = left.is_left.crosses;
+        stays = left.is_left.stays;
+        left = sym left.simplified;
+        share = laws.share o.guards o.level (whole_for o ls) (simplifying_level_of o);
+      }
 
   says : (ls : Named) → AllTaken ls → AreDistinct (names_of ls) → AllByRecursion (λ n. IsUtf8 n) (names_of ls) → length (written_for o ls).arcs < 2 ^ 63 → SaysTopology o ls (text_for o ls)
   says ls taken distinct texts few =
       let are = are_taken o ls taken distinct in
       let t = written_for o ls in
-      let under = laws.under o.guards o.grid (threshold_for o ls) o.ring_limit ls are in
-      let valid = under.valid in
+      let left = laws.left o.guards o.grid (threshold_for o ls) o.ring_limit ls are in
+      let valid = left.valid in
+      let same = left.is_left.labels_stay in
       let stored : IsStored t = (valid, few) in
-      let numbers = numbers_kept (whole_for o ls) t under.labels_stay (laws.written.numbers o.grid 0 0 ls (layers_number ls taken)) in
+      let numbers = numbers_kept (whole_for o ls) t same (laws.written.numbers o.grid 0 0 ls (layers_number ls taken)) in
       record {
-        utf8 = laws.utf8 t valid.transform numbers (texts_kept (whole_for o ls) t under.labels_stay (laws.written.texts o.grid 0 0 ls are texts (layers_texts ls taken)));
+        utf8 = laws.utf8 t valid.transform numbers (texts_kept (whole_for o ls) t same (laws.written.texts o.grid 0 0 ls are texts (layers_texts ls taken)));
         value = topology_value t;
-        spelled = laws.spelled t layer_depth topology_depth stored numbers (under.nests layer_depth (layers_nest ls taken))
+        spelled = laws.spelled t layer_depth topology_depth stored numbers (left.nests layer_depth (layers_nest ls taken))
             (omega arith);
         contents = t;
         stands = laws.read t stored;
-        names = under.names;
-        features = λ e. subst (λ (y : Contents). AllByRecursion (λ l. decoded y l.0 ≡ Some (set.Many l.1.features)) (expected_for o ls)) (plainly ls e) (laws.written.back o.grid (threshold_for o ls) o.ring_limit ls are);
+        names = left.names;
+        features = λ e. rw (plainly ls are e) (laws.written.back o.grid (threshold_for o ls) o.ring_limit ls are);
         guarded = guarded ls are;
         shared = refl;
         written = refl;

@@ -3,7 +3,7 @@ use Rattle.std.proofs.Common.{◌≡◌, ℕ, Bool, true, false, cond, List, [],
 use Rattle.std.proofs.Math.Seq.{take-length}
 use Rattle.std.proofs.lemmas.List.{append_cancel_left}
 use Rattle.std.specs.Io.KnownBytes.{Appends}
-use Rattle.std.specs.Prelude.{◌||◌, IfSome}
+use Rattle.std.specs.Prelude.{IfSome}
 use Rattle.std.specs.List.{AllByRecursion}
 use Rattle.byte_ends.specs.Ends.{Fed, Drained, Takes}
 use Rattle.byte_ends.specs.Writes.{WritesAll}
@@ -17,24 +17,23 @@ use Rattle.topojson_meaning.specs.declared.fault.TopoFault.{TopoFault}
 use Rattle.topojson_meaning.specs.Topologies.{topology}
 use Rattle.reports.specs.declared.report.Report.{Report}
 use Rattle.reports.specs.declared.summary.Summary.{Summary}
-use Rattle.layer_topology.specs.declared.guards.Guards.{Guards}
+use Rattle.build_meaning.specs.declared.guards.Guards.{Guards}
 use Rattle.layer_topology.specs.declared.level.Level.{Level}
 use Rattle.layer_topology.specs.declared.level.Level.TheVariants.{Fixed}
-use Rattle.layer_topology.specs.Guarded.{is_at_once, simplified_under}
-use Rattle.layer_topology.specs.GuardedLaws.{GuardedAtZero, WrittenUnderLaw}
-use Rattle.layer_topology.specs.GuardedWritten.{written_under}
-use Rattle.layer_topology.specs.GuardedLevels.{guarded_chosen, guarded_threshold, sparing_chosen, sparing_threshold}
-use Rattle.layer_topology.specs.Levels.{chosen_at, level_chosen, level_threshold, threshold_at}
-use Rattle.mapchain_engine.specs.Building.{chosen_for, expected_for, snapped_for, threshold_for, whole_for, written_for, IsBuilt}
+use Rattle.build_meaning.specs.Left.{guard_of, is_at_once, left_of}
+use Rattle.layer_topology.specs.GuardLaws.{GuardedAtZero, WrittenLeftLaw}
+use Rattle.layer_topology.specs.Levels.{chosen_for, threshold_at, threshold_by, threshold_of, threshold_over}
+use Rattle.mapchain_engine.specs.Building.{expected_for, snapped_for, threshold_for, whole_for, written_for, IsBuilt}
 use Rattle.mapchain_engine.specs.BuildLaws.{ReadAreTaken}
 use Rattle.mapchain_engine.specs.declared.options.Options.{Options}
 use Rattle.json_value.specs.Limits.{topology_depth}
 use Rattle.mapchain_engine.specs.Files.{IsTopologyRead, IsSummarised}
-use Rattle.mapchain_engine.specs.Simplified.{simplified_contents_text, topology_chosen, topology_threshold, IsSimplified}
-use Rattle.layer_topology.specs.Written.{snapped_to, written as written_on, AreTaken}
+use Rattle.mapchain_engine.specs.Simplified.{simplified_contents_text, IsSimplified}
+use Rattle.layer_topology.specs.Written.{snapped_to, written_left, written as written_on, AreTaken}
 use Rattle.build_meaning.specs.Assembled.{arcs_of_layers}
-use Rattle.build_meaning.specs.Guarded.{arc_positions}
+use Rattle.build_meaning.specs.ArcPositions.{arc_positions}
 use Rattle.build_meaning.specs.Layers.{names_of}
+use Rattle.geometry.specs.Points.{Point}
 use Rattle.json_value.specs.declared.json.Json.{Json}
 use Rattle.json_value.specs.Grammar.{Reads}
 use Rattle.json_value.specs.Text.{json_text}
@@ -109,25 +108,29 @@ module _ (one_value : OneValue) (o : Options) (olds news : Sources) (sink_old si
   -- where it was built at zero it is what is written at zero, whatever guards were asked for
   zero_is : GuardedAtZero → AreTaken o.grid is.layers → threshold_for o is.layers ≡ 0 → o.ring_limit ≡ 0 → is.builds.topology.contents ≡ written_on o.grid 0 0 is.layers
   zero_is at_zero are zero none =
-      is.builds.topology.shared ∙ ap (λ z. written_under o.guards o.grid z o.ring_limit is.layers) zero ∙ ap (λ z. written_under o.guards o.grid 0 z is.layers) none
+      is.builds.topology.shared ∙ ap (λ t. (written_left o.guards o.grid t o.ring_limit is.layers).contents) zero ∙ ap (λ n. (written_left o.guards o.grid 0 n is.layers).contents) none
       ∙ at_zero o.guards o.grid is.layers are
 
-  -- what is left of it by a threshold and a limit under guards is what is then written of the layers by both under them
-  simplified_is : GuardedAtZero → WrittenUnderLaw → AreTaken o.grid is.layers → (guards : Guards) (t limit : ℕ) → threshold_for o is.layers ≡ 0 → o.ring_limit ≡ 0
-      → simplified_under guards t limit is.builds.topology.contents ≡ written_under guards o.grid t limit is.layers
-  simplified_is at_zero law are guards t limit zero none = ap (simplified_under guards t limit) (zero_is at_zero are zero none) ∙ (law guards o.grid t limit is.layers are).simplified
+  -- at a level by which its arcs are reduced at this threshold, what is left of it under guards is what is then written of the layers under them
+  simplified_text : GuardedAtZero → WrittenLeftLaw → AreTaken o.grid is.layers → (guards : Guards) (level : Level) (t limit : ℕ)
+      → threshold_of guards level is.builds.topology.contents ≡ t → threshold_for o is.layers ≡ 0 → o.ring_limit ≡ 0
+      → (after : Fed) (contents : Contents) (counts : Counts) → IsTopologyRead source after contents counts
+      → simplified_contents_text guards level limit contents ≡ json_text (topology_value (written_left guards o.grid t limit is.layers).contents)
+  simplified_text at_zero law are guards level t limit at zero none after contents counts read =
+      ap (simplified_contents_text guards level limit) (same_contents after contents counts read)
+      ∙ ap (λ n. json_text (topology_value (left_of guards n limit is.builds.topology.contents).contents)) at
+      ∙ ap (λ y. json_text (topology_value (left_of guards t limit y).contents)) (zero_is at_zero are zero none)
+      ∙ ap (λ y. json_text (topology_value y)) (law guards o.grid t limit is.layers are).simplified
 
-  -- at a level by which its arcs are reduced at this threshold
-  simplified_text : GuardedAtZero → WrittenUnderLaw → AreTaken o.grid is.layers → (guards : Guards) (level : Level) (t limit : ℕ)
-      → topology_threshold guards level is.builds.topology.contents ≡ t → threshold_for o is.layers ≡ 0 → o.ring_limit ≡ 0
-      → (after : Fed) (out_old out_new : Drained) (simplified : Report) → IsSimplified guards level limit source after out_old out_new simplified
-      → Takes out_old out_new (json_text (topology_value (written_under guards o.grid t limit is.layers))) (length (json_text (topology_value (written_under guards o.grid t limit is.layers))))
-  simplified_text at_zero law are guards level t limit at zero none after out_old out_new simplified s =
-      let e : simplified_contents_text guards level limit s.contents ≡ json_text (topology_value (written_under guards o.grid t limit is.layers)) =
-      ap (simplified_contents_text guards level limit) (same_contents after s.contents s.counts s.read)
-      ∙ ap (λ z. json_text (topology_value (simplified_under guards z limit is.builds.topology.contents))) at
-      ∙ ap (λ y. json_text (topology_value y)) (simplified_is at_zero law are guards t limit zero none) in
-      subst (λ text. Takes out_old out_new text (length text)) e s.written
+-- the arcs matter to a threshold only where nothing is asked for
+same_over : (guards : Guards) (level : Level) (y : Contents) (xs ys : List (List Point)) → (is_at_once guards ≡ false → xs ≡ ys)
+    → threshold_over guards level y xs ≡ threshold_over guards level y ys
+same_over guards level y xs ys same = by (is_at_once guards) same
+  where
+    by : (b : Bool) → (b ≡ false → xs ≡ ys)
+        → cond b (threshold_by (guard_of guards y) level (arc_positions y)) (threshold_at level xs) ≡ cond b (threshold_by (guard_of guards y) level (arc_positions y)) (threshold_at level ys)
+    by true same = refl
+    by false same = ap (threshold_at level) (same refl)
 
 module _ (one_value : OneValue) (valid : ReadsValid) (may : ReadAreTaken) (o p : Options) (olds news : Sources) (sink_old sink_new : Drained) (report : Report)
     (full : IsBuilt o olds news sink_old sink_new report)
@@ -135,18 +138,18 @@ module _ (one_value : OneValue) (valid : ReadsValid) (may : ReadAreTaken) (o p :
     (zero : threshold_for o full.layers ≡ 0) (none : o.ring_limit ≡ 0) (grid : p.grid ≡ o.grid) (same : small.layers ≡ full.layers)
     (source after : Fed) (out_old out_new : Drained) (simplified : Report) (from : IsWrittenTo sink_old sink_new source) where
   -- at a level by which the arcs of the first are reduced at the threshold of the second
-  built_at : GuardedAtZero → WrittenUnderLaw → (level : Level) → topology_threshold p.guards level full.builds.topology.contents ≡ threshold_for p small.layers
+  built_at : GuardedAtZero → WrittenLeftLaw → (level : Level) → threshold_of p.guards level full.builds.topology.contents ≡ threshold_for p small.layers
       → IsSimplified p.guards level p.ring_limit source after out_old out_new simplified → Takes out_old out_new small.text (length small.text)
   built_at at_zero law level at s =
       let says = small.builds.topology in
       let t = threshold_for p small.layers in
       let are = taken valid may o olds news sink_old sink_new report full in
-      let e : json_text (topology_value (written_under p.guards o.grid t p.ring_limit full.layers)) ≡ small.text =
-      ap (λ g. json_text (topology_value (written_under p.guards g t p.ring_limit full.layers))) (sym grid)
-      ∙ ap (λ ls. json_text (topology_value (written_under p.guards p.grid t p.ring_limit ls))) (sym same)
+      let e : simplified_contents_text p.guards level p.ring_limit s.contents ≡ small.text =
+      simplified_text one_value o olds news sink_old sink_new report full source from at_zero law are p.guards level t p.ring_limit at zero none after s.contents s.counts s.read
+      ∙ ap (λ g. json_text (topology_value (written_left p.guards g t p.ring_limit full.layers).contents)) (sym grid)
+      ∙ ap (λ ls. json_text (topology_value (written_left p.guards p.grid t p.ring_limit ls).contents)) (sym same)
       ∙ ap (λ y. json_text (topology_value y)) (sym says.shared) ∙ sym says.written in
-      subst (λ text. Takes out_old out_new text (length text)) e
-      (simplified_text one_value o olds news sink_old sink_new report full source from at_zero law are p.guards level t p.ring_limit at zero none after out_old out_new simplified s)
+      subst (λ text. Takes out_old out_new text (length text)) e s.written
 
   -- where each arc of the layers is in the first, its arcs are those of the second before any is reduced
   same_arcs : HasEachArc o full.layers → arc_positions full.builds.topology.contents ≡ arcs_of_layers (snapped_for p small.layers)
@@ -161,49 +164,30 @@ module _ (one_value : OneValue) (valid : ReadsValid) (may : ReadAreTaken) (o p :
       ∙ ap (λ g. written_on g 0 0 full.layers) (sym grid) ∙ ap (λ ls. written_on p.grid 0 0 ls) (sym same)
 
   -- so at one level both have the same threshold, with guards by what is written at zero, and without by the arcs of the layers
-  same_thresholds : GuardedAtZero → (is_at_once p.guards ≡ false → HasEachArc o full.layers) → topology_threshold p.guards p.level full.builds.topology.contents ≡ threshold_for p small.layers
-  same_thresholds at_zero has = by p.guards.keep_shapes p.guards.no_crossings has
-    where
-      by : (s b : Bool) → (b || s ≡ false → HasEachArc o full.layers)
-          → cond s (sparing_threshold b p.level full.builds.topology.contents)
-          (cond b (guarded_threshold true [] p.level (arc_positions full.builds.topology.contents)) (threshold_at p.level (arc_positions full.builds.topology.contents)))
-          ≡ cond s (sparing_threshold b p.level (whole_for p small.layers))
-          (cond b (guarded_threshold true [] p.level (arc_positions (whole_for p small.layers))) (level_threshold p.grid p.level small.layers))
-      by true b has = ap (sparing_threshold b p.level) (whole_at_zero at_zero)
-      by false true has = ap (λ y. guarded_threshold true [] p.level (arc_positions y)) (whole_at_zero at_zero)
-      by false false has = ap (threshold_at p.level) (same_arcs (has refl))
-
-  chosen_same : GuardedAtZero → (is_at_once p.guards ≡ false → HasEachArc o full.layers) → topology_chosen p.guards p.level full.builds.topology.contents ≡ chosen_for p small.layers
-  chosen_same at_zero has = by p.guards.keep_shapes p.guards.no_crossings has
-    where
-      by : (s b : Bool) → (b || s ≡ false → HasEachArc o full.layers)
-          → cond s (sparing_chosen b p.level full.builds.topology.contents)
-          (cond b (guarded_chosen true [] p.level (arc_positions full.builds.topology.contents)) (chosen_at p.level (arc_positions full.builds.topology.contents)))
-          ≡ cond s (sparing_chosen b p.level (whole_for p small.layers))
-          (cond b (guarded_chosen true [] p.level (arc_positions (whole_for p small.layers))) (level_chosen p.grid p.level small.layers))
-      by true b has = ap (sparing_chosen b p.level) (whole_at_zero at_zero)
-      by false true has = ap (λ y. guarded_chosen true [] p.level (arc_positions y)) (whole_at_zero at_zero)
-      by false false has = ap (chosen_at p.level) (same_arcs (has refl))
+  same_thresholds : GuardedAtZero → (is_at_once p.guards ≡ false → HasEachArc o full.layers) → threshold_of p.guards p.level full.builds.topology.contents ≡ threshold_for p small.layers
+  same_thresholds at_zero has =
+      let y = full.builds.topology.contents in
+      same_over p.guards p.level y (arc_positions y) (arcs_of_layers (snapped_for p small.layers)) (λ plain. same_arcs (has plain))
+      ∙ ap (λ z. threshold_over p.guards p.level z (arcs_of_layers (snapped_for p small.layers))) (whole_at_zero at_zero)
 
   same_chosen : GuardedAtZero → (is_at_once p.guards ≡ false → HasEachArc o full.layers) → IsSimplified p.guards p.level p.ring_limit source after out_old out_new simplified
       → simplified.chosen ≡ more_report.chosen
   same_chosen at_zero has s =
       ap (λ (r : Report). r.chosen) s.reported
-      ∙ ap (topology_chosen p.guards p.level) (same_contents one_value o olds news sink_old sink_new report full source from after s.contents s.counts s.read)
-      ∙ chosen_same at_zero has ∙ sym (ap (λ (r : Report). r.chosen) small.reported)
+      ∙ ap (λ y. chosen_for p.level (threshold_of p.guards p.level y)) (same_contents one_value o olds news sink_old sink_new report full source from after s.contents s.counts s.read)
+      ∙ ap (chosen_for p.level) (same_thresholds at_zero has) ∙ sym (ap (λ (r : Report). r.chosen) small.reported)
 
 -- a threshold that is given is the same with guards and without
-given : (s b : Bool) (t : ℕ) → cond s t (cond b t t) ≡ t
-given true b t = refl
-given false true t = refl
-given false false t = refl
+given : (b : Bool) (t : ℕ) → cond b t t ≡ t
+given true t = refl
+given false t = refl
 
-pub simplifies_to_built : OneValue → GuardedAtZero → WrittenUnderLaw → ReadsValid → ReadAreTaken → SimplifiesToBuilt
+pub simplifies_to_built : OneValue → GuardedAtZero → WrittenLeftLaw → ReadsValid → ReadAreTaken → SimplifiesToBuilt
 simplifies_to_built one_value at_zero law valid may o p olds news sink_old sink_new report full more_olds more_news more_old more_new more_report small zero none grid same source after out_old out_new simplified from =
     built_at one_value valid may o p olds news sink_old sink_new report full more_olds more_news more_old more_new more_report small zero none grid same source after out_old out_new simplified from at_zero law
-    (Fixed (threshold_for p small.layers)) (given p.guards.keep_shapes p.guards.no_crossings (threshold_for p small.layers))
+    (Fixed (threshold_for p small.layers)) (given (is_at_once p.guards) (threshold_for p small.layers))
 
-pub simplifies_by_level : OneValue → GuardedAtZero → WrittenUnderLaw → ReadsValid → ReadAreTaken → SimplifiesByLevel
+pub simplifies_by_level : OneValue → GuardedAtZero → WrittenLeftLaw → ReadsValid → ReadAreTaken → SimplifiesByLevel
 simplifies_by_level one_value at_zero law valid may o p olds news sink_old sink_new report full more_olds more_news more_old more_new more_report small zero none grid same has source after out_old out_new simplified from s = (
   built_at one_value valid may o p olds news sink_old sink_new report full more_olds more_news more_old more_new more_report small zero none grid same source after out_old out_new simplified from at_zero law p.level
       (same_thresholds one_value valid may o p olds news sink_old sink_new report full more_olds more_news more_old more_new more_report small zero none grid same source after out_old out_new simplified from at_zero has) s,

@@ -10,7 +10,7 @@ use Rattle.inputs.specs.declared.file_fault.FileFault.{FileFault}
 use Rattle.inputs.specs.Texts.{max_input}
 use Rattle.json_value.specs.Grammar.{Reads}
 use Rattle.inputs.specs.Sources.{Sources, Named}
-use Rattle.layer_topology.specs.Guarded.{is_at_once}
+use Rattle.build_meaning.specs.Left.{is_at_once}
 use Rattle.mapchain_engine.specs.Back.{ComesBack}
 use Rattle.mapchain_engine.specs.Laws.{IsWrittenTo}
 use Rattle.mapchain_engine.proofs.BuiltAgain.{same_text}

@@ -1,10 +1,10 @@
 -- What is reported as dropped of a shape is what the pruned shape lacks.
-use Rattle.std.proofs.Common.{◌≡◌, ℕ, suc, Bool, true, false, List, [], ◌∷◌, ◌++◌, map, Option, None, Some, refl, sym, ap, ◌∙◌, arith}
+use Rattle.std.proofs.Common.{◌≡◌, ℕ, suc, Bool, true, false, List, [], ◌∷◌, map, Option, None, Some, refl, sym, ap, ◌∙◌, arith}
 use Rattle.std.proofs.lemmas.List.{map-append}
 use Rattle.std.specs.List.{AllByRecursion}
-use Rattle.build_meaning.proofs.DroppableLines.{Matches, droppable_lines_at, map_map, some_append, lines_and_rings_left}
+use Rattle.build_meaning.proofs.DroppableLines.{Matches, droppable_lines_at, some_append, lines_and_rings_left}
 use Rattle.build_meaning.specs.DroppableLines.{DroppableLine, area_droppable_lines, droppable_lines, drop_cause, free, hole, if_kept}
-use Rattle.build_meaning.specs.Expected.{kept_line, own_cause, rebuilt, unless}
+use Rattle.build_meaning.specs.Expected.{own_cause, rebuilt, unless}
 use Rattle.geojson_types.specs.Features.{Shape}
 use Rattle.geometry.proofs.ByKind.{AtKinds, at_kinds}
 use Rattle.geometry.proofs.Cases.{drop_causes_at}
@@ -13,11 +13,9 @@ use Rattle.geometry.specs.Lists.{joined, map_some, some_of, with_some}
 use Rattle.geometry.specs.DropCauses.{area_drop_causes, here, inner_cause, drop_causes}
 use Rattle.geometry.specs.Paths.{Placed, alone, inside_part, of_parts, placed_lines_and_rings}
 use Rattle.geometry.specs.Points.{Point}
-use Rattle.geometry.specs.Pruning.{option_lines_and_rings, prune}
 use Rattle.geometry.specs.declared.address.Cause.{Cause}
 use Rattle.geometry.specs.declared.shape.Geometry.{Geometry, fold-Geometry}
 use Rattle.geometry.specs.declared.shape.Geometry.TheOpen.{Geometry-F}
-use Rattle.geometry.specs.declared.shape.Geometry.TheVariants as g
 use Rattle.junctions.specs.declared.stroke.Stroke.{Stroke}
 use Rattle.linework.proofs.Placing.{parts_of, placed_lines_and_rings_at}
 use Rattle.mapchain_engine.specs.Dropping.{Judged, LeavesOutWhatIsReported, cause_at, stays_as, line_or_ring_at}

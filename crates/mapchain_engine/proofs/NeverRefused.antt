@@ -8,7 +8,7 @@ use Rattle.geojson_types.specs.Counting.{no_counts}
 use Rattle.inputs.specs.declared.file_fault.FileFault.{FileFault}
 use Rattle.inputs.specs.declared.file_fault.FileFault.TheVariants.{Read, Write, Memory}
 use Rattle.owned_values.proofs.Elements.{all_weaker}
-use Rattle.layer_topology.specs.declared.guards.Guards.{Guards}
+use Rattle.build_meaning.specs.declared.guards.Guards.{Guards}
 use Rattle.layer_topology.specs.declared.level.Level.{Level}
 use Rattle.mapchain_engine.specs.Back.{AnswersGeo, OrMemory, GeoIsNeverRefused, StatIsNeverRefused, SimplifyIsNeverRefused}
 use Rattle.mapchain_engine.proofs.ComingBack.{comes_back}

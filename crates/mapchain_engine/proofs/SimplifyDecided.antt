@@ -4,7 +4,7 @@ use Rattle.byte_ends.specs.Ends.{Fed, Drained, Takes}
 use Rattle.inputs.specs.declared.file_fault.FileFault.{FileFault}
 use Rattle.inputs.specs.declared.file_fault.FileFault.TheVariants.{Read, Json, Topo, NoObject, ManyPositions, Write, Memory}
 use Rattle.reports.specs.declared.report.Report.{Report}
-use Rattle.layer_topology.specs.declared.guards.Guards.{Guards}
+use Rattle.build_meaning.specs.declared.guards.Guards.{Guards}
 use Rattle.layer_topology.specs.declared.level.Level.{Level}
 use Rattle.mapchain_engine.specs.FileOutcomes.{FileHasOutcome, plain_file_outcome, IsOutsideGiven}
 use Rattle.mapchain_engine.specs.Files.{FailsToGive}

@@ -21,7 +21,7 @@ use Rattle.build_meaning.specs.BuiltLaws.{IsSound, AreSound}
 use Rattle.build_meaning.specs.Layers.{names_of}
 use Rattle.build_meaning.specs.Quantized.{IsCount, AreInputs, named_points}
 use Rattle.build_meaning.specs.GridLaws.{EachFeature}
-use Rattle.layer_topology.specs.Guarded.{is_simplifying_level}
+use Rattle.layer_topology.specs.Levels.{is_simplifying_level}
 use Rattle.layer_topology.specs.Levels.{is_level}
 use Rattle.layer_topology.specs.Written.{AreTaken}
 use Rattle.layer_topology.specs.declared.level.Level.{Level}

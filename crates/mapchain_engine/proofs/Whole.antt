@@ -8,14 +8,14 @@ use Rattle.json_value.specs.Text.{json_text}
 use Rattle.reports.specs.declared.report.Report.{Report}
 use Rattle.topojson_types.specs.Topologies.{Contents}
 use Rattle.topojson_types.specs.Values.{topology_value}
-use Rattle.layer_topology.specs.Guarded.{is_simplifying_level}
-use Rattle.layer_topology.specs.GuardedLaws.{ShareStaysUnder, SimplifiedUnderLaw}
-use Rattle.layer_topology.specs.declared.guards.Guards.{Guards}
+use Rattle.layer_topology.specs.GuardLaws.{LeftLaw, ShareStays}
+use Rattle.layer_topology.specs.Levels.{is_simplifying_level, threshold_of}
+use Rattle.build_meaning.specs.declared.guards.Guards.{Guards}
 use Rattle.layer_topology.specs.declared.level.Level.{Level}
 use Rattle.mapchain_engine.specs.Files.{FailsToGive}
 use Rattle.mapchain_engine.specs.Geo.{SendsText}
 use Rattle.mapchain_engine.specs.SimplifyLaws.{SimplifiedIsUtf8}
-use Rattle.mapchain_engine.specs.Simplified.{IsReadAndSimplified, IsSimplified, IsSimplifyFault, topology_threshold}
+use Rattle.mapchain_engine.specs.Simplified.{IsReadAndSimplified, IsSimplified, IsSimplifyFault}
 
 -- ---- nothing is written
 
@@ -26,11 +26,24 @@ not_given guards level limit old new sink e f = (refl, f)
 -- ---- the text of what is left is sent
 
 module _ (guards : Guards) (level : Level) (limit : ℕ) (old new : Fed) (sink_old sink_new : Drained) (less : Contents) (report : Report) (is : IsReadAndSimplified guards level limit old new less report) where
-  pub sent_whole : SimplifiedIsUtf8 → SimplifiedUnderLaw → ShareStaysUnder → is_simplifying_level level ≡ true → (sent : ℕ) → SendsText sink_old sink_new (json_text (topology_value less)) (Ok sent) → IsSimplified guards level limit old new sink_old sink_new report
+  pub sent_whole : SimplifiedIsUtf8 → LeftLaw → ShareStays → is_simplifying_level level ≡ true → (sent : ℕ) → SendsText sink_old sink_new (json_text (topology_value less)) (Ok sent) → IsSimplified guards level limit old new sink_old sink_new report
   sent_whole utf8 law stays may sent w =
       let all = subst (λ z. WritesAll sink_old sink_new 0 (json_text (topology_value z)) sent) is.left w.0 in
       let read = is.read in
-      record { contents = is.contents; counts = is.counts; read = is.read; utf8 = utf8 guards level limit read.bytes is.contents is.counts read.spells; written = all.took; sound = all.sound; flushed = w.1; reported = is.reported; crosses = (law guards (topology_threshold guards level is.contents) limit is.contents).crosses; stays = (law guards (topology_threshold guards level is.contents) limit is.contents).stays; share = stays guards level is.contents may }
+      let left = law guards (threshold_of guards level is.contents) limit is.contents in
+      record {
+        contents = is.contents;
+        counts = is.counts;
+        read = is.read;
+        utf8 = utf8 guards level limit read.bytes is.contents is.counts read.spells;
+        written = all.took;
+        sound = all.sound;
+        flushed = w.1;
+        reported = is.reported;
+        crosses = left.crosses;
+        stays = left.stays;
+        share = stays guards level is.contents may;
+      }
 
   pub cut_short : (e : FileFault) → SendsText sink_old sink_new (json_text (topology_value less)) (Err e) → IsSimplifyFault guards level limit old new sink_old sink_new e
   cut_short (Write sent) w =

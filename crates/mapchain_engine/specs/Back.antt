@@ -9,9 +9,9 @@ use Rattle.inputs.specs.declared.file_fault.FileFault.{FileFault}
 use Rattle.inputs.specs.declared.file_fault.FileFault.TheVariants.{Memory}
 use Rattle.inputs.specs.Texts.{max_input}
 use Rattle.inputs.specs.Sources.{Sources}
-use Rattle.layer_topology.specs.declared.guards.Guards.{Guards}
+use Rattle.build_meaning.specs.declared.guards.Guards.{Guards}
 use Rattle.layer_topology.specs.declared.level.Level.{Level}
-use Rattle.layer_topology.specs.Guarded.{is_at_once}
+use Rattle.build_meaning.specs.Left.{is_at_once}
 use Rattle.mapchain_engine.specs.Laws.{IsWrittenTo}
 use Rattle.reports.specs.declared.report.Report.{Report}
 use Rattle.reports.specs.declared.summary.Summary.{Summary}

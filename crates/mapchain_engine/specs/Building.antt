@@ -1,7 +1,7 @@
 -- What `build` answers, reads and writes.
-use Rattle.std.specs.Prelude.{◌≡◌, ℕ, ◌++◌, true, false, List, length, map, Option, Some, Result, Ok, Err, IsUtf8}
+use Rattle.std.specs.Prelude.{◌≡◌, ℕ, ◌++◌, true, false, List, length, map, Some, Result, Ok, Err, IsUtf8}
 use Rattle.std.specs.List.{AllByRecursion}
-use Rattle.byte_ends.specs.Ends.{Drained, Takes, saturated}
+use Rattle.byte_ends.specs.Ends.{Drained, Takes}
 use Rattle.byte_ends.specs.Writes.{WritesAll, WritesPrefix}
 use Rattle.json_value.specs.declared.json.Json.{Json}
 use Rattle.json_value.specs.Grammar.{Reads}
@@ -15,18 +15,19 @@ use Rattle.topojson_types.specs.Topologies.{Contents}
 use Rattle.topojson_types.specs.Validity.{IsTopology}
 use Rattle.topojson_types.specs.Values.{topology_value}
 use Rattle.arc_table.specs.Laws.{AreOnceIn}
+use Rattle.build_meaning.specs.Assembled.{arcs_of_layers}
 use Rattle.build_meaning.specs.Built.{all_arcs}
 use Rattle.build_meaning.specs.Expected.{expected}
 use Rattle.build_meaning.specs.Layers.{layers_of, names_of}
 use Rattle.cutter.specs.Segments.{line_segments}
 use Rattle.effective_area.specs.Calls.{Call}
 use Rattle.linework.specs.Linework.{linework}
-use Rattle.layer_topology.specs.Guarded.{is_at_once, simplified_under, CrossesNoMore, KeepsShapes}
-use Rattle.layer_topology.specs.GuardedLaws.{ShareStaysUnder, WrittenUnderLaw}
-use Rattle.layer_topology.specs.GuardedLevels.{level_chosen_under, level_threshold_under, KeepsShareUnder}
-use Rattle.layer_topology.specs.GuardedWritten.{calls_under, lines_dropped_under, positions_removed_under, written_under}
+use Rattle.layer_topology.specs.GuardLaws.{ShareStays, UnguardedIsWritten, WrittenLeftLaw}
 use Rattle.layer_topology.specs.Laws.{WrittenLaws}
-use Rattle.layer_topology.specs.Written.{snapped_to, written as written_on}
+use Rattle.layer_topology.specs.Levels.{calls_over, chosen_for, KeepsShareOf}
+use Rattle.layer_topology.specs.Promises.{CrossesNoMore, KeepsShapes}
+use Rattle.layer_topology.specs.Written.{snapped_to, written_left, written_threshold, written as written_on}
+use Rattle.build_meaning.specs.Left.{Left, is_at_once, left_of}
 use Rattle.build_meaning.specs.SimplifiedLaws.{labels}
 use Rattle.topojson_meaning.specs.Laws.{ReadsBack, TextIsRead}
 use Rattle.topojson_meaning.specs.Texts.{TextIsUtf8}
@@ -34,9 +35,9 @@ use Rattle.topojson_meaning.specs.Topologies.{topology}
 use Rattle.inputs.specs.declared.fault.BuildFault.{BuildFault}
 use Rattle.inputs.specs.declared.fault.BuildFault.TheVariants.{Write, Memory}
 use Rattle.mapchain_engine.specs.BuildLaws.{LayerLaws}
+use Rattle.mapchain_engine.specs.Simplified.{report_of_left}
 use Rattle.mapchain_engine.specs.declared.options.Options.{Options}
 use Rattle.reports.specs.declared.report.Report.{Report}
-use Rattle.reports.specs.Summaries.{report_with}
 use Rattle.inputs.specs.Sources.{Sources, Named, AllRead, FailsAt, AreUntroubled, added}
 
 -- ---- what is asked for
@@ -47,20 +48,20 @@ snapped_for o layers = snapped_to o.grid layers
 
 -- the threshold at which their arcs are reduced: the one that is given, or the greatest that keeps the share that is asked for, under the guards
 abbrev pub threshold_for : Options → Named → ℕ
-threshold_for o layers = level_threshold_under o.guards o.grid o.level layers
-
--- the threshold at which the layers' arcs are reduced, where it was chosen for a share
-abbrev pub chosen_for : Options → Named → Option ℕ
-chosen_for o layers = level_chosen_under o.guards o.grid o.level layers
+threshold_for o layers = written_threshold o.guards o.grid o.level layers
 
 -- what a reducer is asked for: to reduce each of their arcs at the threshold that is given, in order, and nothing for a share, nor where no
 -- crossing may be made or shapes stay
 abbrev pub calls_for : Options → Named → List Call
-calls_for o layers = calls_under o.guards o.grid o.level layers
+calls_for o layers = calls_over o.guards o.level (arcs_of_layers (snapped_for o layers))
 
--- the topology that is written of layers
+-- what is left of layers
+abbrev pub left_for : Options → Named → Left
+left_for o layers = written_left o.guards o.grid (threshold_for o layers) o.ring_limit layers
+
+-- the topology that is written of them
 abbrev pub written_for : Options → Named → Contents
-written_for o layers = written_under o.guards o.grid (threshold_for o layers) o.ring_limit layers
+written_for o layers = (left_for o layers).contents
 
 -- the one that is written of them on the same grid at a threshold and a limit of zero
 abbrev pub whole_for : Options → Named → Contents
@@ -75,8 +76,9 @@ expected_for o layers = expected (threshold_for o layers) o.ring_limit (snapped_
 -- what is written of layers is valid, decodes back and has each segment once; what is written is read again
 pub record BuildingLaws : Type 0 where
   pub written : WrittenLaws
-  pub under : WrittenUnderLaw
-  pub share : ShareStaysUnder
+  pub left : WrittenLeftLaw
+  pub unguarded : UnguardedIsWritten
+  pub share : ShareStays
   pub read : ReadsBack
   pub spelled : TextIsRead
   pub utf8 : TextIsUtf8
@@ -95,9 +97,9 @@ pub record IsGuarded (o : Options) (layers : Named) (contents : Contents) : Type
   pub whole : AllByRecursion (λ l. decoded (whole_for o layers) l.0 ≡ Some (set.Many l.1.features)) (expected 0 0 (snapped_for o layers))
   pub labels_stay : labels contents ≡ labels (whole_for o layers)
   pub crosses : o.guards.no_crossings ≡ true → CrossesNoMore (whole_for o layers) contents
-  pub stays : o.guards.keep_shapes ≡ true → KeepsShapes o.guards.no_crossings (threshold_for o layers) (whole_for o layers) contents
-  pub left : contents ≡ simplified_under o.guards (threshold_for o layers) o.ring_limit (whole_for o layers)
-  pub share : KeepsShareUnder o.guards o.level (whole_for o layers)
+  pub stays : o.guards.keep_shapes ≡ true → KeepsShapes o.guards (threshold_for o layers) (whole_for o layers) contents
+  pub left : contents ≡ (left_of o.guards (threshold_for o layers) o.ring_limit (whole_for o layers)).contents
+  pub share : KeepsShareOf o.guards o.level (whole_for o layers)
 
 -- The text is UTF-8, and JSON (RFC 8259) of a topology (TopoJSON 1.0) whose objects have the names of the layers, in order. Decoding each gives
 -- the features that are expected of its layer, snapped to the grid that is asked for, at the threshold and the least ring area, unless no
@@ -119,9 +121,7 @@ pub record SaysTopology (o : Options) (layers : Named) (text : List ℕ) : Type 
 -- the counts of all layers, the lines and rings that are dropped, the features that are lost, the arcs, their positions, those that were
 -- removed from them, and the threshold, where it was chosen
 abbrev pub report_of : Options → Named → List Counts → Report
-report_of o layers counts =
-    report_with (added counts) (lines_dropped_under o.guards o.grid (threshold_for o layers) o.ring_limit layers) (written_for o layers).objects (written_for o layers).arcs
-    (saturated (positions_removed_under o.guards o.grid (threshold_for o layers) o.ring_limit layers)) (chosen_for o layers)
+report_of o layers counts = report_of_left (added counts) (left_for o layers) (chosen_for o.level (threshold_for o layers))
 
 -- all sources spell layers, and the text is their topology
 pub record Builds (o : Options) (olds news : Sources) (layers : Named) (counts : List Counts) (text : List ℕ) : Type 0 where

@@ -18,7 +18,7 @@ use Rattle.json_value.specs.Limits.{topology_depth}
 use Rattle.mapchain_engine.specs.Geo.{excess_of, features_text}
 use Rattle.inputs.specs.Texts.{BytesHaveOutcome, plain_text_fault}
 use Rattle.reports.specs.Summaries.{summary_of, with_crossings}
-use Rattle.build_meaning.specs.Guarded.{crossings_of}
+use Rattle.build_meaning.specs.ArcPositions.{crossings_of}
 
 -- ---- what is asked of a topology and of what is counted in reading it
 

@@ -18,7 +18,7 @@ use Rattle.inputs.specs.declared.file_fault.FileFault.TheVariants.{Read, Json, T
 use Rattle.inputs.specs.Texts.{IsNoText, IsRead, IsUntroubled, FailsToEnd}
 use Rattle.reports.specs.declared.summary.Summary.{Summary}
 use Rattle.reports.specs.Summaries.{summary_of, with_crossings}
-use Rattle.build_meaning.specs.Guarded.{crossings_of}
+use Rattle.build_meaning.specs.ArcPositions.{crossings_of}
 
 -- the bytes are UTF-8 and spell a JSON value (RFC 8259) that stands for this topology (TopoJSON 1.0), with what is counted in
 -- reading it

@@ -8,7 +8,7 @@ use Rattle.build_meaning.specs.Expected.{kept_line}
 use Rattle.build_meaning.specs.BuiltLaws.{whole_line}
 use Rattle.build_meaning.specs.Layers.{layers_of, named_lines_and_rings}
 use Rattle.layer_topology.specs.declared.level.Level.TheVariants.{Fixed}
-use Rattle.layer_topology.specs.Guarded.{is_at_once}
+use Rattle.build_meaning.specs.Left.{is_at_once}
 use Rattle.linework.specs.Linework.{linework}
 use Rattle.reports.specs.declared.report.Report.{Report}
 use Rattle.reports.specs.declared.summary.Summary.{Summary}
@@ -19,7 +19,7 @@ use Rattle.inputs.specs.Outcomes.{Texts, HaveBytes}
 use Rattle.inputs.specs.Sources.{Sources, Named}
 use Rattle.reports.specs.Summaries.{summary_of}
 use Rattle.build_meaning.specs.Assembled.{arcs_of_layers}
-use Rattle.build_meaning.specs.Guarded.{arc_positions}
+use Rattle.build_meaning.specs.ArcPositions.{arc_positions}
 use Rattle.mapchain_engine.specs.Files.{IsSummarised}
 use Rattle.mapchain_engine.specs.Simplified.{IsSimplified}
 

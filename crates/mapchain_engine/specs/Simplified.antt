@@ -1,5 +1,5 @@
 -- What `simplify` answers, reads and writes.
-use Rattle.std.specs.Prelude.{◌≡◌, ℕ, ◌++◌, true, List, [], length, map, Option, if◌then◌else◌, IsUtf8}
+use Rattle.std.specs.Prelude.{◌≡◌, ℕ, ◌++◌, true, List, length, map, Option, IsUtf8}
 use Rattle.byte_ends.specs.Ends.{Fed, Drained, Takes, saturated}
 use Rattle.byte_ends.specs.Writes.{WritesPrefix}
 use Rattle.effective_area.specs.Calls.{Call}
@@ -7,12 +7,12 @@ use Rattle.geojson_types.specs.declared.counts.Counts.{Counts}
 use Rattle.inputs.specs.declared.file_fault.FileFault.{FileFault}
 use Rattle.inputs.specs.declared.file_fault.FileFault.TheVariants.{Write}
 use Rattle.json_value.specs.Text.{json_text}
-use Rattle.layer_topology.specs.Guarded.{is_at_once, simplified_under, dropped_under, removed_count_under, CrossesNoMore, KeepsShapes}
-use Rattle.layer_topology.specs.GuardedLevels.{chosen_under, threshold_under, KeepsShareUnder}
-use Rattle.layer_topology.specs.Levels.{calls_at}
-use Rattle.layer_topology.specs.declared.guards.Guards.{Guards}
-use Rattle.layer_topology.specs.declared.level.Level.{Level}
+use Rattle.build_meaning.specs.Left.{Left, left_of}
 use Rattle.build_meaning.specs.Thresholds.{placed_cells}
+use Rattle.build_meaning.specs.declared.guards.Guards.{Guards}
+use Rattle.layer_topology.specs.Levels.{calls_over, chosen_for, threshold_of, KeepsShareOf}
+use Rattle.layer_topology.specs.Promises.{CrossesNoMore, KeepsShapes}
+use Rattle.layer_topology.specs.declared.level.Level.{Level}
 use Rattle.reports.specs.declared.report.Report.{Report}
 use Rattle.reports.specs.Summaries.{report_with}
 use Rattle.topojson_types.specs.Topologies.{Contents}
@@ -21,27 +21,24 @@ use Rattle.mapchain_engine.specs.Files.{IsTopologyRead, FailsToGive}
 
 -- ---- what is left of a topology
 
--- the threshold at which its arcs are reduced: the one that is given, or the greatest that keeps the share that is asked for, under the guards.
--- The share is of the positions between the ends of all its arcs as they stand, also of those that no line uses, by the positions that the
--- cells stand for
-abbrev pub topology_threshold : Guards → Level → Contents → ℕ
-topology_threshold guards level y = threshold_under guards level y
+-- It, where its arcs are reduced at a threshold under the guards that are asked for: at the one that is given, or the greatest that keeps the share
+-- that is asked for. The share is of the positions between the ends of all its arcs as they stand, also of those that no line uses, by the positions
+-- that the cells stand for.
+abbrev pub left_at : Guards → Level → ℕ → Contents → Left
+left_at guards level limit y = left_of guards (threshold_of guards level y) limit y
 
--- this threshold, where it is chosen for a share
-abbrev pub topology_chosen : Guards → Level → Contents → Option ℕ
-topology_chosen guards level y = chosen_under guards level y
-
--- the text (TopoJSON 1.0) of what is left of a topology where its arcs are reduced at the threshold, under the guards that are asked for
+-- the text (TopoJSON 1.0) of what is left
 abbrev pub simplified_contents_text : Guards → Level → ℕ → Contents → List ℕ
-simplified_contents_text guards level limit y = json_text (topology_value (simplified_under guards (topology_threshold guards level y) limit y))
+simplified_contents_text guards level limit y = json_text (topology_value (left_at guards level limit y).contents)
 
--- what was counted in reading the topology, the lines and rings that are dropped, the features that are lost, the arcs that are left, their
--- positions, those that were removed from these arcs, and the threshold, where it was chosen
+-- these counts, of what is left the lines and rings that are dropped, the features that are lost, the arcs, their positions, those that were
+-- removed from these arcs, and the threshold, where one was chosen
+abbrev pub report_of_left : Counts → Left → Option ℕ → Report
+report_of_left counts left chosen = report_with counts left.dropped left.contents.objects left.contents.arcs (saturated left.removed_count) chosen
+
+-- what was counted in reading the topology, and what is left of it
 abbrev pub report_of : Guards → Level → ℕ → Contents → Counts → Report
-report_of guards level limit y counts =
-    report_with counts (dropped_under guards (topology_threshold guards level y) limit y)
-    (simplified_under guards (topology_threshold guards level y) limit y).objects (simplified_under guards (topology_threshold guards level y) limit y).arcs
-    (saturated (removed_count_under guards (topology_threshold guards level y) limit y)) (topology_chosen guards level y)
+report_of guards level limit y counts = report_of_left counts (left_at guards level limit y) (chosen_for level (threshold_of guards level y))
 
 -- ---- reading and writing
 
@@ -50,21 +47,16 @@ pub record IsReadAndSimplified (guards : Guards) (level : Level) (limit : ℕ) (
   pub contents : Contents
   pub counts : Counts
   pub read : IsTopologyRead old new contents counts
-  pub left : less ≡ simplified_under guards (topology_threshold guards level contents) limit contents
+  pub left : less ≡ (left_at guards level limit contents).contents
   pub reported : report ≡ report_of guards level limit contents counts
 
--- what a reducer is asked for: to reduce each arc at a threshold, by the positions that it stands for, in order, but nothing where all are
--- reduced at once, nor at a share, for which each arc is weighed once in place of that
-abbrev pub calls_of : Guards → Level → Contents → List Call
-calls_of guards level y = if is_at_once guards then [] else calls_at level (map (placed_cells y.transform) y.arcs)
-
 -- the source was read to its end, its bytes spell a topology, and a reducer that was asked for so much before was asked to reduce each of its
--- arcs at this level since, unless all are reduced at once, and for nothing else
+-- arcs at this level since, by the positions that it stands for, unless all are reduced at once, and for nothing else
 pub record CallsForTopology (guards : Guards) (level : Level) (old new : Fed) (before after : List Call) : Type 0 where
   pub contents : Contents
   pub counts : Counts
   pub read : IsTopologyRead old new contents counts
-  pub called : after ≡ before ++ calls_of guards level contents
+  pub called : after ≡ before ++ calls_over guards level (map (placed_cells contents.transform) contents.arcs)
 
 -- the source was read to its end, its bytes spell a topology, the text of what is left of it is UTF-8, the sink took the whole of
 -- it and passed it on, and this is its report; where crossings may not be made, what is left crosses no more than the topology, and only where that
@@ -79,10 +71,9 @@ pub record IsSimplified (guards : Guards) (level : Level) (limit : ℕ) (old new
   pub sound : sink_new.failures ≡ 0
   pub flushed : sink_new.flushed ≡ true
   pub reported : report ≡ report_of guards level limit contents counts
-  pub crosses : guards.no_crossings ≡ true → CrossesNoMore contents (simplified_under guards (topology_threshold guards level contents) limit contents)
-  pub stays : guards.keep_shapes ≡ true
-      → KeepsShapes guards.no_crossings (topology_threshold guards level contents) contents (simplified_under guards (topology_threshold guards level contents) limit contents)
-  pub share : KeepsShareUnder guards level contents
+  pub crosses : guards.no_crossings ≡ true → CrossesNoMore contents (left_at guards level limit contents).contents
+  pub stays : guards.keep_shapes ≡ true → KeepsShapes guards (threshold_of guards level contents) contents (left_at guards level limit contents).contents
+  pub share : KeepsShareOf guards level contents
 
 -- the device failed when it had taken a prefix of that text
 pub record IsSimplifiedInPart (guards : Guards) (level : Level) (limit : ℕ) (old new : Fed) (sink_old sink_new : Drained) (sent : ℕ) : Type 0 where

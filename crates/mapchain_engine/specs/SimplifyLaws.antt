@@ -4,7 +4,7 @@ use Rattle.byte_ends.specs.Ends.{Fed, Drained, Takes}
 use Rattle.geojson_types.specs.declared.counts.Counts.{Counts}
 use Rattle.json_value.specs.declared.json.Json.{Json}
 use Rattle.json_value.specs.Grammar.{Reads}
-use Rattle.layer_topology.specs.declared.guards.Guards.{Guards}
+use Rattle.build_meaning.specs.declared.guards.Guards.{Guards}
 use Rattle.layer_topology.specs.declared.level.Level.{Level}
 use Rattle.reports.specs.declared.report.Report.{Report}
 use Rattle.topojson_meaning.specs.Topologies.{topology}

@@ -3,7 +3,7 @@ use Rattle.std.specs.Prelude.{◌≡◌, ◌⊎◌, ℕ, List, length, Result, O
 use Rattle.byte_ends.specs.Ends.{Drained, Takes}
 use Rattle.geojson_types.specs.declared.counts.Counts.{Counts}
 use Rattle.inputs.specs.declared.file_fault.FileFault.{FileFault}
-use Rattle.layer_topology.specs.declared.guards.Guards.{Guards}
+use Rattle.build_meaning.specs.declared.guards.Guards.{Guards}
 use Rattle.layer_topology.specs.declared.level.Level.{Level}
 use Rattle.reports.specs.declared.report.Report.{Report}
 use Rattle.topojson_types.specs.Topologies.{Contents}

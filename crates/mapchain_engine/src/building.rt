@@ -10,12 +10,16 @@ ghost use Rattle.mapchain_engine.specs.BuildOutcomes.{Follows};
 
 use crate::build_laws::layer_laws;
 use crate::options::Options;
+use crate::reducing::reported;
 use byte_ends::{Drain, Feed, Sink, Source, flush_after};
 use effective_area::Reducer;
 use inputs::{BuildFault, Unwatched, Watch, check_names, read_layers};
 use json_value::OwnText;
-use layer_topology::{share_stays_at_once, topology_of_layers, written_laws, written_under_law};
-use reports::{Report, report_of};
+use layer_topology::{
+    Reduction, share_stays, topology_of_layers, unguarded_is_written, written_laws,
+    written_left_law,
+};
+use reports::Report;
 use std::alloc::Global;
 use std::mem;
 use topojson_meaning::{reads_back, topology_text_is_read, topology_text_is_utf8};
@@ -36,8 +40,9 @@ fn building_laws()
     ensures { BuildingLaws }
 {
     written_laws();
-    written_under_law();
-    share_stays_at_once();
+    written_left_law();
+    unguarded_is_written();
+    share_stays();
     reads_back();
     topology_text_is_read();
     topology_text_is_utf8();
@@ -62,24 +67,13 @@ fn build_layers<Q: Reducer, R: Feed, W: Drain, K: Watch>(
 {
     building_laws();
     let (layers, counts) = read_layers(alloc, sources, options.exact, watch)?;
-    let (topology, dropped, removed, chosen) = topology_of_layers(
-        alloc,
-        reducer,
-        options.seed,
-        layers,
-        options.grid,
-        options.guards,
-        options.level,
-        options.ring_limit,
-    )?;
-    let report = report_of(
-        counts,
-        dropped,
-        topology.objects(),
-        topology.arcs(),
-        removed,
-        chosen,
-    );
+    let asked = Reduction {
+        guards: options.guards,
+        level: options.level,
+        ring_limit: options.ring_limit,
+    };
+    let left = topology_of_layers(alloc, reducer, options.seed, layers, options.grid, asked)?;
+    let (topology, report) = reported(counts, left);
     let sent = send(&topology, sink);
     watch.built(alloc, &topology, report.dropped.as_slice());
     // (the run ends soon, and to take a large topology apart costs it more than to write some of it)

@@ -3,15 +3,15 @@ ghost use Rattle.std.specs.Prelude.{◌≡◌, ℕ, List, Some, Result, IfOk, If
 ghost use Rattle.inputs.specs.declared.file_fault.FileFault.{FileFault as Fault};
 ghost use Rattle.reports.specs.declared.summary.Summary.{Summary as Counted};
 ghost use Rattle.reports.specs.Summaries.{most_crossings, summary_of, with_crossings};
-ghost use Rattle.build_meaning.specs.Guarded.{crossings_of};
+ghost use Rattle.build_meaning.specs.ArcPositions.{crossings_of};
 ghost use Rattle.mapchain_engine.specs.FileOutcomes.{FileHasOutcome, FollowsSummary, summarised_with_crossings};
 ghost use Rattle.mapchain_engine.specs.Files.{FailsToGive, IsCounted};
 
 use crate::file_reading::read_watched;
-use crate::guarding::arc_positions;
 use crate::summarising::summary_in;
 use byte_ends::{Feed, Memory, Source};
 use inputs::{FileFault, Unwatched, Watch};
+use layer_topology::arc_positions;
 use reports::{MOST_CROSSINGS, Summary};
 use segment_crossings::crossings_with;
 use std::alloc::Global;

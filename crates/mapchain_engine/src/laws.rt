@@ -15,7 +15,7 @@ use crate::build_laws::read_layers_are_taken;
 use build_meaning::{snapped_are_on, zero_loses_nothing};
 use inputs::{layers_have_one_outcome, read_layers_are_the_outcome};
 use json_reading::one_value;
-use layer_topology::{guarded_at_zero, written_under_law};
+use layer_topology::{guarded_at_zero, written_left_law};
 use topojson_meaning::topology_is_valid;
 
 /// What `build` wrote, at any threshold, without guards, `to_geo` reads again: with the name of a layer, answering `Ok`, it writes the text of the
@@ -68,7 +68,7 @@ pub fn simplified_text_is_built()
 {
     one_value();
     guarded_at_zero();
-    written_under_law();
+    written_left_law();
     topology_is_valid();
     read_layers_are_taken();
 }
@@ -82,7 +82,7 @@ pub fn simplified_by_level_is_built()
 {
     one_value();
     guarded_at_zero();
-    written_under_law();
+    written_left_law();
     topology_is_valid();
     read_layers_are_taken();
 }

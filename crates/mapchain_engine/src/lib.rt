@@ -1,10 +1,10 @@
 //! Everything that the program does, as calls from bytes to bytes: building a topology (TopoJSON 1.0) of GeoJSON layers (RFC 7946),
 //! simplifying one, decoding the objects of one again, and counting what is in one. It stands on `inputs` for sources, layers and faults,
-//! on `layer_topology` for the topology that is made of layers, on `topojson_decoder` for the one that a file has, on `topo_model` and
-//! `effective_area` for reducing it, on `segment_crossings` for its crossings, on `topojson_writer` for texts, and on `reports`. A program calls
-//! `build`, whose contract is the main theorem, and `specs/Building.antt` says what it promises; `simplify` (`specs/Simplified.antt`); `to_geo`
-//! (`specs/Geo.antt`), `stat` and `stat_with_crossings` (`specs/Files.antt`). The laws of `laws.rt` join these calls: what was built is read again
-//! as what was built, and simplified as what is built at a threshold.
+//! on `layer_topology` for the topology that is made of layers and for what is left of one, on `topojson_decoder` for the one that a file
+//! has, on `segment_crossings` for its crossings, on `topojson_writer` for texts, and on `reports`. A program calls `build`, whose contract is the
+//! main theorem, and `specs/Building.antt` says what it promises; `simplify` (`specs/Simplified.antt`); `to_geo` (`specs/Geo.antt`), `stat` and
+//! `stat_with_crossings` (`specs/Files.antt`). The laws of `laws.rt` join these calls: what was built is read again as what was built, and
+//! simplified as what is built at a threshold.
 #![tactic(auto)]
 
 mod build_laws;
@@ -13,11 +13,9 @@ mod crossings;
 mod decoding;
 mod file_laws;
 mod file_reading;
-mod guarding;
 mod laws;
 mod options;
 mod reducing;
-mod sharing;
 mod simplify_laws;
 mod simplifying;
 mod summarising;

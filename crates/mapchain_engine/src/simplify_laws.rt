@@ -1,13 +1,13 @@
 // Laws of the definitions. A function here does nothing: its contract is the law.
 ghost use Rattle.std.specs.Prelude.{ℕ};
-ghost use Rattle.layer_topology.specs.declared.guards.Guards.{Guards};
+ghost use Rattle.build_meaning.specs.declared.guards.Guards.{Guards};
 ghost use Rattle.layer_topology.specs.declared.level.Level.{Level};
 ghost use Rattle.mapchain_engine.specs.FileLaws.{HaveFileOutcome, HaveOneFileOutcome};
 ghost use Rattle.mapchain_engine.specs.SimplifyLaws.{SimplifiedIsUtf8, WrittenIsSimplified};
 ghost use Rattle.mapchain_engine.specs.SimplifyOutcomes.{simplified};
 
 use json_value::read_values_are_well_formed;
-use layer_topology::simplified_under_law;
+use layer_topology::left_law;
 use topojson_meaning::{numbers_stay, texts_stay, topology_is_valid, topology_text_is_utf8};
 
 /// Where a source has left the bytes of a topology, simplifying writes the text of what is left of that topology at the level.
@@ -30,6 +30,6 @@ pub fn simplified_text_is_utf8()
     numbers_stay();
     texts_stay();
     topology_is_valid();
-    simplified_under_law();
+    left_law();
     topology_text_is_utf8();
 }

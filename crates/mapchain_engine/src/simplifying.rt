@@ -3,7 +3,7 @@ ghost use Rattle.std.specs.Prelude.{◌≡◌, ◌≤◌, ℕ, List, Some, Resul
 ghost use Rattle.geometry.specs.Units.{threshold_limit};
 ghost use Rattle.inputs.specs.declared.file_fault.FileFault.{FileFault as Fault};
 ghost use Rattle.json_value.specs.Text.{json_text};
-ghost use Rattle.layer_topology.specs.Guarded.{is_simplifying_level};
+ghost use Rattle.layer_topology.specs.Levels.{is_simplifying_level};
 ghost use Rattle.reports.specs.declared.report.Report.{Report as Reported};
 ghost use Rattle.topojson_types.specs.Values.{topology_value};
 ghost use Rattle.mapchain_engine.specs.FileOutcomes.{FileHasOutcome};
@@ -18,7 +18,7 @@ use crate::simplify_laws::simplified_text_is_utf8;
 use byte_ends::{Drain, Feed, Sink, Source, flush_after};
 use effective_area::Reducer;
 use inputs::{FileFault, Unwatched, Watch};
-use layer_topology::{Guards, Level, share_stays_at_once, simplified_under_law};
+use layer_topology::{Guards, Level, Reduction, left_law, share_stays};
 use reports::Report;
 use std::alloc::Global;
 use std::mem;
@@ -31,19 +31,17 @@ fn read_and_simplify<Q: Reducer, R: Feed, K: Watch>(
     alloc: Global,
     reducer: &mut Q,
     source: &mut Source<R>,
-    guards: Guards,
-    level: Level,
-    ring_limit: u128,
+    asked: Reduction,
     watch: &mut K,
 ) -> Result<(Topology, Report), FileFault>
-    requires level { is_simplifying_level level ≡ true }
-    requires limit { ring_limit ≤ threshold_limit }
-    ensures given { IfOk result (λ r. IsReadAndSimplified guards level ring_limit source.old source.new r.0 r.1) }
-    ensures reduced { IfOk result (λ _. CallsForTopology guards level source.old source.new (Q.calls reducer.old) (Q.calls reducer.new)) }
+    requires level { is_simplifying_level asked.level ≡ true }
+    requires limit { asked.ring_limit ≤ threshold_limit }
+    ensures given { IfOk result (λ r. IsReadAndSimplified asked.guards asked.level asked.ring_limit source.old source.new r.0 r.1) }
+    ensures reduced { IfOk result (λ _. CallsForTopology asked.guards asked.level source.old source.new (Q.calls reducer.old) (Q.calls reducer.new)) }
     ensures refused { IfErr result (λ e. FailsToGive source.old source.new e) }
 {
     let (topology, counts) = read_watched(alloc, source, watch)?;
-    let less = simplify_topology(alloc, reducer, topology, counts, guards, level, ring_limit)?;
+    let less = simplify_topology(alloc, reducer, topology, counts, asked)?;
     Ok(less)
 }
 
@@ -118,11 +116,14 @@ pub fn simplify_watched<Q: Reducer, R: Feed, W: Drain, K: Watch>(
         → FollowsSimplified sink.old sink.new outcome result }
 {
     simplified_text_is_utf8();
-    simplified_under_law();
-    share_stays_at_once();
-    let (less, report) = read_and_simplify(
-        alloc, reducer, source, guards, level, ring_limit, watch,
-    )?;
+    left_law();
+    share_stays();
+    let asked = Reduction {
+        guards,
+        level,
+        ring_limit,
+    };
+    let (less, report) = read_and_simplify(alloc, reducer, source, asked, watch)?;
     let sent = send(&less, sink);
     watch.simplified(alloc, &less, report.dropped.as_slice());
     // (as in building)

@@ -12,7 +12,6 @@ use Rattle.build_meaning.specs.Protected.{Protection, no_protection, MarkedRefs,
 use Rattle.build_meaning.specs.Simplified.{Refs, object_pruned, objects_pruned}
 use Rattle.build_meaning.proofs.DroppableLines.{map_map}
 use Rattle.build_meaning.proofs.Marks.{left_plain}
-use Rattle.build_meaning.proofs.Spared.{objects_plain}
 use Rattle.owned_values.proofs.Elements.{all_left, all_right}
 use Rattle.topojson_types.specs.declared.feature.TopoFeature.{TopoFeature}
 use Rattle.topojson_types.specs.declared.object.TopoObject.{TopoObject}
@@ -130,11 +129,7 @@ objects_are protects kept ways os are =
     objects_by (λ ways o. (o.0, object_along kept ways o.1)) (λ o. (o.0, object_spared protects kept o.1)) protects ways os are (λ o more. ap (λ p. (o.0, p)) (object_is protects kept o.1 more))
     (λ none o. ap (λ p. (o.0, p)) (object_none kept o.1 ∙ ap (λ p. object_spared p kept o.1) (sym none)))
 
--- without ways they are pruned
-pub objects_plainly : (k : Refs) (os : Objects) → objects_along (sparing k) [] os ≡ objects_pruned k os
-objects_plainly k os = objects_are no_protection (sparing k) [] os (inr (refl, refl)) ∙ objects_plain (sparing k) os
-
--- with the cells of points replaced, too
+-- without ways they are pruned, with the cells of points replaced
 pub placed_plainly : (place : Point → Point) (k : Refs) (os : Objects) → objects_placed_along place (sparing k) [] os ≡ objects_placed place k os
 placed_plainly place k = objects_none (λ ways o. (o.0, object_placed_along place (sparing k) ways o.1)) (λ o. (o.0, object_placed place k o.1)) (λ o. ap (λ p. (o.0, p)) (object_plainly o.1))
   where

@@ -1,5 +1,4 @@
--- What is made of layers, of the indexes of their arcs and of the positions of each arc that are retained is what is assembled of them, where no
--- ring is protected, or in each feature the one that encloses most.
+-- What is made of layers, of the indexes of their arcs and of the positions of each arc that are retained is what is assembled of them.
 use Rattle.std.proofs.Common.{arith, ◌≡◌, ℕ, ℤ, Bool, true, false, List, [], ◌∷◌, map, length, Option, None, Some, refl, sym, ap, ◌∙◌, subst, cond, inl, inr}
 use Rattle.std.specs.Prelude.{if◌then◌else◌}
 use Rattle.std.proofs.lemmas.Option.{none-some}
@@ -27,12 +26,10 @@ use Rattle.geometry.specs.Points.{Point}
 use Rattle.geometry.specs.Pruning.{prune, lines_and_rings, option_lines_and_rings}
 use Rattle.junctions.specs.Cleaning.{clean, is_short}
 use Rattle.junctions.specs.declared.stroke.Stroke.{Stroke}
-use Rattle.build_meaning.specs.Assembled.{arcs_of_layers, own_refs, assembled_cause, option_caused, layers_caused, assembled, assembled_dropped, assembled_removed_count}
-use Rattle.build_meaning.specs.Simplified.{Refs, small_cause, large_refs, feature_pruned, objects_pruned, retained_arcs, retained_whole, EachFromFirstToLast, object_pruned}
-use Rattle.build_meaning.proofs.Assembled.{contents, kept_by, before_trimming}
-use Rattle.build_meaning.specs.Protected.{Protection, no_protection, objects_spared, spared_by, spared_removed_count, spared_whole, sparing, greatest_ring, cause_sparing, shape_marked, feature_spared, object_spared}
-use Rattle.build_meaning.proofs.Protected.{unprotected_is_simplified}
-use Rattle.build_meaning.proofs.Spared.{whole_plain, by_refs}
+use Rattle.build_meaning.specs.Assembled.{arcs_of_layers, own_refs, assembled_cause}
+use Rattle.build_meaning.specs.Simplified.{Refs, small_cause, large_refs, feature_pruned, objects_pruned, retained_arcs, EachFromFirstToLast, object_pruned}
+use Rattle.build_meaning.specs.Protected.{Protection, protection, objects_spared, sparing, cause_sparing, shape_marked, feature_spared, object_spared}
+use Rattle.build_meaning.proofs.Spared.{by_refs}
 use Rattle.build_meaning.proofs.Simplified.{IsWholeAtZero, no_small}
 use Rattle.build_meaning.proofs.ValidUntrimmed.{untrimmed_is_valid}
 use Rattle.linework.specs.Linework.{linework}
@@ -41,10 +38,10 @@ use Rattle.owned_values.proofs.Elements.{all_weaker, all_left, all_right}
 use Rattle.topojson_types.specs.declared.object.TopoObject.{TopoObject}
 use Rattle.topojson_types.specs.Topologies.{Contents, object_features, TopoShape}
 use Rattle.topojson_types.specs.Validity.{AreDistinct}
-use Rattle.topo_model.specs.Along.{Ways, large_along}
+use Rattle.topo_model.specs.Along.{Ways, AreWays}
 use Rattle.topo_model.specs.Drops.{draft_cause, objects_drops}
 use Rattle.topo_model.proofs.Drops.{protected_drops, objects_are as drops_along}
-use Rattle.topo_model.proofs.Along.{objects_plainly as along_plainly, objects_are, fused, each_part}
+use Rattle.topo_model.proofs.Along.{objects_are, fused, each_part}
 use Rattle.topo_model.proofs.Result.{of_arcs}
 use Rattle.topo_model.specs.Drafts.{RefsOf, long_refs, draft_refs, relined, feature_drafted, no_refs, objects_drafted, objects_relined}
 use Rattle.topo_model.specs.Retaining.{IsDraftOf, StandsFor, StandsForTopology}
@@ -52,14 +49,14 @@ use Rattle.std.specs.List.{AllByRecursion}
 use Rattle.geometry.specs.Paths.{Placed}
 use Rattle.geometry.proofs.Omitted.{drop_causes_agree}
 use Rattle.build_meaning.specs.OuterRings.{outer_rings, marked}
-use Rattle.build_meaning.specs.ProtectedLayers.{greatest_of_layers, layer_shape_marked, drafted_refs, unprotected_cause, feature_sparing, option_unspared, assembled_sparing_dropped}
+use Rattle.build_meaning.specs.LeftOfLayers.{greatest_of_layers, layer_protection, layer_shape_marked, drafted_refs, unprotected_cause, feature_assembled, option_unspared, assembled_by}
 use Rattle.build_meaning.proofs.GreatestLeft.{put, ring_among, ring_made}
-use Rattle.build_meaning.proofs.Marks.{without_mark, left_plain, causes_plain}
-use Rattle.build_meaning.proofs.ProtectedLayers.{sparing_of_layers}
+use Rattle.build_meaning.proofs.Marks.{without_mark, left_plain}
+use Rattle.build_meaning.specs.LeftOfLayersLaws.{AssembledIsOfLines}
 use Rattle.build_meaning.proofs.RingsAlike.{all_marked}
 use Rattle.topojson_types.specs.declared.feature.TopoFeature.{TopoFeature}
 use Rattle.topojson_types.specs.declared.object.TopoObject.TheVariants.{Many}
-use Rattle.topo_model.specs.Ways.{ways_of}
+use Rattle.topo_model.specs.Ways.{ways_under}
 use Rattle.topo_model.proofs.RelinedMarks.{pruned_once, dropped_once, rings_relined}
 use Rattle.geojson_types.specs.declared.layer.Layer.{Layer}
 use Rattle.owned_values.proofs.Lists.{map_agree}
@@ -126,11 +123,6 @@ module _ (of : RefsOf) (k : Refs) where
   pub draft_pruned : (ls : Named) → objects_pruned k (objects_drafted of ls) ≡ objects_by both ls
   draft_pruned = layers_made of (λ o. (o.0, object_pruned k o.1)) (feature_pruned k) (feature_by both) (λ name fs. refl) (λ f. ap (with_shape f) (shape_pruned f.shape))
 
--- a line or ring without indexes has too few positions over any arcs
-large_are : (lines : List Stroke) (arcs : List (List Point)) (limit : ℕ) (closed : Bool) (ps : List Point) → large_refs limit arcs closed (draft_refs (own_refs lines) closed ps) ≡ kept_by lines arcs limit closed ps
-large_are lines arcs limit true ps = grind arith
-large_are lines arcs limit false ps = grind arith
-
 -- ---- what is dropped of a draft
 
 -- a line or ring that has enough positions has an index
@@ -157,49 +149,6 @@ module _ (lines : List Stroke) (arcs : List (List Point)) (limit : ℕ) (b : Boo
   pub cause_is : draft_cause (of_arcs limit arcs) b.0 (draft_refs (own_refs lines) b.0 b.1) ≡ assembled_cause lines arcs limit b.0 b.1
   cause_is = by_length (is_short b.0 (clean b.1)) refl
 
--- what is dropped where in each feature of the layers a way leads to the ring that is protected in the draft
-module _ (lines : List Stroke) (protects : Protection) (way : Shape → Option (List ℕ)) (leads : (s : Shape) → map_some (λ x. x.path) (protects (relined (draft_refs (own_refs lines)) s)) ≡ way s) (limit : ℕ) (arcs : List (List Point))
-    (dropped : Option Shape → List (Placed Cause)) (none : [] ≡ dropped None) (some : (s : Shape) → drop_causes (unprotected_cause lines arcs limit) (marked s (way s)) ≡ dropped (Some s)) where
-  abbrev refs : RefsOf
-  refs = draft_refs (own_refs lines)
-
-  abbrev why_draft : Bool → Bool × List Point → Option Cause
-  why_draft closed l = cause_sparing (draft_cause (of_arcs limit arcs)) closed (l.0, refs closed l.1)
-
-  abbrev why_layers : Bool → Bool × List Point → Option Cause
-  why_layers = unprotected_cause lines arcs limit
-
-  abbrev AllWhole : List (Bool × List Point) → Type 0
-  AllWhole bs = AllByRecursion (IsWholeAtZero lines) bs
-
-  same_cause : (b : Bool × (Bool × List Point)) → IsWholeAtZero lines (without_mark b) → why_draft b.0 b.1 ≡ why_layers b.0 b.1
-  same_cause b whole = ap (λ (c : Option Cause). if b.1.0 then None else c) (cause_is lines arcs limit (without_mark b) whole)
-
-  shape_dropped : (s : Option Shape) → AllWhole (option_lines_and_rings s) → protected_drops (of_arcs limit arcs) protects (map_some (relined refs) s) ≡ dropped s
-  shape_dropped None h = none
-  shape_dropped (Some s) h =
-      ap (λ w. drop_causes (cause_sparing (draft_cause (of_arcs limit arcs))) (marked (relined refs s) w)) (leads s)
-      ∙ dropped_once refs (cause_sparing (draft_cause (of_arcs limit arcs))) s (way s)
-      ∙ drop_causes_agree Point (Bool × List Point) why_draft why_layers (marked s (way s))
-      (all_weaker (λ b. IsWholeAtZero lines (without_mark b)) (λ b. why_draft b.0 b.1 ≡ why_layers b.0 b.1) same_cause (lines_and_rings (marked s (way s))) (all_marked (IsWholeAtZero lines) s (way s) h))
-      ∙ some s
-
-  features_dropped : (fs : List Featured) → AllWhole (features_lines_and_rings fs)
-      → map (λ f. protected_drops (of_arcs limit arcs) protects f.shape) (map (feature_drafted (own_refs lines)) fs) ≡ map (λ f. dropped f.shape) fs
-  features_dropped fs h =
-      map_map (λ (f : TopoFeature). protected_drops (of_arcs limit arcs) protects f.shape) (feature_drafted (own_refs lines)) fs
-      ∙ map_agree (λ f. protected_drops (of_arcs limit arcs) protects (map_some (relined refs) f.shape)) (λ f. dropped f.shape) fs
-      (all_weaker (λ f. AllWhole (option_lines_and_rings f.shape)) (λ f. protected_drops (of_arcs limit arcs) protects (map_some (relined refs) f.shape) ≡ dropped f.shape) (λ f. shape_dropped f.shape) fs
-      (each_part (IsWholeAtZero lines) (λ f. option_lines_and_rings f.shape) fs h))
-
-  layers_dropped : (ms : Named) → AllByRecursion (IsWholeAtZero lines) (named_lines_and_rings ms)
-      → map (λ o. map (λ f. protected_drops (of_arcs limit arcs) protects f.shape) (object_features o.1)) (objects_drafted (own_refs lines) ms) ≡ map (λ m. map (λ f. dropped f.shape) m.1.features) ms
-  layers_dropped [] h = refl
-  layers_dropped (m ∷ ms) h =
-      ap (λ os. os ∷ map (λ o. map (λ f. protected_drops (of_arcs limit arcs) protects f.shape) (object_features o.1)) (objects_drafted (own_refs lines) ms))
-      (features_dropped m.1.features (all_left (IsWholeAtZero lines) (features_lines_and_rings m.1.features) (named_lines_and_rings ms) h))
-      ∙ ap (λ oss. map (λ f. dropped f.shape) m.1.features ∷ oss) (layers_dropped ms (all_right (IsWholeAtZero lines) (features_lines_and_rings m.1.features) (named_lines_and_rings ms) h))
-
 -- ---- the protected rings of a draft
 
 -- the way to what is made of a ring
@@ -207,21 +156,35 @@ same_way : {L M : Type 0} (make : L → M) (o : Option (Placed L)) → map_some 
 same_way make None = refl
 same_way make (Some x) = refl
 
+abbrev AllWhole : List Stroke → List (Bool × List Point) → Type 0
+AllWhole lines bs = AllByRecursion (IsWholeAtZero lines) bs
+
 module _ (ls : Named) where
-  -- in each feature of the draft the ring that encloses most is that of the feature of the layers
-  way_is : (s : Shape) → map_some (λ x. x.path) (greatest_ring (arcs_of_layers ls) (relined (draft_refs (own_refs (lines_of ls))) s)) ≡ map_some (λ x. x.path) (greatest_of_layers ls s)
+  abbrev refs : RefsOf
+  refs = draft_refs (own_refs (lines_of ls))
+
+  abbrev way : Bool → Shape → Option (List ℕ)
+  way keep_shapes s = map_some (λ x. x.path) (layer_protection keep_shapes ls s)
+
+  -- in each feature of the draft the protected ring is that of the feature of the layers
+  way_is : (keep_shapes : Bool) (s : Shape) → map_some (λ x. x.path) (protection keep_shapes (arcs_of_layers ls) (relined refs s)) ≡ way keep_shapes s
   unfolding greatest_of_layers
-  way_is s =
-      let refs = draft_refs (own_refs (lines_of ls)) in
+  way_is true s =
       ap (map_some (λ x. x.path)) (ring_among (arcs_of_layers ls) (relined refs s) (map (put (refs true)) (outer_rings s)) (rings_relined refs s) ∙ ring_made (arcs_of_layers ls) (refs true) (outer_rings s))
       ∙ same_way (refs true) _
+  way_is false s = refl
 
-  module _ (limit : ℕ) (arcs : List (List Point)) where
+  module _ (keep_shapes : Bool) (limit : ℕ) (arcs : List (List Point)) where
+    abbrev protects : Protection
+    protects = protection keep_shapes (arcs_of_layers ls)
+
+    -- ---- what is left
+
     abbrev refs_left : Bool → Bool × List Point → Option (List ℤ)
     refs_left closed l = unless (unprotected_cause (lines_of ls) arcs limit closed l) (drafted_refs (lines_of ls) closed l.1)
 
     -- what is left of a line or ring, marked or not
-    line_is : (closed : Bool) (l : Bool × List Point) → sparing (large_refs limit arcs) closed (l.0, draft_refs (own_refs (lines_of ls)) closed l.1) ≡ refs_left closed l
+    line_is : (closed : Bool) (l : Bool × List Point) → sparing (large_refs limit arcs) closed (l.0, refs closed l.1) ≡ refs_left closed l
     line_is closed (true, ps) = refl
     line_is closed (false, ps) = on closed (own_refs (lines_of ls) closed ps) (is_short closed (clean ps))
       where
@@ -230,96 +193,109 @@ module _ (ls : Named) where
         on false own true = grind arith
         on closed own false = refl
 
-    shape_is : (s : Option Shape) → then_some (λ t. prune (λ (p : Point). p) (sparing (large_refs limit arcs)) (shape_marked (greatest_ring (arcs_of_layers ls)) t)) (map_some (relined (draft_refs (own_refs (lines_of ls)))) s)
-        ≡ then_some (λ s. prune (λ (p : Point). p) refs_left (layer_shape_marked ls s)) s
+    shape_is : (s : Option Shape) → then_some (λ t. prune (λ (p : Point). p) (sparing (large_refs limit arcs)) (shape_marked protects t)) (map_some (relined refs) s)
+        ≡ then_some (λ s. prune (λ (p : Point). p) refs_left (layer_shape_marked keep_shapes ls s)) s
     shape_is None = refl
     shape_is (Some s) =
-        ap (λ way. prune (λ (p : Point). p) (sparing (large_refs limit arcs)) (marked (relined (draft_refs (own_refs (lines_of ls))) s) way)) (way_is s)
-        ∙ pruned_once (draft_refs (own_refs (lines_of ls))) (sparing (large_refs limit arcs)) s (map_some (λ x. x.path) (greatest_of_layers ls s))
-        ∙ ap (λ (k : Bool → Bool × List Point → Option (List ℤ)). prune (λ (p : Point). p) k (layer_shape_marked ls s)) (fun_ext (λ closed. fun_ext (line_is closed)))
+        ap (λ w. prune (λ (p : Point). p) (sparing (large_refs limit arcs)) (marked (relined refs s) w)) (way_is keep_shapes s)
+        ∙ pruned_once refs (sparing (large_refs limit arcs)) s (way keep_shapes s)
+        ∙ ap (λ (k : Bool → Bool × List Point → Option (List ℤ)). prune (λ (p : Point). p) k (layer_shape_marked keep_shapes ls s)) (fun_ext (λ closed. fun_ext (line_is closed)))
 
-    layers_are : (ms : Named) → objects_spared (greatest_ring (arcs_of_layers ls)) (sparing (large_refs limit arcs)) (objects_drafted (own_refs (lines_of ls)) ms)
-        ≡ map (λ m. (m.0, Many (map (feature_sparing ls (λ closed l. unless (unprotected_cause (lines_of ls) arcs limit closed l) (drafted_refs (lines_of ls) closed l.1))) m.1.features))) ms
-    layers_are = layers_made (own_refs (lines_of ls)) (λ o. (o.0, object_spared (greatest_ring (arcs_of_layers ls)) (sparing (large_refs limit arcs)) o.1)) (feature_spared (greatest_ring (arcs_of_layers ls)) (sparing (large_refs limit arcs)))
-        (feature_sparing ls refs_left) (λ name fs. refl) (λ f. ap (with_shape f) (shape_is f.shape))
+    layers_are : (ms : Named) → objects_spared protects (sparing (large_refs limit arcs)) (objects_drafted (own_refs (lines_of ls)) ms)
+        ≡ map (λ m. (m.0, Many (map (feature_assembled keep_shapes ls refs_left) m.1.features))) ms
+    layers_are = layers_made (own_refs (lines_of ls)) (λ o. (o.0, object_spared protects (sparing (large_refs limit arcs)) o.1)) (feature_spared protects (sparing (large_refs limit arcs)))
+        (feature_assembled keep_shapes ls refs_left) (λ name fs. refl) (λ f. ap (with_shape f) (shape_is f.shape))
+
+    -- ---- what is dropped
+
+    abbrev why_draft : Bool → Bool × List Point → Option Cause
+    why_draft closed l = cause_sparing (draft_cause (of_arcs limit arcs)) closed (l.0, refs closed l.1)
+
+    abbrev why_layers : Bool → Bool × List Point → Option Cause
+    why_layers = unprotected_cause (lines_of ls) arcs limit
+
+    abbrev gone : Option TopoShape → List (Placed Cause)
+    gone s = protected_drops (of_arcs limit arcs) protects s
+
+    same_cause : (b : Bool × (Bool × List Point)) → IsWholeAtZero (lines_of ls) (without_mark b) → why_draft b.0 b.1 ≡ why_layers b.0 b.1
+    same_cause b whole = ap (λ (c : Option Cause). if b.1.0 then None else c) (cause_is (lines_of ls) arcs limit (without_mark b) whole)
+
+    shape_dropped : (s : Option Shape) → AllWhole (lines_of ls) (option_lines_and_rings s) → gone (map_some (relined refs) s) ≡ option_unspared keep_shapes why_layers ls s
+    shape_dropped None h = refl
+    shape_dropped (Some s) h =
+        ap (λ w. drop_causes (cause_sparing (draft_cause (of_arcs limit arcs))) (marked (relined refs s) w)) (way_is keep_shapes s)
+        ∙ dropped_once refs (cause_sparing (draft_cause (of_arcs limit arcs))) s (way keep_shapes s)
+        ∙ drop_causes_agree Point (Bool × List Point) why_draft why_layers (marked s (way keep_shapes s))
+        (all_weaker (λ b. IsWholeAtZero (lines_of ls) (without_mark b)) (λ b. why_draft b.0 b.1 ≡ why_layers b.0 b.1) same_cause (lines_and_rings (marked s (way keep_shapes s)))
+        (all_marked (IsWholeAtZero (lines_of ls)) s (way keep_shapes s) h))
+
+    features_dropped : (fs : List Featured) → AllWhole (lines_of ls) (features_lines_and_rings fs)
+        → map (λ f. gone f.shape) (map (feature_drafted (own_refs (lines_of ls))) fs) ≡ map (λ f. option_unspared keep_shapes why_layers ls f.shape) fs
+    features_dropped fs h =
+        map_map (λ (f : TopoFeature). gone f.shape) (feature_drafted (own_refs (lines_of ls))) fs
+        ∙ map_agree (λ f. gone (map_some (relined refs) f.shape)) (λ f. option_unspared keep_shapes why_layers ls f.shape) fs
+        (all_weaker (λ f. AllWhole (lines_of ls) (option_lines_and_rings f.shape)) (λ f. gone (map_some (relined refs) f.shape) ≡ option_unspared keep_shapes why_layers ls f.shape) (λ f. shape_dropped f.shape) fs
+        (each_part (IsWholeAtZero (lines_of ls)) (λ f. option_lines_and_rings f.shape) fs h))
+
+    layers_dropped : (ms : Named) → AllWhole (lines_of ls) (named_lines_and_rings ms)
+        → map (λ o. map (λ f. gone f.shape) (object_features o.1)) (objects_drafted (own_refs (lines_of ls)) ms) ≡ map (λ m. map (λ f. option_unspared keep_shapes why_layers ls f.shape) m.1.features) ms
+    layers_dropped [] h = refl
+    layers_dropped (m ∷ ms) h =
+        ap (λ os. os ∷ map (λ o. map (λ f. gone f.shape) (object_features o.1)) (objects_drafted (own_refs (lines_of ls)) ms))
+        (features_dropped m.1.features (all_left (IsWholeAtZero (lines_of ls)) (features_lines_and_rings m.1.features) (named_lines_and_rings ms) h))
+        ∙ ap (λ oss. map (λ f. option_unspared keep_shapes why_layers ls f.shape) m.1.features ∷ oss) (layers_dropped ms (all_right (IsWholeAtZero (lines_of ls)) (features_lines_and_rings m.1.features) (named_lines_and_rings ms) h))
 
 -- ---- the topology
 
+ways_are : (keep_shapes : Bool) (arcs : List (List Point)) (ways : Ways) (os : Objects) → ways ≡ ways_under keep_shapes arcs os → AreWays (protection keep_shapes arcs) ways os
+ways_are true arcs ways os lead = inl lead
+ways_are false arcs ways os lead = inr (refl, lead)
+
 -- a draft over arcs of which only some positions are retained
-module _ (zero : ZeroLaw) (kept : List (List ℕ)) (limit : ℕ) (ls : Named) (draft : Objects) (of : IsDraftOf ls draft) (retained : List (List Point)) (picks : retained ≡ retained_arcs kept (arcs_of_layers ls)) where
+module _ (zero : ZeroLaw) (of_lines : AssembledIsOfLines) (keep_shapes : Bool) (kept : List (List ℕ)) (limit : ℕ) (ls : Named) (draft : Objects) (of : IsDraftOf ls draft)
+    (retained : List (List Point)) (picks : retained ≡ retained_arcs kept (arcs_of_layers ls)) (ways : Ways) (lead : ways ≡ ways_under keep_shapes (arcs_of_layers ls) draft) where
   -- the layers over all arcs
-  abbrev pub whole : Contents
+  abbrev whole : Contents
   whole = untrimmed 0 0 ls
+
+  abbrev marks : Protection
+  marks = protection keep_shapes (arcs_of_layers ls)
 
   same_arcs : arcs_of_layers ls ≡ whole.arcs
   same_arcs = sym (each_stays zero (all_arcs (lines_of ls)))
 
-  -- it stands for the layers where what is left of it is what is left of these
-  pub stands_by : (protects : Protection) (ways : Ways) → contents (large_along limit retained ways draft) retained ≡ spared_whole protects kept limit (untrimmed 0 0 ls)
-      → StandsFor protects kept (untrimmed 0 0 ls).objects draft (untrimmed 0 0 ls).arcs retained None limit ways
-  stands_by protects ways same =
+  pub counts_of : (counts : List ℕ) → counts ≡ map length (arcs_of_layers ls) → counts ≡ map length (untrimmed 0 0 ls).arcs
+  counts_of counts counted = counted ∙ ap (map length) same_arcs
+
+  -- it stands for the layers: what is left of it is what is left of these
+  pub stands : StandsFor (protection keep_shapes (arcs_of_layers ls)) kept (untrimmed 0 0 ls).objects draft (untrimmed 0 0 ls).arcs retained None limit ways
+  stands =
       let retained_is : retained ≡ retained_arcs kept whole.arcs = picks ∙ ap (retained_arcs kept) same_arcs in
-      record { picks = retained_is; large = ap (λ y. y.objects) same ∙ ap (λ arcs. objects_spared protects (sparing (large_refs limit arcs)) whole.objects) (sym retained_is) }
+      record {
+        picks = retained_is;
+        large = objects_are marks (sparing (large_refs limit retained)) ways draft (ways_are keep_shapes (arcs_of_layers ls) ways draft lead)
+            ∙ ap (objects_spared marks (sparing (large_refs limit retained))) of.drafted ∙ layers_are ls keep_shapes limit retained ls
+            ∙ ap (λ arcs. map (λ m. (m.0, Many (map (feature_assembled keep_shapes ls (λ closed l. unless (unprotected_cause (lines_of ls) arcs limit closed l) (drafted_refs (lines_of ls) closed l.1))) m.1.features))) ls) picks
+            ∙ sym (ap (λ y. y.objects) (of_lines keep_shapes kept limit ls of.sound)) ∙ ap (λ arcs. objects_spared marks (sparing (large_refs limit arcs)) whole.objects) (sym retained_is);
+      }
 
   -- which are a valid topology
-  pub stands_for_topology : EndsStay → NoneIsNew → (counts : List ℕ) (protects : Protection) (ways : Ways) → EachFromFirstToLast kept (arcs_of_layers ls) → counts ≡ map length (arcs_of_layers ls)
-      → StandsFor protects kept (untrimmed 0 0 ls).objects draft (untrimmed 0 0 ls).arcs retained None limit ways → StandsForTopology draft retained counts None limit ways
-  stands_for_topology ends new counts protects ways through counted stands = record {
-    protects = protects;
+  pub stands_for_topology : EndsStay → NoneIsNew → (counts : List ℕ) → EachFromFirstToLast kept (arcs_of_layers ls) → counts ≡ map length (arcs_of_layers ls) → StandsForTopology draft retained counts None limit ways
+  stands_for_topology ends new counts through counted = record {
+    protects = marks;
     kept = kept;
     of = whole.objects;
     arcs = whole.arcs;
     stands = stands;
     through = subst (EachFromFirstToLast kept) same_arcs through;
-    counts_are = counted ∙ ap (map length) same_arcs;
+    counts_are = counts_of counts counted;
     valid = untrimmed_is_valid ends new 0 0 ls of.sound of.names;
   }
 
-  pub counts_of : (counts : List ℕ) → counts ≡ map length (arcs_of_layers ls) → counts ≡ map length (untrimmed 0 0 ls).arcs
-  counts_of counts counted = counted ∙ ap (map length) same_arcs
-
-  -- the draft without lines and rings that are too short is the layers without them
-  draft_is : contents (objects_pruned (large_refs limit retained) draft) retained ≡ retained_whole kept limit whole
-  draft_is =
-      ap (λ os. contents (objects_pruned (large_refs limit retained) os) retained) of.drafted
-      ∙ ap (λ os. contents os retained) (draft_pruned (own_refs (lines_of ls)) (large_refs limit retained) ls ∙ ap (λ (k : Kept). objects_by k ls) (fun_ext (λ closed. fun_ext (large_are (lines_of ls) retained limit closed))))
-      ∙ ap (λ arcs. contents (objects_by (kept_by (lines_of ls) arcs limit) ls) arcs) picks
-      ∙ sym (before_trimming zero kept limit ls of.sound)
-
-  pub stands : StandsFor no_protection kept (untrimmed 0 0 ls).objects draft (untrimmed 0 0 ls).arcs retained None limit []
-  stands = stands_by no_protection [] (ap (λ os. contents os retained) (along_plainly (large_refs limit retained) draft) ∙ draft_is ∙ sym (whole_plain kept limit whole))
-
-  pub drops_are : objects_drops (of_arcs limit retained) 0 [] draft ≡ assembled_dropped kept limit ls
-  unfolding assembled_dropped
+  pub drops_are : objects_drops (of_arcs limit retained) 0 ways draft ≡ (assembled_by keep_shapes kept limit ls).dropped
+  unfolding assembled_by
   drops_are =
-      drops_along (of_arcs limit retained) no_protection [] draft (inr (refl, refl)) ∙ ap (λ (os : Objects). dropped_of_layers 0 (map (λ o. map (λ f. protected_drops (of_arcs limit retained) no_protection f.shape) (object_features o.1)) os)) of.drafted
-      ∙ ap (dropped_of_layers 0) (layers_dropped (lines_of ls) no_protection (λ s. None) (λ s. refl) limit retained (option_caused (assembled_cause (lines_of ls) retained limit)) refl (causes_plain (unprotected_cause (lines_of ls) retained limit))
-      ls (loses_nothing zero ls of.sound))
-      ∙ ap (λ arcs. layers_caused (assembled_cause (lines_of ls) arcs limit) ls) picks
-
-  -- where in each feature the ring that encloses most is protected
-  module _ (ways : Ways) (lead : ways ≡ ways_of (greatest_ring (arcs_of_layers ls)) draft) where
-    pub spared_stands : StandsFor (greatest_ring (arcs_of_layers ls)) kept (untrimmed 0 0 ls).objects draft (untrimmed 0 0 ls).arcs retained None limit ways
-    spared_stands = stands_by (greatest_ring (arcs_of_layers ls)) ways
-        (ap (λ os. contents os retained) (objects_are (greatest_ring (arcs_of_layers ls)) (sparing (large_refs limit retained)) ways draft (inl lead)
-        ∙ ap (objects_spared (greatest_ring (arcs_of_layers ls)) (sparing (large_refs limit retained))) of.drafted ∙ layers_are ls limit retained ls)
-        ∙ ap (λ arcs. contents (map (λ m. (m.0, Many (map (feature_sparing ls (λ closed l. unless (unprotected_cause (lines_of ls) arcs limit closed l) (drafted_refs (lines_of ls) closed l.1))) m.1.features))) ls) arcs) picks
-        ∙ sym (sparing_of_layers zero kept limit ls of.sound))
-
-    pub spared_drops_are : objects_drops (of_arcs limit retained) 0 ways draft ≡ assembled_sparing_dropped kept limit ls
-    unfolding assembled_sparing_dropped
-    spared_drops_are =
-        drops_along (of_arcs limit retained) (greatest_ring (arcs_of_layers ls)) ways draft (inl lead)
-        ∙ ap (λ (os : Objects). dropped_of_layers 0 (map (λ o. map (λ f. protected_drops (of_arcs limit retained) (greatest_ring (arcs_of_layers ls)) f.shape) (object_features o.1)) os)) of.drafted
-        ∙ ap (dropped_of_layers 0) (layers_dropped (lines_of ls) (greatest_ring (arcs_of_layers ls)) (λ s. map_some (λ x. x.path) (greatest_of_layers ls s)) (way_is ls) limit retained
-        (option_unspared (unprotected_cause (lines_of ls) retained limit) ls) refl (λ s. refl) ls (loses_nothing zero ls of.sound))
-        ∙ ap (λ arcs. dropped_of_layers 0 (map (λ m. map (λ f. option_unspared (unprotected_cause (lines_of ls) arcs limit) ls f.shape) m.1.features) ls)) picks
-
--- what is left where no ring is protected
-pub is_assembled : (kept : List (List ℕ)) (limit : ℕ) (ls : Named) → spared_by no_protection kept limit (untrimmed 0 0 ls) ≡ assembled kept limit ls
-unfolding assembled
-is_assembled kept limit ls = (unprotected_is_simplified kept limit (untrimmed 0 0 ls)).contents
-
-pub removed_count_is : (kept : List (List ℕ)) (limit : ℕ) (ls : Named) → spared_removed_count no_protection kept limit (untrimmed 0 0 ls) ≡ assembled_removed_count kept limit ls
-unfolding assembled_removed_count
-removed_count_is kept limit ls = (unprotected_is_simplified kept limit (untrimmed 0 0 ls)).removed_count
+      drops_along (of_arcs limit retained) marks ways draft (ways_are keep_shapes (arcs_of_layers ls) ways draft lead)
+      ∙ ap (λ (os : Objects). dropped_of_layers 0 (map (λ o. map (λ f. protected_drops (of_arcs limit retained) marks f.shape) (object_features o.1)) os)) of.drafted
+      ∙ ap (dropped_of_layers 0) (layers_dropped ls keep_shapes limit retained ls (loses_nothing zero ls of.sound))
+      ∙ ap (λ arcs. dropped_of_layers 0 (map (λ m. map (λ f. option_unspared keep_shapes (unprotected_cause (lines_of ls) arcs limit) ls f.shape) m.1.features) ls)) picks

@@ -22,7 +22,7 @@ pub mod RelinedMarks
 pub mod Renumbered
 pub mod Reported
 pub mod Result
-pub mod Retained
+pub mod RetainedArcs
 pub mod Short
 pub mod Stepped
 pub mod Unvisited

@@ -1,5 +1,5 @@
 -- Arcs of which the positions stay whose numbers are given for all arcs at once.
-use Rattle.std.proofs.Common.{arith, ◌≡◌, ℕ, ◌+◌, ◌≤◌, List, [], ◌∷◌, ◌++◌, map, drop, length, append-nil, refl, sym, ap, ◌∙◌}
+use Rattle.std.proofs.Common.{arith, ◌≡◌, ℕ, ◌≤◌, List, [], ◌∷◌, ◌++◌, map, drop, length, append-nil, refl, sym, ap, ◌∙◌}
 use Rattle.std.proofs.lemmas.List.{drop_all}
 use Rattle.geometry.specs.Points.{Point}
 use Rattle.build_meaning.specs.Simplified.{retained_arcs, EachFromFirstToLast}

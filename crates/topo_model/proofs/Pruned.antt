@@ -4,7 +4,6 @@ use Rattle.std.specs.Option.{is_some}
 use Rattle.std.specs.Prelude.{if◌then◌else◌, not}
 use Rattle.std.proofs.Math.Seq.{take-append_seam}
 use Rattle.geometry.specs.declared.address.Cause.{Cause}
-use Rattle.geometry.specs.declared.shape.Geometry.TheVariants as g
 use Rattle.geometry.specs.Lists.{map_some, some_of, unless_empty}
 use Rattle.geometry.specs.Pruning.{area_by}
 use Rattle.build_meaning.specs.Expected.{unless}

@@ -215,8 +215,8 @@ stands_for_itself protects kept os now arcs retained transform limit ways are pi
 -- ---- a draft
 
 -- the objects are lent whole, and come back without what is small, which is a topology's
-module _ (limit : ℕ) (ways : Ways) (os first new second : Objects) (n : ℕ) (retained seen : List (List Point)) (transform shown : Option Transform) (many : n ≡ length os) (lent : first ≡ os) (same : seen ≡ retained) (as_shown : shown ≡ transform)
-    (left : new ≡ large_along limit (placed_arcs shown seen) ways first) (again : second ≡ take n (new ++ drop (length new) os)) where
+module _ (limit : ℕ) (ways told : Ways) (os first new second : Objects) (n : ℕ) (retained seen : List (List Point)) (transform shown : Option Transform) (many : n ≡ length os) (lent : first ≡ os) (same : seen ≡ retained) (as_shown : shown ≡ transform)
+    (as_told : told ≡ ways) (left : new ≡ large_along limit (placed_arcs shown seen) told first) (again : second ≡ take n (new ++ drop (length new) os)) where
   abbrev between : Objects
   between = take n (new ++ drop (length new) os)
 
@@ -224,7 +224,7 @@ module _ (limit : ℕ) (ways : Ways) (os first new second : Objects) (n : ℕ) (
   kept_large = sparing (large_refs limit (placed_arcs transform retained))
 
   left_is : new ≡ objects_along kept_large ways first
-  left_is = left ∙ ap (λ t. large_along limit (placed_arcs t seen) ways first) as_shown ∙ ap (λ arcs. large_along limit (placed_arcs transform arcs) ways first) same
+  left_is = left ∙ ap (λ w. large_along limit (placed_arcs shown seen) w first) as_told ∙ ap (λ t. large_along limit (placed_arcs t seen) ways first) as_shown ∙ ap (λ arcs. large_along limit (placed_arcs transform arcs) ways first) same
 
   pub large_left : second ≡ large_along limit (placed_arcs transform retained) ways os
   large_left = again ∙ put_along kept_large ways n os first new many lent left_is ∙ ap (objects_along kept_large ways) lent

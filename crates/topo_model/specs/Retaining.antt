@@ -1,11 +1,11 @@
 -- Arcs of which only some positions are left.
-use Rattle.std.specs.Prelude.{◌≡◌, ℕ, List, Option, length, map}
+use Rattle.std.specs.Prelude.{◌≡◌, ℕ, Bool, List, Option, length, map}
 use Rattle.build_meaning.specs.BuiltLaws.{AreSound}
 use Rattle.build_meaning.specs.Layers.{Named, layers_of, names_of}
 use Rattle.geometry.specs.Points.{Point}
 use Rattle.linework.specs.Linework.{linework}
 use Rattle.build_meaning.specs.Assembled.{arcs_of_layers, own_refs}
-use Rattle.build_meaning.specs.Protected.{Protection, greatest_ring, objects_spared, sparing}
+use Rattle.build_meaning.specs.Protected.{Protection, objects_spared, sparing}
 use Rattle.build_meaning.specs.Simplified.{EachFromFirstToLast, large_refs, retained_arcs}
 use Rattle.topojson_types.specs.declared.object.TopoObject.{TopoObject}
 use Rattle.topojson_types.specs.declared.transform.Transform.{Transform}
@@ -14,7 +14,7 @@ use Rattle.topojson_types.specs.Validity.{AreDistinct, IsTopology}
 use Rattle.topo_model.specs.Along.{Ways, large_along}
 use Rattle.topo_model.specs.Drafts.{objects_drafted}
 use Rattle.topo_model.specs.Parts.{contents}
-use Rattle.topo_model.specs.Ways.{ways_of}
+use Rattle.topo_model.specs.Ways.{ways_under}
 
 -- of each of the arcs the positions of some numbers, which begin with its first and end with its last
 pub record AreRetained (arcs retained : List (List Point)) : Type 0 where
@@ -35,17 +35,15 @@ pub record IsDraftOf (ls : Named) (objects : List (List ℕ × TopoObject)) : Ty
   pub sound : AreSound ls
   pub names : AreDistinct (names_of ls)
 
--- they are the draft of some layers, of whose arcs these are retained, each of which had so many positions
-pub record IsDraft (objects : List (List ℕ × TopoObject)) (retained : List (List Point)) (counts : List ℕ) : Type 0 where
+-- they are the draft of some layers, of whose arcs these are retained, each of which had so many positions; and where shapes stay these are the
+-- ways to the rings of its features that enclose most, and else there are none
+pub record IsDraft (objects : List (List ℕ × TopoObject)) (retained : List (List Point)) (counts : List ℕ) (ways : Ways) : Type 0 where
   pub layers : Named
+  pub keep_shapes : Bool
   pub of_layers : IsDraftOf layers objects
   pub retained_are : AreRetained (arcs_of_layers layers) retained
   pub counts_are : counts ≡ map length (arcs_of_layers layers)
-
--- and these are the ways to the rings of its features that enclose most
-pub record IsSparedDraft (objects : List (List ℕ × TopoObject)) (retained : List (List Point)) (counts : List ℕ) (ways : Ways) : Type 0 where
-  pub draft : IsDraft objects retained counts
-  pub ways_are : ways ≡ ways_of (greatest_ring (arcs_of_layers draft.layers)) objects
+  pub ways_are : ways ≡ ways_under keep_shapes (arcs_of_layers layers) objects
 
 -- objects over retained cells, whose features have these ways, stand for other objects and arcs in which rings are protected: the same is
 -- left of both without what is small

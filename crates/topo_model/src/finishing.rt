@@ -4,7 +4,8 @@ ghost use Rattle.std.specs.List.{AllByRecursion};
 ghost use Rattle.std.specs.Option.{option_copied};
 ghost use Rattle.topo_model.specs.Uses.{answers};
 ghost use Rattle.build_meaning.specs.Built.{positions_of};
-ghost use Rattle.build_meaning.specs.Protected.{Protection, spared_by, spared_removed_count};
+ghost use Rattle.build_meaning.specs.Left.{left_by};
+ghost use Rattle.build_meaning.specs.Protected.{Protection};
 ghost use Rattle.build_meaning.specs.Trimming.{is_used, keep_from, line_renumbered};
 ghost use Rattle.build_meaning.specs.Simplified.{objects_pruned};
 ghost use Rattle.byte_ends.specs.Ends.{saturated};
@@ -25,6 +26,7 @@ ghost use Rattle.topo_model.specs.Retaining.{StandsFor, StandsForTopology};
 use crate::choosing::Renumbered;
 use crate::draft_uses::draft_arcs;
 use crate::leaving_out::{leave_out_small, prune_objects};
+use crate::left::{Left, Retained};
 use crate::marking::all_set;
 use crate::placing::placed_arcs;
 use crate::position_counting::position_sum;
@@ -128,42 +130,49 @@ fn without_unused(
     Ok((stay, removed_count(before, after)))
 }
 
-/// The topology that is left of objects over arcs of which only the retained cells stay, and which had so many: without the lines and rings
-/// that have no arc index, or are small, but with the rings to which the ways of features lead, and without the arcs that no other line uses.
-/// The ways are those of the features, in reading order, and those that come after the last way have none. With it come the lines and rings that
-/// are dropped, in reading order, an object in the place of a layer, and how many positions of these arcs were not retained.
+/// What is left of objects over arcs of which only these cells stay: without the lines and rings that have no arc index, or are small, but with
+/// the rings to which the ways of features lead, and without the arcs that no other line uses.
 pub fn finish(
     alloc: Global,
     objects: Vec<(OwnText, TopoObject)>,
-    retained: Vec<Items<Cell>>,
-    counts: &[usize],
+    retained: Retained,
     transform: Option<Transform>,
     ring_limit: u128,
-    ways: &[Option<Vec<usize>>],
-) -> Result<(Topology, Vec<Dropped>, u64), Memory>
-    requires stands { StandsForTopology objects.items retained.items counts.now transform ring_limit (map (map_some (λ v. v.items)) ways.now) }
+) -> Result<Left, Memory>
+    requires stands { StandsForTopology objects.items retained.arcs.items retained.counts.items transform ring_limit (map (map_some (λ v. v.items)) retained.ways.items) }
     requires limit { ring_limit ≤ threshold_limit }
     ensures topology { IfOk result (λ r. (protects : Protection) (kept : List (List ℕ)) (of : List (List ℕ × Object)) (arcs : List (List Point))
-        → StandsFor protects kept of objects.items arcs retained.items transform ring_limit (map (map_some (λ v. v.items)) ways.now)
-        → r.0 ≡ spared_by protects kept ring_limit (contents of arcs transform)) }
-    ensures dropped { IfOk result (λ r. r.1.items
-        ≡ objects_drops (record { arcs = all_placed transform retained.items; limit = ring_limit }) 0 (map (map_some (λ v. v.items)) ways.now) objects.items) }
+        → StandsFor protects kept of objects.items arcs retained.arcs.items transform ring_limit (map (map_some (λ v. v.items)) retained.ways.items)
+        → r.topology ≡ (left_by protects kept ring_limit (contents of arcs transform)).contents) }
+    ensures dropped { IfOk result (λ r. r.dropped.items
+        ≡ objects_drops (record { arcs = all_placed transform retained.arcs.items; limit = ring_limit }) 0 (map (map_some (λ v. v.items)) retained.ways.items) objects.items) }
     ensures removed_count { IfOk result (λ r. (protects : Protection) (kept : List (List ℕ)) (of : List (List ℕ × Object)) (arcs : List (List Point))
-        → StandsFor protects kept of objects.items arcs retained.items transform ring_limit (map (map_some (λ v. v.items)) ways.now) → counts.now ≡ map length arcs
-        → r.2 ≡ saturated (spared_removed_count protects kept ring_limit (contents of arcs transform))) }
-    ensures few { IfOk result (λ r. length r.0.arcs < 2 ^ 63) }
+        → StandsFor protects kept of objects.items arcs retained.arcs.items transform ring_limit (map (map_some (λ v. v.items)) retained.ways.items) → retained.counts.items ≡ map length arcs
+        → r.removed_count ≡ saturated (left_by protects kept ring_limit (contents of arcs transform)).removed_count) }
+    ensures chosen { IfOk result (λ r. r.chosen ≡ retained.chosen) }
+    ensures few { IfOk result (λ r. length r.topology.arcs < 2 ^ 63) }
 {
     spared_is_valid();
     let mut objects = objects;
     let dropped = leave_out_dropped(
         alloc,
         objects.as_mut_slice(),
-        &retained,
+        &retained.arcs,
         transform.as_ref(),
         ring_limit,
-        ways,
+        &retained.ways,
     )?;
-    let (arcs, removed_count) = without_unused(alloc, objects.as_mut_slice(), retained, counts)?;
+    let (arcs, removed_count) = without_unused(
+        alloc,
+        objects.as_mut_slice(),
+        retained.arcs,
+        &retained.counts,
+    )?;
     let topology = Topology::of(Items::of(objects), Items::of(arcs), transform);
-    Ok((topology, dropped, removed_count))
+    Ok(Left {
+        topology,
+        dropped,
+        removed_count,
+        chosen: retained.chosen,
+    })
 }

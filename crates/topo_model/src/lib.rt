@@ -1,13 +1,13 @@
 //! From layers and the indexes of their arcs to a topology (TopoJSON 1.0) over reduced arcs, of each of which only some positions are left,
 //! and simplifying a topology in the same way. Layers are taken apart and become a draft, in which each line and ring is replaced by its arc
 //! indexes (`specs/Drafts.antt`); a topology is a draft as it is. There is one way to finish a draft: lines and rings that are left with too few
-//! positions or enclose too little are dropped, arcs that no kept line uses are left out, and the others have new indexes. What is left of
-//! an arc is made of it alone (`retained_positions`, `retained_arc`), so that it can be freed before the next is reduced; `assemble` and
-//! `Reduces::reduce` are for who has the numbers of all arcs at once. Where in each feature a ring is protected, it is named by the way to its
-//! polygon, and stays (`reassemble_sparing`, `assemble_draft_sparing`); where none is, no ways are given. `rings_to_stay` finds the rings of a
-//! topology that are protected. It stands on `build_meaning`, which says what topology that is and when it is what is built of the
-//! layers, and on `arc_table`. The layers above use the contracts of `take_apart`, `filled`, `assemble_draft` and of `reassemble`, and put cells
-//! in the place of positions by `prune_objects`.
+//! positions or enclose too little are dropped, arcs that no kept line uses are left out, and the others have new indexes. What stays of the
+//! arcs is given as `Retained`, and `Left` is what comes back. What is left of an arc is made of it alone (`retained_positions`,
+//! `retained_arc`), so that it can be freed before the next is reduced; `assemble` and `Reduces::reduce` are for who has the numbers of all
+//! arcs at once. Where in each feature a ring is protected, it is named by the way to its polygon, and stays; where none is, no ways are given.
+//! `rings_to_stay` finds the rings of a topology that are protected. It stands on `build_meaning`, which says what topology that is and when it
+//! is what is built of the layers, and on `arc_table`. The layers above use the contracts of `take_apart`, `filled`, `assemble_draft` and of
+//! `reassemble`, and put cells in the place of positions by `prune_objects`.
 #![tactic(auto)]
 
 mod assembling;
@@ -20,6 +20,7 @@ mod filling;
 mod finishing;
 mod given_numbers;
 mod leaving_out;
+mod left;
 mod marking;
 mod places;
 mod placing;
@@ -31,7 +32,6 @@ mod rebuilding;
 mod reducing;
 mod retaining;
 mod searching;
-mod sparing;
 mod taking_apart;
 mod trimming;
 mod way_steps;
@@ -40,15 +40,15 @@ pub use assembling::{assemble, assemble_draft};
 pub use draft_laws::draft_uses_at_zero;
 pub use draft_uses::draft_arcs;
 pub use filling::filled;
-pub use given_numbers::positions_of_all;
+pub use given_numbers::{cells_of_all, positions_of_all};
 pub use leaving_out::prune_objects;
+pub use left::{Left, Retained};
 pub use position_counting::position_counts;
 pub use protecting::{protected_rings, rings_to_stay};
 pub use pruning::Keeps;
-pub use reassembling::{reassemble, reassemble_sparing};
+pub use reassembling::reassemble;
 pub use reducing::Reduces;
-pub use retaining::{retained_arc, retained_positions};
-pub use sparing::assemble_draft_sparing;
+pub use retaining::{retained_arc, retained_cells, retained_positions};
 pub use taking_apart::take_apart;
 pub use topojson_types::{
     ArcRef, CELL_LIMIT, Cell, GRID_LIMIT, SumFault, TopoFeature, TopoObject, TopoShape, Topology,

@@ -4,7 +4,7 @@ ghost use Rattle.std.specs.List.{AllByRecursion};
 ghost use Rattle.std.specs.Option.{option_copied};
 ghost use Rattle.geometry.specs.Lists.{map_some, some_of, with_some};
 ghost use Rattle.geometry.specs.Points.{IsPosition};
-ghost use Rattle.build_meaning.specs.Guarded.{arc_positions};
+ghost use Rattle.build_meaning.specs.ArcPositions.{arc_positions};
 ghost use Rattle.build_meaning.specs.Protected.{greatest_ring, protected_of, protected_rings as all_protected};
 ghost use Rattle.build_meaning.specs.ProtectedRings.{CanStay};
 ghost use Rattle.topojson_types.specs.Decoding.{placed_arcs as all_placed};

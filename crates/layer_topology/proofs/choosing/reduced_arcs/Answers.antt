@@ -5,7 +5,7 @@ use Rattle.effective_area.proofs.CallLists.{one_called}
 use Rattle.elimination_meaning.specs.Elimination.{reduce}
 use Rattle.geometry.specs.Points.{Point}
 use Rattle.build_meaning.specs.Simplified.{retained}
-use Rattle.topo_model.proofs.Retained.{retained_more}
+use Rattle.topo_model.proofs.RetainedArcs.{retained_more}
 use Rattle.layer_topology.proofs.choosing.reduced_arcs.Goals as goal
 
 pub arcs-preserved : goal.arcs-preserved

@@ -1,17 +1,13 @@
-use Rattle.std.proofs.Common.{◌≡◌, ◌∙◌, List, length, map, ap, subst, sym, true, ℕ}
-use Rattle.std.specs.List.{AllByRecursion}
-use Rattle.geometry.specs.Joins.{Meet, arc_at}
+use Rattle.std.proofs.Common.{◌∙◌, List, length, ap, subst, sym, ℕ}
+use Rattle.build_meaning.specs.ProtectedRings.{CanStay}
 use Rattle.std.proofs.lemmas.List.{length-map}
 use Rattle.geometry.specs.Points.{Point}
-use Rattle.guarded_meaning.specs.Guards.{guarded_by, is_long}
+use Rattle.guarded_meaning.specs.Guards.{guarded_by}
 use Rattle.layer_topology.proofs.GuardedArcs.{as_many}
 use Rattle.layer_topology.proofs.guarding.reduced_at_once.Goals as goal
 
-pub kept_at_once-requires-clause-meet : goal.kept_at_once-requires-clause-meet
-kept_at_once-requires-clause-meet c = subst (λ arcs. AllByRecursion (λ refs. Meet (map (arc_at arcs) refs)) c.args.rings.now) (sym c.deref.ensures.value) c.requires.rings.meet
-
-pub kept_at_once-requires-clause-long : goal.kept_at_once-requires-clause-long
-kept_at_once-requires-clause-long c = subst (λ arcs. AllByRecursion (λ refs. is_long arcs refs ≡ true) c.args.rings.now) (sym c.deref.ensures.value) c.requires.rings.long
+pub kept_at_once-requires-clause-rings : goal.kept_at_once-requires-clause-rings
+kept_at_once-requires-clause-rings c = subst (λ arcs. CanStay arcs c.args.rings.now) (sym c.deref.ensures.value) c.requires.rings
 
 pub positions_of_all-requires : goal.positions_of_all-requires
 positions_of_all-requires c =

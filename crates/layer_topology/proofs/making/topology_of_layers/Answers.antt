@@ -1,41 +1,41 @@
-use Rattle.std.proofs.Common.{rules, ◌≡◌, ◌++◌, ◌∙◌, [], ap, subst}
-use Rattle.std.specs.Prelude.{if◌then◌else◌}
-use Rattle.byte_ends.specs.Ends.{saturated}
-use Rattle.layer_topology.specs.GuardedWritten.{made_dropped_under, made_removed_under, made_under}
-use Rattle.layer_topology.specs.GuardedLevels.{level_threshold_under}
-use Rattle.layer_topology.specs.Guarded.{is_at_once}
-use Rattle.layer_topology.specs.Levels.{calls_at}
+use Rattle.std.proofs.Common.{rules, ◌++◌, ◌∙◌, ap, subst}
 use Rattle.build_meaning.specs.Assembled.{arcs_of_layers}
-use Rattle.layer_topology.proofs.GuardedMade.{as_written_under, cells_under, plain_under, same_chosen, same_threshold}
+use Rattle.build_meaning.specs.LeftOfLayers.{left_of_layers}
+use Rattle.byte_ends.specs.Ends.{saturated}
+use Rattle.layer_topology.specs.Levels.{calls_over, chosen_for}
+use Rattle.layer_topology.specs.Topologies.{IsLeft}
+use Rattle.layer_topology.specs.Written.{written_threshold}
+use Rattle.layer_topology.proofs.GuardedMade.{as_written, cells_under, plain_under, same_threshold}
 use Rattle.layer_topology.proofs.making.topology_of_layers.Goals as goal
 
 pub on_grid-requires-clause-plain : goal.on_grid-requires-clause-plain
 on_grid-requires-clause-plain g c =
     let e = c.snapped_layers-snapped.ensures in
-    plain_under c.args.guards _ c.args.ring_limit c.args.grid c.args.layers.items _ _ _ e.grid e.snapped c.in_ok-topology.ensures.topology
+    plain_under c.args.asked.guards _ c.args.asked.ring_limit c.args.grid c.args.layers.items _ _ _ e.grid e.snapped c.in_ok-left.ensures.left.topology_is
 
 pub on_grid-requires-clause-on : goal.on_grid-requires-clause-on
 on_grid-requires-clause-on g c =
     let e = c.snapped_layers-snapped.ensures in
-    cells_under c.args.guards _ c.args.ring_limit c.args.grid c.args.layers.items _ _ _ e.grid e.snapped c.in_ok-topology.ensures.topology
-    c.snapped_are_on.ensures c.built_cells_are_on.ensures c.guarded_is_assembled.ensures c.assembled_sparing_is_on.ensures c.requires.taken
+    cells_under c.args.asked.guards _ c.args.asked.ring_limit c.args.grid c.args.layers.items _ _ _ e.grid e.snapped c.in_ok-left.ensures.left.topology_is
+    c.snapped_are_on.ensures c.layers_left_are_on.ensures c.requires.taken
 
-pub returns-in-Ok : goal.returns-in-Ok
-returns-in-Ok g c =
+pub returns : goal.returns
+returns g c =
+    let guards = c.args.asked.guards in
+    let limit = c.args.asked.ring_limit in
     let e = c.snapped_layers-snapped.ensures in
-    let same = same_threshold c.nothing_is_new.ensures c.snapped_are_on.ensures c.protecting_on_grid.ensures c.built_cells_are_on.ensures c.args.guards c.args.level c.args.grid c.args.layers.items _ e.snapped c.requires.taken in
-    let made : c.in_ok-topology.topology ≡ made_under c.args.guards (level_threshold_under c.args.guards c.args.grid c.args.level c.args.layers.items) c.args.ring_limit c.snapped_layers-snapped.result.0.items =
-    subst (λ t. c.in_ok-topology.topology ≡ made_under c.args.guards t c.args.ring_limit c.snapped_layers-snapped.result.0.items) same c.in_ok-topology.ensures.topology in
+    let t = written_threshold guards c.args.grid c.args.asked.level c.args.layers.items in
+    let same = same_threshold c.nothing_is_new.ensures c.snapped_are_on.ensures c.left_on_grid.ensures c.built_cells_are_on.ensures guards c.args.asked.level c.args.grid c.args.layers.items _ e.snapped c.requires.taken in
+    let left = c.in_ok-left.left in
+    let got : IsLeft (left_of_layers guards t limit c.snapped_layers-snapped.result.0.items) left.topology left.dropped.items left.removed_count =
+    subst (λ n. IsLeft (left_of_layers guards n limit c.snapped_layers-snapped.result.0.items) left.topology left.dropped.items left.removed_count) same c.in_ok-left.ensures.left in
     record {
+      left = record {
+        topology_is = as_written guards t limit c.args.grid c.args.layers.items _ _ _ e.grid e.snapped got.topology_is _ c.in_ok-topology.ensures;
+        dropped_are = got.dropped_are ∙ ap (λ m. (left_of_layers guards t limit m).dropped) e.snapped;
+        count_is = got.count_is ∙ ap (λ m. saturated (left_of_layers guards t limit m).removed_count) e.snapped;
+      };
+      chosen = c.in_ok-left.ensures.chosen ∙ ap (chosen_for c.args.asked.level) same;
+      called = c.in_ok-left.ensures.called ∙ ap (λ m. g.Q.Reducer.calls c.args.reducer.now ++ calls_over guards c.args.asked.level (arcs_of_layers m)) e.snapped;
       few = search rules;
-      topology = as_written_under c.args.guards _ c.args.ring_limit c.args.grid c.args.layers.items _ _ _ e.grid e.snapped made c.written_is_made.ensures c.requires.taken _ c.in-Ok.ensures;
-      dropped = c.in_ok-topology.ensures.dropped
-          ∙ ap (λ t. made_dropped_under c.args.guards t c.args.ring_limit c.snapped_layers-snapped.result.0.items) same
-          ∙ ap (made_dropped_under c.args.guards (level_threshold_under c.args.guards c.args.grid c.args.level c.args.layers.items) c.args.ring_limit) e.snapped;
-      removed_count = c.in_ok-topology.ensures.removed_count
-          ∙ ap (λ t. saturated (made_removed_under c.args.guards t c.args.ring_limit c.snapped_layers-snapped.result.0.items)) same
-          ∙ ap (λ ls. saturated (made_removed_under c.args.guards (level_threshold_under c.args.guards c.args.grid c.args.level c.args.layers.items) c.args.ring_limit ls)) e.snapped;
-      chosen = c.in_ok-topology.ensures.chosen ∙ same_chosen c.nothing_is_new.ensures c.snapped_are_on.ensures c.protecting_on_grid.ensures c.built_cells_are_on.ensures c.args.guards c.args.level c.args.grid c.args.layers.items _ e.snapped c.requires.taken;
-      called = c.in_ok-topology.ensures.called
-          ∙ ap (λ ls. g.Q.Reducer.calls c.args.reducer.now ++ (if is_at_once c.args.guards then [] else calls_at c.args.level (arcs_of_layers ls))) c.snapped_layers-snapped.ensures.snapped;
     }

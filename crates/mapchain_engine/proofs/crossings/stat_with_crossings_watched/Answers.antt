@@ -1,6 +1,6 @@
 use Rattle.std.proofs.lemmas.Result.{err_from_is_err_and}
 use Rattle.reports.specs.Summaries.{summary_of, with_crossings}
-use Rattle.build_meaning.specs.Guarded.{crossings_of}
+use Rattle.build_meaning.specs.ArcPositions.{crossings_of}
 use Rattle.mapchain_engine.proofs.FilesDecided.{summary_decides, summary_fails}
 use Rattle.mapchain_engine.proofs.crossings.stat_with_crossings_watched.Goals as goal
 

@@ -1,8 +1,9 @@
-use Rattle.std.proofs.Common.{rules, length, map, ap, sym, subst, ◌∙◌}
+use Rattle.std.proofs.Common.{false, length, map, ap, sym, subst, ◌∙◌}
 use Rattle.std.specs.List.{AllByRecursion}
-use Rattle.std.proofs.lemmas.Result.{IfOk-weaker}
 use Rattle.build_meaning.proofs.Linework.{named_rings}
 use Rattle.build_meaning.specs.Layers.{named_lines_and_rings}
+use Rattle.byte_ends.specs.Ends.{saturated}
+use Rattle.geometry.specs.Lists.{map_some}
 use Rattle.linework.specs.Outlines.{IsRingIfClosed}
 use Rattle.topo_model.specs.Drafts.{no_refs, objects_relined}
 use Rattle.build_meaning.specs.Simplified.{EachFromFirstToLast, retained_arcs}
@@ -18,18 +19,19 @@ lines_of_outlines-requires c = subst (AllByRecursion IsRingIfClosed) (sym (c.in_
 
 pub assemble_draft-requires-clause-draft : goal.assemble_draft-requires-clause-draft
 assemble_draft-requires-clause-draft c =
-    let ls = c.args.layers.items in
-    let same = ap (λ t. t.arcs) c.requires.table ∙ table_arcs ls in
+    let same = ap (λ t. t.arcs) c.requires.table ∙ table_arcs c.args.layers.items in
     record {
-      layers = ls;
+      layers = c.args.layers.items;
+      keep_shapes = false;
       of_layers = draft_of c.args.layers.items c.into_parts-arcs.result.1.items c.in_ok-objects.outlines _ c.in_ok-objects.objects.items c.filled-draft.result.items (c.into_parts-arcs.ensures.refs ∙ ap (λ t. t.refs) c.requires.table)
           c.requires.sound c.requires.names (c.in_ok-objects.ensures.objects ∙ ap (objects_relined no_refs) c.in_ok-extracted.ensures) (c.in_ok-objects.ensures.outlines ∙ ap named_lines_and_rings c.in_ok-extracted.ensures) (c.deref.ensures.value ∙ c.in_ok-_lines.ensures.short) c.filled-draft.ensures;
       retained_are = record {
         kept = map (λ k. k.items) c.args.kept.now;
         through = subst (EachFromFirstToLast (map (λ k. k.items) c.args.kept.now)) same c.requires.kept;
-        picks = c.in_ok-retained.ensures ∙ ap (retained_arcs (map (λ k. k.items) c.args.kept.now)) (c.arcs-2.ensures ∙ same);
+        picks = c.in_ok-arcs.ensures ∙ ap (retained_arcs (map (λ k. k.items) c.args.kept.now)) (c.arcs-2.ensures ∙ same);
       };
-      counts_are = c.deref-2.ensures.value ∙ c.in_ok-counts.ensures ∙ ap (map length) (c.arcs.ensures ∙ same);
+      counts_are = c.in_ok-counts.ensures ∙ ap (map length) (c.arcs.ensures ∙ same);
+      ways_are = ap (map (map_some (λ v. v.items))) c.new.ensures.items;
     }
 
 pub returns : goal.returns
@@ -39,10 +41,13 @@ returns c =
     let same = ap (λ t. t.arcs) c.requires.table ∙ table_arcs ls in
     let draft = draft_of c.args.layers.items c.into_parts-arcs.result.1.items c.in_ok-objects.outlines _ c.in_ok-objects.objects.items c.filled-draft.result.items (c.into_parts-arcs.ensures.refs ∙ ap (λ t. t.refs) c.requires.table)
     c.requires.sound c.requires.names (c.in_ok-objects.ensures.objects ∙ ap (objects_relined no_refs) c.in_ok-extracted.ensures) (c.in_ok-objects.ensures.outlines ∙ ap named_lines_and_rings c.in_ok-extracted.ensures) (c.deref.ensures.value ∙ c.in_ok-_lines.ensures.short) c.filled-draft.ensures in
-    let picks = c.in_ok-retained.ensures ∙ ap (retained_arcs kept) (c.arcs-2.ensures ∙ same) in
+    let none = ap (map (map_some (λ v. v.items))) c.new.ensures.items in
+    let picks = c.in_ok-arcs.ensures ∙ ap (retained_arcs kept) (c.arcs-2.ensures ∙ same) in
+    let left = c.in_ok-left.ensures in
+    let is = c.unprotected_is_assembled.ensures kept c.args.ring_limit ls in
     record {
-      few = search rules;
-      topology = IfOk-weaker c.assemble_draft.result _ _ (λ r h. h ls kept draft picks) c.assemble_draft.ensures.topology;
-      dropped = IfOk-weaker c.assemble_draft.result _ _ (λ r h. h ls kept draft picks) c.assemble_draft.ensures.dropped;
-      removed_count = IfOk-weaker c.assemble_draft.result _ _ (λ r h. h ls kept draft picks (c.deref-2.ensures.value ∙ c.in_ok-counts.ensures ∙ ap (map length) (c.arcs.ensures ∙ same))) c.assemble_draft.ensures.removed_count;
+      topology = left.topology ls kept false draft none picks ∙ is.contents;
+      dropped = left.dropped ls kept false draft none picks ∙ is.dropped;
+      removed_count = left.removed_count ls kept false draft none picks (c.in_ok-counts.ensures ∙ ap (map length) (c.arcs.ensures ∙ same)) ∙ ap saturated is.removed_count;
+      few = left.few;
     }

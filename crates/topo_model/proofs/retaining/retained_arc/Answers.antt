@@ -1,5 +1,5 @@
 use Rattle.std.proofs.Common.{sym, ◌∙◌}
-use Rattle.topo_model.proofs.Retained.{all_retained}
+use Rattle.topo_model.proofs.RetainedArcs.{all_retained}
 use Rattle.topo_model.proofs.retaining.retained_arc.Goals as goal
 
 pub returns-then-numbers-len : goal.returns-then-numbers-len

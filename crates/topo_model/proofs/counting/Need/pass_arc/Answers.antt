@@ -1,4 +1,4 @@
-use Rattle.std.proofs.Common.{◌≡◌, ◌+◌, ◌-◌, ◌<◌, ◌≤◌, ◌∷◌, [], length, ap, sym, ◌∙◌, arith}
+use Rattle.std.proofs.Common.{◌+◌, ◌-◌, ◌<◌, ◌≤◌, ◌∷◌, [], length, ap, sym, ◌∙◌, arith}
 use Rattle.topo_model.specs.Passing.{directed, new_after}
 use Rattle.topo_model.proofs.Passed.{arc_is_passed, counted_directed, enough_counted, passed_at_once}
 use Rattle.topo_model.proofs.counting.Need.pass_arc.Goals as goal

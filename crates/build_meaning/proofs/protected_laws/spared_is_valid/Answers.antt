@@ -1,5 +1,0 @@
-use Rattle.build_meaning.proofs.ValidSimplified.{spared_is_valid}
-use Rattle.build_meaning.proofs.protected_laws.spared_is_valid.Goals as goal
-
-pub returns : goal.returns
-returns c = spared_is_valid

@@ -1,5 +1,0 @@
-use Rattle.build_meaning.proofs.Left.{spared_keeps}
-use Rattle.build_meaning.proofs.protected_laws.spared_keeps.Goals as goal
-
-pub returns : goal.returns
-returns c = spared_keeps

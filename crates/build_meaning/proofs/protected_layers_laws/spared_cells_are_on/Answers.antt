@@ -1,5 +1,0 @@
-use Rattle.build_meaning.proofs.Left.{cells_are_on}
-use Rattle.build_meaning.proofs.protected_layers_laws.spared_cells_are_on.Goals as goal
-
-pub returns : goal.returns
-returns c = cells_are_on

@@ -1,5 +1,0 @@
-use Rattle.build_meaning.proofs.Left.{nests}
-use Rattle.build_meaning.proofs.protected_layers_laws.spared_nests_no_deeper.Goals as goal
-
-pub returns : goal.returns
-returns c = nests

@@ -1,0 +1,57 @@
+-- What is true of what is left of a topology, and of what is written of layers, under the guards that are asked for.
+use Rattle.std.specs.Prelude.{◌≡◌, ℕ, ◌≤◌, true, Option, map}
+use Rattle.std.specs.List.{AllByRecursion}
+use Rattle.geojson_types.specs.Nesting.{feature_nesting}
+use Rattle.topojson_meaning.specs.Bounds as bounds
+use Rattle.topojson_types.specs.Topologies.{Contents}
+use Rattle.topojson_types.specs.Validity.{IsTopology}
+use Rattle.build_meaning.specs.GridLaws.{EachFeature}
+use Rattle.build_meaning.specs.Layers.{Named, names_of}
+use Rattle.build_meaning.specs.Left.{no_guards, left_of}
+use Rattle.build_meaning.specs.SimplifiedLaws.{labels}
+use Rattle.build_meaning.specs.declared.guards.Guards.{Guards}
+use Rattle.layer_topology.specs.declared.level.Level.{Level}
+use Rattle.layer_topology.specs.Levels.{is_simplifying_level, KeepsShareOf}
+use Rattle.layer_topology.specs.Promises.{CrossesNoMore, KeepsShapes}
+use Rattle.layer_topology.specs.Written.{written, written_left, AreTaken}
+
+-- It is valid where the topology is, has the same names, identifiers, properties and transform, and its features nest no deeper. Where
+-- crossings may not be made it has no more of them, and where shapes stay each feature keeps its greatest ring.
+pub record IsLeftOf (guards : Guards) (t : ℕ) (y left : Contents) : Type 0 where
+  pub valid : IsTopology y → IsTopology left
+  pub labels_stay : labels left ≡ labels y
+  pub transform : left.transform ≡ y.transform
+  pub nests : (n : ℕ) → AllByRecursion (λ f. bounds.feature_nesting f ≤ n) (bounds.objects_features y.objects)
+      → AllByRecursion (λ f. bounds.feature_nesting f ≤ n) (bounds.objects_features left.objects)
+  pub crosses : guards.no_crossings ≡ true → CrossesNoMore y left
+  pub stays : guards.keep_shapes ≡ true → KeepsShapes guards t y left
+
+abbrev pub LeftLaw : Type 0
+LeftLaw = (guards : Guards) (t limit : ℕ) (y : Contents) → IsLeftOf guards t y (left_of guards t limit y).contents
+
+-- at the threshold that is chosen for it the share of the positions between the ends of arcs stays that are reduced at once
+abbrev pub ShareStays : Type 0
+ShareStays = (guards : Guards) (level : Level) (y : Contents) → is_simplifying_level level ≡ true → KeepsShareOf guards level y
+
+-- ---- layers
+
+-- What is written of layers is what is left of the topology that is written at zero, by the threshold and the limit, has the names of the layers
+-- in order, and nests no deeper than they do.
+pub record IsWrittenLeft (guards : Guards) (count : Option ℕ) (t limit : ℕ) (ls : Named) : Type 0 where
+  pub valid : IsTopology (written_left guards count t limit ls).contents
+  pub names : map (λ o. o.0) (written_left guards count t limit ls).contents.objects ≡ names_of ls
+  pub nests : (n : ℕ) → EachFeature (λ f. feature_nesting f ≤ n) ls
+      → AllByRecursion (λ f. bounds.feature_nesting f ≤ n) (bounds.objects_features (written_left guards count t limit ls).contents.objects)
+  pub is_left : IsLeftOf guards t (written count 0 0 ls) (written_left guards count t limit ls).contents
+  pub simplified : (left_of guards t limit (written count 0 0 ls)).contents ≡ (written_left guards count t limit ls).contents
+
+abbrev pub WrittenLeftLaw : Type 0
+WrittenLeftLaw = (guards : Guards) (count : Option ℕ) (t limit : ℕ) (ls : Named) → AreTaken count ls → IsWrittenLeft guards count t limit ls
+
+-- without a guard it is what is written of them at the threshold and the limit
+abbrev pub UnguardedIsWritten : Type 0
+UnguardedIsWritten = (count : Option ℕ) (t limit : ℕ) (ls : Named) → AreTaken count ls → (written_left no_guards count t limit ls).contents ≡ written count t limit ls
+
+-- at a threshold and a limit of zero nothing is removed, whatever guards are asked for
+abbrev pub GuardedAtZero : Type 0
+GuardedAtZero = (guards : Guards) (count : Option ℕ) (ls : Named) → AreTaken count ls → (written_left guards count 0 0 ls).contents ≡ written count 0 0 ls

@@ -1,0 +1,394 @@
+// What is left of a topology that was read.
+ghost use Rattle.std.specs.Prelude.{◌≡◌, ◌<◌, ◌≤◌, ◌∷◌, ◌++◌, [], IfOk, None, Some, length, map, true};
+ghost use Rattle.std.specs.List.{AllByRecursion};
+ghost use Rattle.std.specs.Option.{option_copied};
+ghost use Rattle.build_meaning.specs.ArcPositions as spec;
+ghost use Rattle.build_meaning.specs.Left as meaning;
+ghost use Rattle.build_meaning.specs.Left.{is_at_once, left_by, left_indexes, left_of, no_guards};
+ghost use Rattle.build_meaning.specs.Protected.{Protection};
+ghost use Rattle.build_meaning.specs.ProtectedRings.{CanStay};
+ghost use Rattle.build_meaning.specs.Simplified.{EachFromFirstToLast, retained, retained_arcs};
+ghost use Rattle.build_meaning.specs.Thresholds.{placed_cells, reduced_indexes};
+ghost use Rattle.effective_area.specs.Calls.{call_at, calls_for};
+ghost use Rattle.elimination_meaning.specs.Elimination.{reduce};
+ghost use Rattle.geometry.specs.Lists.{map_some};
+ghost use Rattle.geometry.specs.Units.{threshold_limit};
+ghost use Rattle.layer_topology.specs.Levels.{calls_at, calls_over, chosen_for, is_simplifying_level, threshold_at, threshold_of};
+ghost use Rattle.layer_topology.specs.Topologies.{IsLeft};
+ghost use Rattle.layer_topology.specs.declared.level.Level.TheVariants.{Share};
+ghost use Rattle.topo_model.specs.Along.{AreWays, Protect};
+ghost use Rattle.topo_model.specs.Ways.{ways_under};
+ghost use Rattle.topojson_types.specs.Decoding.{placed_arcs};
+ghost use Rattle.topojson_types.specs.Validity.{IsArc};
+
+use crate::at_once::kept_at_once;
+use crate::choosing::{kept_by_share, reduced_line};
+use crate::drafts::Protected;
+use crate::level::Level;
+use crate::reduction::Reduction;
+use build_meaning::{
+    Guards, indexes_reach, left_indexes_reach, unguarded_is_simplified, unprotected_is_simplified,
+};
+use effective_area::Reducer;
+use elimination_meaning::indexes_rise;
+use geojson_types::Position;
+use json_value::Items;
+use owned_values::Memory;
+use std::alloc::Global;
+use topo_model::{
+    Left, Retained, cells_of_all, position_counts, reassemble, retained_arc, rings_to_stay,
+};
+use topojson_types::{Cell, Topology, Transform, positions};
+
+/// The positions that each of these arcs stands for.
+pub fn arc_positions(
+    alloc: Global,
+    transform: Option<&Transform>,
+    arcs: &[Items<Cell>],
+) -> Result<Vec<Items<Position>>, Memory>
+    requires { AllByRecursion (IsArc (option_copied transform)) arcs.now }
+    ensures { IfOk result (λ lines. lines.items ≡ placed_arcs (option_copied transform.entry) arcs.now) }
+{
+    let mut lines = Vec::with_capacity(alloc, arcs.len())?;
+    'arcs: for arc in arcs {
+        lines.push(positions(alloc, transform, arc.as_slice())?)?;
+    }
+    Ok(lines)
+}
+
+/// Of each arc of a topology the numbers of the cells that stay, for each feature the way to its protected ring, or none at all where no shape has
+/// to stay, and the threshold, where it was chosen.
+#[derive(Drop)]
+struct Kept {
+    numbers: Vec<Vec<usize>>,
+    ways: Vec<Option<Vec<usize>>>,
+    chosen: Option<u128>,
+}
+
+/// The rings of a topology that have to stay under these guards.
+fn protected_of(alloc: Global, topology: &Topology, guards: Guards) -> Result<Protected, Memory>
+    ensures ways { IfOk result
+        (λ r. map (map_some (λ w. w.items)) r.ways.items ≡ ways_under guards.keep_shapes (spec.arc_positions topology.now) topology.now.objects) }
+    ensures rings { IfOk result (λ r. r.rings.items ≡ meaning.rings_to_stay guards topology.now) }
+    ensures can_stay { IfOk result (λ r. CanStay (spec.arc_positions topology.now) r.rings.items) }
+{
+    if guards.keep_shapes {
+        let (ways, rings) = rings_to_stay(alloc, topology)?;
+        Ok(Protected { ways, rings })
+    } else {
+        Ok(Protected {
+            ways: Vec::new(alloc),
+            rings: Vec::new(alloc),
+        })
+    }
+}
+
+/// What stays where all arcs are reduced at once under these guards.
+fn kept_under(
+    alloc: Global,
+    topology: &Topology,
+    guards: Guards,
+    level: Level,
+) -> Result<Kept, Memory>
+    requires at_once { is_at_once guards ≡ true }
+    requires level { is_simplifying_level level ≡ true }
+    ensures kept { IfOk result (λ r. map (λ k. k.items) r.numbers.items ≡ left_indexes guards (threshold_of guards level topology.now) topology.now) }
+    ensures ways { IfOk result
+        (λ r. map (map_some (λ w. w.items)) r.ways.items ≡ ways_under guards.keep_shapes (spec.arc_positions topology.now) topology.now.objects) }
+    ensures chosen { IfOk result (λ r. r.chosen ≡ chosen_for level (threshold_of guards level topology.now)) }
+{
+    let Protected { ways, rings } = protected_of(alloc, topology, guards)?;
+    let lines = arc_positions(alloc, topology.transform(), topology.arcs())?;
+    let (numbers, chosen) = kept_at_once(alloc, &lines, guards.no_crossings, &rings, level)?;
+    Ok(Kept {
+        numbers,
+        ways,
+        chosen,
+    })
+}
+
+/// What stays where each arc is reduced by itself at the greatest threshold that keeps a share.
+fn kept_apart(alloc: Global, topology: &Topology, p: u64, q: u64) -> Result<Kept, Memory>
+    requires whole { 0 < q }
+    requires part { p ≤ q }
+    ensures kept { IfOk result
+        (λ r. map (λ k. k.items) r.numbers.items ≡ reduced_indexes (threshold_at (Share p q) (spec.arc_positions topology.now)) topology.now) }
+    ensures ways { IfOk result (λ r. r.ways.items ≡ []) }
+    ensures chosen { IfOk result (λ r. r.chosen ≡ Some (threshold_at (Share p q) (spec.arc_positions topology.now))) }
+{
+    let lines = arc_positions(alloc, topology.transform(), topology.arcs())?;
+    let (numbers, threshold) = kept_by_share(alloc, &lines, p, q)?;
+    Ok(Kept {
+        numbers,
+        ways: Vec::new(alloc),
+        chosen: Some(threshold),
+    })
+}
+
+/// The cells that stay of the arcs of a topology.
+fn retained_of(alloc: Global, topology: &Topology, kept: Kept) -> Result<Retained, Memory>
+    requires { length kept.numbers.items ≡ length topology.now.arcs }
+    ensures arcs { IfOk result (λ r. r.arcs.items ≡ retained_arcs (map (λ k. k.items) kept.numbers.items) topology.now.arcs) }
+    ensures counts { IfOk result (λ r. r.counts.items ≡ map length topology.now.arcs) }
+    ensures ways { IfOk result (λ r. r.ways.items ≡ kept.ways.items) }
+    ensures chosen { IfOk result (λ r. r.chosen ≡ kept.chosen) }
+{
+    let Kept {
+        numbers,
+        ways,
+        chosen,
+    } = kept;
+    let counts = position_counts(alloc, topology.arcs())?;
+    let arcs = cells_of_all(alloc, &numbers, topology.arcs())?;
+    Ok(Retained {
+        arcs,
+        counts,
+        ways,
+        chosen,
+    })
+}
+
+/// What is left of a topology where of each arc the cells with these numbers stay, the rings at the ends of ways are protected, and other rings
+/// under the limit are left out.
+fn left_with(
+    alloc: Global,
+    topology: Topology,
+    kept: Kept,
+    ring_limit: u128,
+) -> Result<Left, Memory>
+    requires kept { EachFromFirstToLast (map (λ k. k.items) kept.numbers.items) topology.arcs }
+    requires limit { ring_limit ≤ threshold_limit }
+    requires ways { Protect (map (map_some (λ v. v.items)) kept.ways.items) topology.objects }
+    ensures left { IfOk result (λ r. (protects : Protection) → AreWays protects (map (map_some (λ v. v.items)) kept.ways.items) topology.objects
+        → IsLeft (left_by protects (map (λ k. k.items) kept.numbers.items) ring_limit topology) r.topology r.dropped.items r.removed_count) }
+    ensures chosen { IfOk result (λ r. r.chosen ≡ kept.chosen) }
+{
+    let retained = retained_of(alloc, &topology, kept)?;
+    let (objects, arcs, transform) = topology.into_parts();
+    drop(arcs);
+    let left = reassemble(alloc, objects, transform, retained, ring_limit)?;
+    Ok(left)
+}
+
+/// What is left of a topology where all arcs are reduced at once under these guards.
+fn left_at_once(
+    alloc: Global,
+    topology: Topology,
+    guards: Guards,
+    level: Level,
+    ring_limit: u128,
+) -> Result<Left, Memory>
+    requires at_once { is_at_once guards ≡ true }
+    requires level { is_simplifying_level level ≡ true }
+    requires limit { ring_limit ≤ threshold_limit }
+    ensures left { IfOk result
+        (λ r. IsLeft (left_of guards (threshold_of guards level topology) ring_limit topology) r.topology r.dropped.items r.removed_count) }
+    ensures chosen { IfOk result (λ r. r.chosen ≡ chosen_for level (threshold_of guards level topology)) }
+{
+    left_indexes_reach();
+    let kept = kept_under(alloc, &topology, guards, level)?;
+    let left = left_with(alloc, topology, kept, ring_limit)?;
+    Ok(left)
+}
+
+/// What is left of a topology where each arc is reduced by itself at the greatest threshold that keeps a share.
+fn left_by_share(
+    alloc: Global,
+    topology: Topology,
+    p: u64,
+    q: u64,
+    ring_limit: u128,
+) -> Result<Left, Memory>
+    requires whole { 0 < q }
+    requires part { p ≤ q }
+    requires limit { ring_limit ≤ threshold_limit }
+    ensures left { IfOk result
+        (λ r. IsLeft (left_of no_guards (threshold_at (Share p q) (spec.arc_positions topology)) ring_limit topology)
+        r.topology r.dropped.items r.removed_count) }
+    ensures chosen { IfOk result (λ r. r.chosen ≡ Some (threshold_at (Share p q) (spec.arc_positions topology))) }
+{
+    indexes_reach();
+    unguarded_is_simplified();
+    unprotected_is_simplified();
+    let kept = kept_apart(alloc, &topology, p, q)?;
+    let left = left_with(alloc, topology, kept, ring_limit)?;
+    Ok(left)
+}
+
+/// The positions of an arc without a transform, which are its cells. The arc is freed.
+#[tactic(auto, using(topo_model::proofs::Picks::places_are))]
+fn own_positions(alloc: Global, arc: Items<Cell>) -> Result<Items<Position>, Memory>
+    requires { IsArc None arc }
+    ensures { IfOk result (λ line. line ≡ arc) }
+{
+    positions(alloc, None, arc.as_slice())
+}
+
+/// The cells of an arc that stay where the positions that they stand for are reduced. Where none goes it is this arc.
+#[tactic(auto, using(topo_model::proofs::Picks::places_are))]
+fn reduced_cells<Q: Reducer>(
+    alloc: Global,
+    reducer: &mut Q,
+    transform: Option<&Transform>,
+    arc: Items<Cell>,
+    t: u128,
+) -> Result<Items<Cell>, Memory>
+    requires { IsArc (option_copied transform) arc }
+    ensures retained { IfOk result (λ stay. stay ≡ retained (reduce t (placed_cells (option_copied transform.entry) arc)) arc) }
+    ensures called { IfOk result
+        (λ _. Q.calls reducer.new ≡ Q.calls reducer.old ++ call_at t (placed_cells (option_copied transform.entry) arc) ∷ []) }
+{
+    indexes_rise();
+    let line = positions(alloc, transform, arc.as_slice())?;
+    let kept = reducer.kept(alloc, line.as_slice(), t)?;
+    retained_arc(alloc, &kept, arc)
+}
+
+/// An arc of more cells without a transform is freed before it is reduced.
+const HELD_BESIDE: usize = 1024;
+
+/// The cells of an arc that stay where the positions that they stand for are reduced. A long arc without a transform is copied as positions and
+/// freed before it is reduced, so that it isn't held beside them meanwhile.
+fn reduced_arc<Q: Reducer>(
+    alloc: Global,
+    reducer: &mut Q,
+    transform: Option<&Transform>,
+    arc: Items<Cell>,
+    t: u128,
+) -> Result<Items<Cell>, Memory>
+    requires { IsArc (option_copied transform) arc }
+    ensures retained { IfOk result (λ stay. stay ≡ retained (reduce t (placed_cells (option_copied transform.entry) arc)) arc) }
+    ensures called { IfOk result
+        (λ _. Q.calls reducer.new ≡ Q.calls reducer.old ++ call_at t (placed_cells (option_copied transform.entry) arc) ∷ []) }
+{
+    if transform.is_some() || arc.len() <= HELD_BESIDE {
+        return reduced_cells(alloc, reducer, transform, arc, t);
+    }
+    let line = own_positions(alloc, arc)?;
+    reduced_line(alloc, reducer, line.as_slice(), t)
+}
+
+/// Of each arc the cells that stay. No arc is held while the next one is reduced.
+#[tactic(auto, using(effective_area::proofs::CallLists::one_called, topo_model::proofs::RetainedArcs::retained_more))]
+fn reduced_arcs<Q: Reducer>(
+    alloc: Global,
+    reducer: &mut Q,
+    transform: Option<&Transform>,
+    arcs: Vec<Items<Cell>>,
+    t: u128,
+) -> Result<Vec<Items<Cell>>, Memory>
+    requires { AllByRecursion (IsArc (option_copied transform)) arcs.items }
+    ensures retained { IfOk result
+        (λ left. left.items ≡ retained_arcs (map (λ cells. reduce t (placed_cells (option_copied transform.entry) cells)) arcs.items) arcs.items) }
+    ensures called { IfOk result
+        (λ _. Q.calls reducer.new ≡ Q.calls reducer.old ++ calls_for t (map (placed_cells (option_copied transform.entry)) arcs.items)) }
+{
+    let mut left = Vec::with_capacity(alloc, arcs.len())?;
+    'arcs: for arc in arcs {
+        left.push(reduced_arc(alloc, reducer, transform, arc, t)?)?;
+    }
+    Ok(left)
+}
+
+/// What stays of arcs of which each is reduced by itself.
+fn retained_by_itself<Q: Reducer>(
+    alloc: Global,
+    reducer: &mut Q,
+    transform: Option<&Transform>,
+    arcs: Vec<Items<Cell>>,
+    t: u128,
+) -> Result<Retained, Memory>
+    requires { AllByRecursion (IsArc (option_copied transform)) arcs.items }
+    ensures arcs { IfOk result
+        (λ r. r.arcs.items ≡ retained_arcs (map (λ cells. reduce t (placed_cells (option_copied transform.entry) cells)) arcs.items) arcs.items) }
+    ensures counts { IfOk result (λ r. r.counts.items ≡ map length arcs.items) }
+    ensures ways { IfOk result (λ r. r.ways.items ≡ []) }
+    ensures chosen { IfOk result (λ r. r.chosen ≡ None) }
+    ensures called { IfOk result
+        (λ _. Q.calls reducer.new ≡ Q.calls reducer.old ++ calls_for t (map (placed_cells (option_copied transform.entry)) arcs.items)) }
+{
+    let counts = position_counts(alloc, &arcs)?;
+    let arcs = reduced_arcs(alloc, reducer, transform, arcs, t)?;
+    Ok(Retained {
+        arcs,
+        counts,
+        ways: Vec::new(alloc),
+        chosen: None,
+    })
+}
+
+/// What is left of a topology where each arc is reduced by itself at a threshold.
+#[tactic(auto, using(topo_model::proofs::Result::parts_are))]
+fn left_at<Q: Reducer>(
+    alloc: Global,
+    reducer: &mut Q,
+    topology: Topology,
+    t: u128,
+    ring_limit: u128,
+) -> Result<Left, Memory>
+    requires { ring_limit ≤ threshold_limit }
+    ensures left { IfOk result (λ r. IsLeft (left_of no_guards t ring_limit topology) r.topology r.dropped.items r.removed_count) }
+    ensures chosen { IfOk result (λ r. r.chosen ≡ None) }
+    ensures called { IfOk result
+        (λ _. Q.calls reducer.new ≡ Q.calls reducer.old ++ calls_for t (map (placed_cells topology.transform) topology.arcs)) }
+{
+    indexes_reach();
+    unguarded_is_simplified();
+    unprotected_is_simplified();
+    let (objects, arcs, transform) = topology.into_parts();
+    let retained = retained_by_itself(alloc, reducer, transform.as_ref(), arcs.into_inner(), t)?;
+    let left = reassemble(alloc, objects, transform, retained, ring_limit)?;
+    Ok(left)
+}
+
+/// What is left of a topology where each arc is reduced by itself.
+fn left_apart<Q: Reducer>(
+    alloc: Global,
+    reducer: &mut Q,
+    topology: Topology,
+    level: Level,
+    ring_limit: u128,
+) -> Result<Left, Memory>
+    requires level { is_simplifying_level level ≡ true }
+    requires limit { ring_limit ≤ threshold_limit }
+    ensures left { IfOk result
+        (λ r. IsLeft (left_of no_guards (threshold_at level (spec.arc_positions topology)) ring_limit topology)
+        r.topology r.dropped.items r.removed_count) }
+    ensures chosen { IfOk result (λ r. r.chosen ≡ chosen_for level (threshold_at level (spec.arc_positions topology))) }
+    ensures called { IfOk result
+        (λ _. Q.calls reducer.new ≡ Q.calls reducer.old ++ calls_at level (map (placed_cells topology.transform) topology.arcs)) }
+{
+    match level {
+        Level::Fixed(t) => left_at(alloc, reducer, topology, t, ring_limit),
+        Level::Share { p, q } => left_by_share(alloc, topology, p, q, ring_limit),
+    }
+}
+
+/// What is left of a topology: its arcs are reduced, at once where guards are asked for, and each by itself otherwise, without the lines and rings
+/// that are then left with too few positions, rings under the limit, and arcs that no other line uses. The cells that stay keep their numbers, and
+/// the transform stays.
+pub fn left_of_topology<Q: Reducer>(
+    alloc: Global,
+    reducer: &mut Q,
+    topology: Topology,
+    asked: Reduction,
+) -> Result<Left, Memory>
+    requires level { is_simplifying_level asked.level ≡ true }
+    requires limit { asked.ring_limit ≤ threshold_limit }
+    ensures left { IfOk result
+        (λ r. IsLeft (left_of asked.guards (threshold_of asked.guards asked.level topology) asked.ring_limit topology)
+        r.topology r.dropped.items r.removed_count) }
+    ensures chosen { IfOk result (λ r. r.chosen ≡ chosen_for asked.level (threshold_of asked.guards asked.level topology)) }
+    ensures called { IfOk result (λ _. Q.calls reducer.new
+        ≡ Q.calls reducer.old ++ calls_over asked.guards asked.level (map (placed_cells topology.transform) topology.arcs)) }
+{
+    let Reduction {
+        guards,
+        level,
+        ring_limit,
+    } = asked;
+    if guards.no_crossings || guards.keep_shapes {
+        return left_at_once(alloc, topology, guards, level, ring_limit);
+    }
+    left_apart(alloc, reducer, topology, level, ring_limit)
+}

@@ -62,30 +62,30 @@ greatest_of size long xs = greatest (λ x. size x.part) (filter (λ x. long x.pa
 abbrev pub put : {L M : Type 0} → (L → M) → Placed L → Placed M
 put make x = record { path = x.path; part = make x.part }
 
-module _ {L M : Type 0} (make : L → M) (size : M → ℕ) (long : M → Bool) where
-  greater_made : (x : Placed L) (o : Option (Placed L)) → greater (λ y. size y.part) (put make x) (map_some (put make) o) ≡ put make (greater (λ z. size (make z.part)) x o)
+module _ {A B : Type 0} (make : A → B) (size : B → ℕ) (long : B → Bool) where
+  greater_made : (x : A) (o : Option A) → greater size (make x) (map_some make o) ≡ make (greater (λ z. size (make z)) x o)
   greater_made x None = refl
-  greater_made x (Some z) = on (nat_lt (size (make x.part)) (size (make z.part)))
+  greater_made x (Some z) = on (nat_lt (size (make x)) (size (make z)))
     where
-      on : (b : Bool) → cond b (put make z) (put make x) ≡ put make (cond b z x)
+      on : (b : Bool) → cond b (make z) (make x) ≡ make (cond b z x)
       on true = refl
       on false = refl
 
-  -- the greatest of what is made of rings is made of the greatest of them
-  pub greatest_made : (xs : List (Placed L)) → greatest_of size long (map (put make) xs) ≡ map_some (put make) (greatest_of (λ l. size (make l)) (λ l. long (make l)) xs)
+  -- the greatest of what is made of some is made of the greatest of them
+  pub greatest_made : (xs : List A) → greatest size (filter long (map make xs)) ≡ map_some make (greatest (λ x. size (make x)) (filter (λ x. long (make x)) xs))
   greatest_made [] = refl
-  greatest_made (x ∷ xs) = on (long (make x.part)) (greatest_made xs)
+  greatest_made (x ∷ xs) = on (long (make x)) (greatest_made xs)
     where
-      on : (b : Bool) → greatest_of size long (map (put make) xs) ≡ map_some (put make) (greatest_of (λ l. size (make l)) (λ l. long (make l)) xs)
-          → greatest (λ y. size y.part) (cond b (put make x ∷ filter (λ y. long y.part) (map (put make) xs)) (filter (λ y. long y.part) (map (put make) xs)))
-          ≡ map_some (put make) (greatest (λ z. size (make z.part)) (cond b (x ∷ filter (λ z. long (make z.part)) xs) (filter (λ z. long (make z.part)) xs)))
-      on true e = ap (λ o. Some (greater (λ y. size y.part) (put make x) o)) e ∙ ap Some (greater_made x (greatest_of (λ l. size (make l)) (λ l. long (make l)) xs))
+      on : (b : Bool) → greatest size (filter long (map make xs)) ≡ map_some make (greatest (λ z. size (make z)) (filter (λ z. long (make z)) xs))
+          → greatest size (cond b (make x ∷ filter long (map make xs)) (filter long (map make xs)))
+          ≡ map_some make (greatest (λ z. size (make z)) (cond b (x ∷ filter (λ z. long (make z)) xs) (filter (λ z. long (make z)) xs)))
+      on true e = ap (λ o. Some (greater size (make x) o)) e ∙ ap Some (greater_made x (greatest (λ z. size (make z)) (filter (λ z. long (make z)) xs)))
       on false e = e
 
 -- of rings of these arcs
 pub ring_made : {L : Type 0} (arcs : List (List Point)) (refs : L → List ℤ) (xs : List (Placed L))
     → greatest (λ x. enclosed arcs x.part) (filter (λ x. is_long arcs x.part) (map (put refs) xs)) ≡ map_some (put refs) (greatest (λ x. enclosed arcs (refs x.part)) (filter (λ x. is_long arcs (refs x.part)) xs))
-ring_made arcs refs xs = greatest_made refs (enclosed arcs) (is_long arcs) xs
+ring_made arcs refs xs = greatest_made (put refs) (λ x. enclosed arcs x.part) (λ x. is_long arcs x.part) xs
 
 -- the greatest ring of a shape with these outer rings
 pub ring_among : (arcs : List (List Point)) (s : TopoShape) (xs : List (Placed (List ℤ))) → outer_rings s ≡ xs → greatest_ring arcs s ≡ greatest (λ x. enclosed arcs x.part) (filter (λ x. is_long arcs x.part) xs)

@@ -16,7 +16,7 @@ each_further R S make f [] (x ∷ xs) h = absurd h
 each_further R S make f (y ∷ ys) [] h = absurd h
 each_further R S make f (y ∷ ys) (x ∷ xs) h = (f y x h.0, each_further R S make f ys xs h.1)
 
-each_joined : {A B C : Type 0} (R : C → B → Type 0) (S : B → A → Type 0) (Q : C → A → Type 0) → ((c : C) (b : B) (a : A) → R c b → S b a → Q c a) → (zs : List C) (ys : List B) (xs : List A)
+pub each_joined : {A B C : Type 0} (R : C → B → Type 0) (S : B → A → Type 0) (Q : C → A → Type 0) → ((c : C) (b : B) (a : A) → R c b → S b a → Q c a) → (zs : List C) (ys : List B) (xs : List A)
     → EachTo R zs ys → EachTo S ys xs → EachTo Q zs xs
 each_joined R S Q f [] [] [] h k = tt
 each_joined R S Q f [] [] (x ∷ xs) h k = absurd k

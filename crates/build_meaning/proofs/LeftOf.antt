@@ -171,6 +171,38 @@ are_long arcs os =
     all_given (λ refs. is_long arcs refs ≡ true) (protected_of (greatest_ring arcs)) features
     (all_hold (λ f. (refs : List ℤ) → protected_of (greatest_ring arcs) f ≡ Some refs → is_long arcs refs ≡ true) (is_long_ring arcs) features)
 
+-- the features of what is left of a topology are those of the topology, each without the lines and rings that are dropped
+module _ (protects : Protection) (kept : List (List ℕ)) (limit : ℕ) (y : Contents) where
+  abbrev pub refs_left : MarkedRefs
+  refs_left = sparing (large_refs limit (placed_arcs y.transform (retained_arcs kept y.arcs)))
+
+  abbrev pub arcs_used : ℕ → Bool
+  arcs_used = is_used (spared_whole protects kept limit y).objects
+
+  -- the arcs of what is left of a feature are used
+  abbrev pub IsUsedBy : TopoFeature → Type 0
+  IsUsedBy f = AllByRecursion (AllUsed arcs_used) (option_lines_and_rings (feature_spared protects refs_left f).shape)
+
+  pub each_used : AllByRecursion IsUsedBy (all_features y)
+  each_used =
+      all_of_map (OfFeature (AllUsed arcs_used)) (feature_spared protects refs_left) (all_features y)
+      (subst (AllByRecursion (OfFeature (AllUsed arcs_used))) (features_with (spared_shape protects refs_left) y.objects)
+      (each_of_objects (AllUsed arcs_used) (spared_whole protects kept limit y).objects (all_used (spared_whole protects kept limit y).objects)))
+
+  abbrev pub feature_left : TopoFeature → TopoFeature
+  feature_left f = feature_renumbered arcs_used (feature_spared protects refs_left f)
+
+  features_left : all_features (spared_by protects kept limit y) ≡ map feature_left (all_features y)
+  unfolding spared_by trimmed
+  features_left =
+      features_with (pruned_shape (λ p. p) (line_renumbered arcs_used)) (spared_whole protects kept limit y).objects
+      ∙ ap (map (feature_renumbered arcs_used)) (features_with (spared_shape protects refs_left) y.objects)
+      ∙ map-map (feature_renumbered arcs_used) (feature_spared protects refs_left) (all_features y)
+
+  -- what relates each to its feature of the topology
+  pub each_left : (R : TopoFeature → TopoFeature → Type 0) → AllByRecursion (λ f. R (feature_left f) f) (all_features y) → EachTo R (all_features (spared_by protects kept limit y)) (all_features y)
+  each_left R h = subst (λ fs. EachTo R fs (all_features y)) (sym features_left) (each_to_made R feature_left (all_features y) h)
+
 module _ (stay : RingsStay) (no_crossings : Bool) (t limit : ℕ) (y : Contents) where
   abbrev guards : Guards
   guards = record { no_crossings = no_crossings; keep_shapes = true }
@@ -182,13 +214,10 @@ module _ (stay : RingsStay) (no_crossings : Bool) (t limit : ℕ) (y : Contents)
   kept = left_indexes guards t y
 
   abbrev spared : MarkedRefs
-  spared = sparing (large_refs limit (placed_arcs y.transform (retained_arcs kept y.arcs)))
-
-  abbrev whole : Contents
-  whole = spared_whole protects kept limit y
+  spared = refs_left protects kept limit y
 
   abbrev used : ℕ → Bool
-  used = is_used whole.objects
+  used = arcs_used protects kept limit y
 
   abbrev all : List (List Point)
   all = left_arcs guards t y
@@ -209,23 +238,13 @@ module _ (stay : RingsStay) (no_crossings : Bool) (t limit : ℕ) (y : Contents)
   long_still : AllByRecursion (OfRing (LongIn all)) features
   long_still = all_giving (LongIn all) (protected_of protects) features (stay no_crossings (protected_rings protects y.objects) t (arc_positions y) (are_long (arc_positions y) y.objects))
 
-  -- the arcs of what is left of a feature are used
-  abbrev IsUsedBy : TopoFeature → Type 0
-  IsUsedBy f = AllByRecursion (AllUsed used) (option_lines_and_rings (feature_spared protects spared f).shape)
-
-  each_used : AllByRecursion IsUsedBy features
-  each_used =
-      all_of_map (OfFeature (AllUsed used)) (feature_spared protects spared) features
-      (subst (AllByRecursion (OfFeature (AllUsed used))) (features_with (spared_shape protects spared) y.objects)
-      (each_of_objects (AllUsed used) whole.objects (all_used whole.objects)))
-
   abbrev both : MarkedRefs
   both closed l = then_some (line_renumbered used closed) (spared closed l)
 
   abbrev what_is_left : TopoFeature → TopoFeature
-  what_is_left f = feature_renumbered used (feature_spared protects spared f)
+  what_is_left = feature_left protects kept limit y
 
-  ring_of_feature : (f : TopoFeature) → OfRing (LongIn all) f → IsUsedBy f → OfRing (λ refs. HasRing all left refs (what_is_left f)) f
+  ring_of_feature : (f : TopoFeature) → OfRing (LongIn all) f → IsUsedBy protects kept limit y f → OfRing (λ refs. HasRing all left refs (what_is_left f)) f
   ring_of_feature f long uses refs h =
       let p : Protects protects f.shape refs = protected_parts protects f.shape refs h in
       let x : Placed (List ℤ) = p.ring in
@@ -253,20 +272,14 @@ module _ (stay : RingsStay) (no_crossings : Bool) (t limit : ℕ) (y : Contents)
         is_long_ring = ap (λ pss. not (is_short true (clean (stitched pss)))) (same ∙ ap (map (arc_at all)) p.refs_are) ∙ long refs h;
       }
 
-  features_left : all_features (left_of guards t limit y).contents ≡ map what_is_left features
-  unfolding left_of spared_by trimmed
-  features_left =
-      features_with (pruned_shape (λ p. p) (line_renumbered used)) whole.objects
-      ∙ ap (map (feature_renumbered used)) (features_with (spared_shape protects spared) y.objects)
-      ∙ map-map (feature_renumbered used) (feature_spared protects spared) features
-
   abbrev KeepsRing : TopoFeature → TopoFeature → Type 0
   KeepsRing after before = OfRing (λ refs. HasRing all left refs after) before
 
   pub each_keeps : EachTo KeepsRing (all_features (left_of (record { no_crossings = no_crossings; keep_shapes = true }) t limit y).contents) (all_features y)
+  unfolding left_of
   each_keeps =
-      subst (λ fs. EachTo KeepsRing fs features) (sym features_left)
-      (each_to_made KeepsRing what_is_left features (all_two (OfRing (LongIn all)) IsUsedBy (λ f. KeepsRing (what_is_left f) f) ring_of_feature features long_still each_used))
+      each_left protects kept limit y KeepsRing
+      (all_two (OfRing (LongIn all)) (IsUsedBy protects kept limit y) (λ f. KeepsRing (what_is_left f) f) ring_of_feature features long_still (each_used protects kept limit y))
 
 pub shapes_stay : RingsStay → ShapesStay
 shapes_stay stay guards t limit y e = subst (λ b. KeepsRings (record { no_crossings = guards.no_crossings; keep_shapes = b }) t limit y) (sym e) (each_keeps stay guards.no_crossings t limit y)

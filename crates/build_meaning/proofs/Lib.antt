@@ -55,3 +55,6 @@ mod LayersLeftRows
 pub mod RingsAlike
 pub mod ShapesLeft
 pub mod SparedAlike
+pub mod SparedTwice
+pub mod AtFirst
+pub mod InTurn

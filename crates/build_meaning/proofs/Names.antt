@@ -109,6 +109,9 @@ pub use Rattle.build_meaning.specs.Expected.{cleaned, expected_feature, is_small
 unfoldable pub use Rattle.build_meaning.specs.Expected.{expected, expected_dropped}
 pub use Rattle.build_meaning.specs.GridLaws.{BuiltCellsAreOn, BuiltDecodesQuantized, BuiltIsValidQuantized, EachFeature, IsSnapped, Keeps, QuantizedDecodes, QuantizedIsValid, QuantizedKeeps, SnappedAreOn, SnappedKeep, all_features}
 unfoldable pub use Rattle.build_meaning.specs.GridTransforms.{transform_of}
+pub use Rattle.build_meaning.specs.InTurn.{cause_in_turn, first_whole, goes_first, indexes_in_turn, left_in_turn, without_small}
+unfoldable pub use Rattle.build_meaning.specs.InTurn.{dropped_in_turn}
+pub use Rattle.build_meaning.specs.InTurnLaws.{FirstIsLeftAtZero, FirstOfBuilt, InTurnIsAtOnce, IsLeftAtOnce, SameRingsAtFirst, SameRingsStay, ShapesStayInTurn, WithoutSmallCrossesNoMore, WithoutSmallIsValid, WithoutSmallKeeps, WithoutSmallOnGrid, refs_in_turn}
 pub use Rattle.build_meaning.specs.Layers.{Named, features_lines_and_rings, layers_of, named_lines_and_rings, names_of}
 pub use Rattle.build_meaning.specs.Left.{Left, guard_of, left_arcs, left_indexes, no_guards, protection_of, rings_to_stay}
 unfoldable pub use Rattle.build_meaning.specs.Left.{left_of}

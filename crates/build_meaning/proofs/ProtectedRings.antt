@@ -13,7 +13,7 @@ module _ (X : Bool × List ℤ → Type 0) (arcs : List (List Point)) where
   abbrev Given : TopoFeature → Type 0
   Given f = (refs : List ℤ) → protected_of (greatest_ring arcs) f ≡ Some refs → X (true, refs)
 
-  of_protected : (f : TopoFeature) → OfFeature X f → Given f
+  pub of_protected : (f : TopoFeature) → OfFeature X f → Given f
   of_protected f h refs e =
       let p : Protects (greatest_ring arcs) f.shape refs = protected_parts (greatest_ring arcs) f.shape refs e in
       let g = greatest_is arcs p.shape p.ring p.is_ring in

@@ -9,16 +9,16 @@ use Rattle.geometry.specs.declared.shape.Geometry.TheVariants as g
 -- ---- the outer rings of a marked shape
 
 -- the way leads to the polygon of this path
-abbrev leads : List ℕ → Option (List ℕ) → Bool
+abbrev pub leads : List ℕ → Option (List ℕ) → Bool
 leads [] way = ends_here way
 leads (i ∷ path) way = leads path (into_part i way)
 
-leads_there : (path : List ℕ) → leads path (Some path) ≡ true
+pub leads_there : (path : List ℕ) → leads path (Some path) ≡ true
 leads_there [] = refl
 leads_there (i ∷ path) = ap (leads path) (into_here i path) ∙ leads_there path
 
 -- with a mark where the way leads to it
-abbrev with_mark : {L : Type 0} → Option (List ℕ) → Placed L → Placed (Bool × L)
+abbrev pub with_mark : {L : Type 0} → Option (List ℕ) → Placed L → Placed (Bool × L)
 with_mark way x = record { path = x.path; part = (leads x.path way, x.part) }
 
 inside_marked : {L : Type 0} (i : ℕ) (way : Option (List ℕ)) (xs : List (Placed L)) → inside_part i (map (with_mark (into_part i way)) xs) ≡ map (with_mark way) (inside_part i xs)

@@ -17,7 +17,7 @@ last_index : (i : ℕ) (p : Point) (ps : List Point) → last_of (map (λ v. v.i
 last_index i p [] = ap Some (omega arith)
 last_index i p (q ∷ ps) = last_index (i + 1) q ps ∙ ap Some (omega arith)
 
-all_through : (ps : List Point) → 2 ≤ length ps → FromFirstToLast (length ps) (all_indexes ps)
+pub all_through : (ps : List Point) → 2 ≤ length ps → FromFirstToLast (length ps) (all_indexes ps)
 all_through [] h = absurd (omega (arith, h))
 all_through (p ∷ ps) h = (refl, last_index 0 p ps ∙ ap Some (omega arith))
 

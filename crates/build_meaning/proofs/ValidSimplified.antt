@@ -51,7 +51,7 @@ valid_trimmed y h =
 
 -- ---- without some cells between the ends of arcs, and without lines that are too short
 
-valid_whole : (protects : Protection) (kept : List (List ℕ)) (limit : ℕ) (y : Contents) → IsTopology y → EachFromFirstToLast kept y.arcs → IsTopology (spared_whole protects kept limit y)
+pub valid_whole : (protects : Protection) (kept : List (List ℕ)) (limit : ℕ) (y : Contents) → IsTopology y → EachFromFirstToLast kept y.arcs → IsTopology (spared_whole protects kept limit y)
 valid_whole protects kept limit y h through =
     let fewer : List (List Point) = retained_arcs kept y.arcs in
     let places : List (List Point) = placed_arcs y.transform fewer in

@@ -18,6 +18,8 @@ pub mod Protected
 pub mod LeftLaws
 pub mod LeftOfLayers
 pub mod LeftOfLayersLaws
+pub mod InTurn
+pub mod InTurnLaws
 pub mod ProtectedRings
 pub mod Simplified
 pub mod Thresholds

@@ -12,6 +12,7 @@
 mod built_laws;
 mod grid_laws;
 mod guards;
+mod in_turn_laws;
 mod left_laws;
 mod left_of_layers_laws;
 mod ring_laws;
@@ -27,6 +28,11 @@ pub use grid_laws::{
     quantized_is_valid, quantized_keeps, snapped_are_on, snapped_keep,
 };
 pub use guards::Guards;
+pub use in_turn_laws::{
+    first_is_left_at_zero, first_of_built, in_turn_is_at_once, same_rings_at_first,
+    same_rings_stay, shapes_stay_in_turn, without_small_crosses_no_more, without_small_is_valid,
+    without_small_keeps, without_small_on_grid,
+};
 pub use left_laws::{
     arcs_retained_are_reduced, crossings_never_rise, greatest_ring_is_greatest,
     left_arcs_are_reduced, left_indexes_reach, left_is_valid, left_keeps, left_on_grid,

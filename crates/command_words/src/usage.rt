@@ -142,10 +142,12 @@ const RING_AREA_HELP: &str = "Leave out rings that enclose less than the area B"
 
 const RING_AREA_LONG_HELP: &str =
     "Leave out rings that enclose less than B once points were removed: small islands
-and lakes. B is in square units of the coordinates, from 0 to 10^18, with at most
-18 decimal places. Without this option it is 0, and no ring is left out for its
-area. Each ring counts by itself: the area of a hole isn't taken off that of the
-ring around it. Lines that are no rings stay, also those that close";
+and lakes. Beside '--no-crossings' or '--keep-shapes' they go before that as well, so
+that they hold no point, and none of theirs counts for '--keep'. B is in square units
+of the coordinates, from 0 to 10^18, with at most 18 decimal places. Without this
+option it is 0, and no ring is left out for its area. Each ring counts by itself: the
+area of a hole isn't taken off that of the ring around it. Lines that are no rings
+stay, also those that close";
 
 const NO_CROSSINGS_HELP: &str = "Remove no point where lines would then cross";
 

@@ -20,7 +20,7 @@ use Rattle.geometry.specs.Lists.{joined}
 use Rattle.geometry.specs.Points.{Point}
 use Rattle.layer_topology.specs.Levels.{reduced_by, threshold_at, threshold_by, threshold_of, threshold_over}
 use Rattle.layer_topology.specs.Topologies.{IsLeft}
-use Rattle.layer_topology.specs.Written.{layers_threshold}
+use Rattle.layer_topology.specs.Written.{built_threshold}
 use Rattle.layer_topology.specs.declared.level.Level.{Level}
 use Rattle.topo_model.specs.Along.{AreWays, Ways}
 use Rattle.topo_model.specs.Ways.{ways_under}
@@ -39,15 +39,15 @@ module _ (guards : Guards) (level : Level) where
     abbrev indexes : ℕ → List (List ℕ)
     indexes t = spread (is_used (untrimmed 0 0 ls).objects) 0 (left_indexes guards t (built 0 0 ls)) (arcs_of_layers ls)
 
-    pub indexes_once : is_at_once guards ≡ true → layers_indexes guards (layers_threshold guards level ls) ls
+    pub indexes_once : is_at_once guards ≡ true → layers_indexes guards (built_threshold guards level ls) ls
         ≡ spread (is_used (untrimmed 0 0 ls).objects) 0 (reduced_by (guard_of guards (built 0 0 ls)) level (arc_positions (built 0 0 ls))) (arcs_of_layers ls)
     indexes_once e =
-        ap (λ b. cond b (indexes (layers_threshold guards level ls)) (arc_indexes (layers_threshold guards level ls) ls)) e
+        ap (λ b. cond b (indexes (built_threshold guards level ls)) (arc_indexes (built_threshold guards level ls) ls)) e
         ∙ ap indexes (over_once (built 0 0 ls) (arcs_of_layers ls) e)
 
-    pub indexes_apart : is_at_once guards ≡ false → layers_indexes guards (layers_threshold guards level ls) ls ≡ arc_indexes (threshold_at level (arcs_of_layers ls)) ls
+    pub indexes_apart : is_at_once guards ≡ false → layers_indexes guards (built_threshold guards level ls) ls ≡ arc_indexes (threshold_at level (arcs_of_layers ls)) ls
     indexes_apart e =
-        ap (λ b. cond b (indexes (layers_threshold guards level ls)) (arc_indexes (layers_threshold guards level ls) ls)) e
+        ap (λ b. cond b (indexes (built_threshold guards level ls)) (arc_indexes (built_threshold guards level ls) ls)) e
         ∙ ap (λ t. arc_indexes t ls) (over_apart (built 0 0 ls) (arcs_of_layers ls) e)
 
 -- ---- the rings that have to stay

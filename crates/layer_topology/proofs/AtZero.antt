@@ -1,7 +1,8 @@
 -- At a threshold of zero no corner goes, whatever the guard, so what is written is what is written without one.
-use Rattle.std.proofs.Common.{◌≡◌, ◌∙◌, ℕ, Bool, true, false, List, map, ap, sym}
+use Rattle.std.proofs.Common.{◌≡◌, ◌∙◌, ℕ, Bool, true, false, List, map, refl, ap, sym}
+use Rattle.std.specs.Prelude.{◌&&◌}
 use Rattle.build_meaning.specs.ArcPositions.{arc_positions}
-use Rattle.build_meaning.specs.Left.{guard_of, left_indexes, left_of, no_guards}
+use Rattle.build_meaning.specs.Left.{guard_of, is_at_once, left_indexes, left_of, no_guards}
 use Rattle.build_meaning.specs.LeftLaws.{UnprotectedIsSimplified}
 use Rattle.build_meaning.specs.Protected.{protection, spared_by}
 use Rattle.build_meaning.specs.Simplified.{retained_arcs, simplified_by}
@@ -14,6 +15,7 @@ use Rattle.guarded_meaning.proofs.Weights.{kept_at_zero}
 use Rattle.elimination_meaning.specs.Elimination.{Vertex, numbered}
 use Rattle.layer_topology.specs.GuardLaws.{GuardedAtZero, UnguardedIsWritten, WrittenLeftLaw}
 use Rattle.layer_topology.specs.Written.{written}
+use Rattle.layer_topology.proofs.Guarded.{at_once_is}
 use Rattle.layer_topology.proofs.SparedAtZero.{nothing_goes, spared_alike}
 use Rattle.topojson_types.specs.Topologies.{Contents}
 
@@ -35,6 +37,13 @@ left_at by_weight plain guards y =
     ∙ ap (λ kept. simplified_by kept 0 y) (same_at_zero by_weight (guard_of guards y) (guard_of no_guards y) (arc_positions y))
     ∙ sym (plain_at plain false (left_indexes no_guards 0 y) y (nothing_goes by_weight (guard_of no_guards y) y))
 
+-- nothing goes first
+and_false : (b : Bool) → b && false ≡ false
+and_false true = refl
+and_false false = refl
+
 pub guarded_at_zero : KeptByWeight → UnprotectedIsSimplified → WrittenLeftLaw → UnguardedIsWritten → GuardedAtZero
 guarded_at_zero by_weight plain law unguarded guards count ls taken =
-    sym (law guards count 0 0 ls taken).simplified ∙ left_at by_weight plain guards (written count 0 0 ls) ∙ (law no_guards count 0 0 ls taken).simplified ∙ unguarded count 0 0 ls taken
+    let whole = written count 0 0 ls in
+    sym (law guards count 0 0 ls taken).simplified ∙ at_once_is guards 0 0 whole (and_false (is_at_once guards)) ∙ left_at by_weight plain guards whole ∙ (law no_guards count 0 0 ls taken).simplified
+    ∙ unguarded count 0 0 ls taken

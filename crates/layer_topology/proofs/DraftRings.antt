@@ -63,7 +63,7 @@ module _ (ls : Named) where
   arcs = arcs_of_layers ls
 
   -- the ring of a shape of the draft is that of the shape of the layers
-  ring_is : (s : Shape) → greatest_ring (arcs_of_layers ls) (relined refs s) ≡ map_some (put (refs true)) (greatest_of_layers ls s)
+  pub ring_is : (s : Shape) → greatest_ring (arcs_of_layers ls) (relined refs s) ≡ map_some (put (refs true)) (greatest_of_layers ls s)
   unfolding greatest_of_layers
   ring_is s = ring_among (arcs_of_layers ls) (relined refs s) (map (put (refs true)) (outer_rings s)) (rings_relined refs s) ∙ ring_made (arcs_of_layers ls) (refs true) (outer_rings s)
 

@@ -4,10 +4,15 @@ pub mod AtOnceRows
 pub mod AtZero
 pub mod Chosen
 pub mod Covered
+pub mod DraftInTurn
 pub mod DraftRings
+pub mod Drafted
+pub mod DroppedInTurn
+pub mod Full
 pub mod Guarded
 pub mod GuardedArcs
 pub mod GuardedMade
+pub mod InTurn
 pub mod Kept
 pub mod Laid
 pub mod Made
@@ -15,3 +20,4 @@ pub mod Origins
 pub mod Snapping
 pub mod SparedAtZero
 pub mod Split
+pub mod TurnsLeft

@@ -3,6 +3,7 @@
 use Rattle.std.proofs.Common.{arith, ◌≡◌, ◌∙◌, ℕ, suc, ◌+◌, ℤ, nat_lt, Bool, true, false, cond, not, List, [], ◌∷◌, map, Option, None, Some, refl, sym, ap, subst}
 use Rattle.std.specs.Prelude.{◌||◌, ◌&&◌}
 use Rattle.std.specs.List.{AllByRecursion, filter}
+use Rattle.build_meaning.proofs.AtFirst.{all_at_zero, each_retained}
 use Rattle.build_meaning.specs.Expected.{unless}
 use Rattle.build_meaning.specs.Trimming.{trimmed}
 use Rattle.elimination_meaning.specs.Elimination.{Vertex, numbered}
@@ -131,31 +132,5 @@ spared_alike kept y whole =
 
 -- ---- at a threshold of zero
 
-placed_indexes : (f : Point → Point) (i : ℕ) (ps : List Point) → map (λ v. v.index) (numbered i (map f ps)) ≡ map (λ v. v.index) (numbered i ps)
-placed_indexes f i [] = refl
-placed_indexes f i (p ∷ ps) = ap (λ is. i ∷ is) (placed_indexes f (i + 1) ps)
-
-all_stay : (transform : Option Transform) (arcs : List (List Point)) → retained_arcs (map (map (λ (v : Vertex). v.index)) (map (numbered 0) (placed_arcs transform arcs))) arcs ≡ arcs
-all_stay None [] = refl
-all_stay None (a ∷ arcs) =
-    ap (λ (b : List Point). b ∷ retained_arcs (map (map (λ (v : Vertex). v.index)) (map (numbered 0) arcs)) arcs) (all_retained a) ∙ ap (λ (bs : List (List Point)). a ∷ bs) (all_stay None arcs)
-all_stay (Some t) [] = refl
-all_stay (Some t) (a ∷ arcs) =
-    ap (λ (is : List ℕ). retained is a ∷ retained_arcs (map (map (λ (v : Vertex). v.index)) (map (numbered 0) (map (map (place_on t)) arcs))) arcs) (placed_indexes (place_on t) 0 a)
-    ∙ ap (λ (b : List Point). b ∷ retained_arcs (map (map (λ (v : Vertex). v.index)) (map (numbered 0) (map (map (place_on t)) arcs))) arcs) (all_retained a)
-    ∙ ap (λ (bs : List (List Point)). a ∷ bs) (all_stay (Some t) arcs)
-
-all_kept : (vs : List Vertex) → filter (λ v. true) vs ≡ vs
-all_kept [] = refl
-all_kept (v ∷ vs) = ap (λ ws. v ∷ ws) (all_kept vs)
-
-all_pass : (k : ℕ) (arcs : List (List Vertex)) → passing (λ x. true) k arcs ≡ arcs
-all_pass k [] = refl
-all_pass k (vs ∷ arcs) = ap (λ ws. ws ∷ passing (λ x. true) (suc k) arcs) (all_kept vs) ∙ ap (λ more. vs ∷ more) (all_pass (suc k) arcs)
-
 pub nothing_goes : KeptByWeight → (guard : Guard) (y : Contents) → retained_arcs (reduce_arcs guard 0 (arc_positions y)) y.arcs ≡ y.arcs
-unfolding reduce_arcs
-nothing_goes by_weight guard y =
-    ap (λ vs. retained_arcs (map (map (λ (v : Vertex). v.index)) vs) y.arcs)
-    (by_weight guard 0 (arc_positions y) ∙ (λ i. passing (λ x. kept_at_zero (weight guard (arc_positions y) x) i) 0 (map (numbered 0) (arc_positions y))) ∙ all_pass 0 (map (numbered 0) (arc_positions y)))
-    ∙ all_stay y.transform y.arcs
+nothing_goes by_weight guard y = ap (λ kept. retained_arcs kept y.arcs) (all_at_zero by_weight guard y) ∙ each_retained y.arcs

@@ -7,7 +7,8 @@ use Rattle.topojson_types.specs.Topologies.{Contents}
 use Rattle.topojson_types.specs.Validity.{IsTopology}
 use Rattle.build_meaning.specs.GridLaws.{EachFeature}
 use Rattle.build_meaning.specs.Layers.{Named, names_of}
-use Rattle.build_meaning.specs.Left.{no_guards, left_of}
+use Rattle.build_meaning.specs.InTurn.{left_in_turn, without_small}
+use Rattle.build_meaning.specs.Left.{no_guards}
 use Rattle.build_meaning.specs.SimplifiedLaws.{labels}
 use Rattle.build_meaning.specs.declared.guards.Guards.{Guards}
 use Rattle.layer_topology.specs.declared.level.Level.{Level}
@@ -17,17 +18,17 @@ use Rattle.layer_topology.specs.Written.{written, written_left, AreTaken}
 
 -- It is valid where the topology is, has the same names, identifiers, properties and transform, and its features nest no deeper. Where
 -- crossings may not be made it has no more of them, and where shapes stay each feature keeps its greatest ring.
-pub record IsLeftOf (guards : Guards) (t : ℕ) (y left : Contents) : Type 0 where
+pub record IsLeftOf (guards : Guards) (t limit : ℕ) (y left : Contents) : Type 0 where
   pub valid : IsTopology y → IsTopology left
   pub labels_stay : labels left ≡ labels y
   pub transform : left.transform ≡ y.transform
   pub nests : (n : ℕ) → AllByRecursion (λ f. bounds.feature_nesting f ≤ n) (bounds.objects_features y.objects)
       → AllByRecursion (λ f. bounds.feature_nesting f ≤ n) (bounds.objects_features left.objects)
-  pub crosses : guards.no_crossings ≡ true → CrossesNoMore y left
-  pub stays : guards.keep_shapes ≡ true → KeepsShapes guards t y left
+  pub crosses : guards.no_crossings ≡ true → CrossesNoMore y (without_small guards limit y) left
+  pub stays : guards.keep_shapes ≡ true → IsTopology y → KeepsShapes guards t limit y left
 
 abbrev pub LeftLaw : Type 0
-LeftLaw = (guards : Guards) (t limit : ℕ) (y : Contents) → IsLeftOf guards t y (left_of guards t limit y).contents
+LeftLaw = (guards : Guards) (t limit : ℕ) (y : Contents) → IsLeftOf guards t limit y (left_in_turn guards t limit y).contents
 
 -- at the threshold that is chosen for it the share of the positions between the ends of arcs stays that are reduced at once
 abbrev pub ShareStays : Type 0
@@ -42,8 +43,8 @@ pub record IsWrittenLeft (guards : Guards) (count : Option ℕ) (t limit : ℕ) 
   pub names : map (λ o. o.0) (written_left guards count t limit ls).contents.objects ≡ names_of ls
   pub nests : (n : ℕ) → EachFeature (λ f. feature_nesting f ≤ n) ls
       → AllByRecursion (λ f. bounds.feature_nesting f ≤ n) (bounds.objects_features (written_left guards count t limit ls).contents.objects)
-  pub is_left : IsLeftOf guards t (written count 0 0 ls) (written_left guards count t limit ls).contents
-  pub simplified : (left_of guards t limit (written count 0 0 ls)).contents ≡ (written_left guards count t limit ls).contents
+  pub is_left : IsLeftOf guards t limit (written count 0 0 ls) (written_left guards count t limit ls).contents
+  pub simplified : (left_in_turn guards t limit (written count 0 0 ls)).contents ≡ (written_left guards count t limit ls).contents
 
 abbrev pub WrittenLeftLaw : Type 0
 WrittenLeftLaw = (guards : Guards) (count : Option ℕ) (t limit : ℕ) (ls : Named) → AreTaken count ls → IsWrittenLeft guards count t limit ls

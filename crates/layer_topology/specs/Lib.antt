@@ -1,4 +1,5 @@
 pub mod GuardLaws
+pub mod InTurn
 pub mod Laws
 pub mod Levels
 pub mod Promises

@@ -10,7 +10,7 @@ use Rattle.guarded_meaning.specs.Segments.{meets_badly}
 use Rattle.topojson_types.specs.Topologies.{Contents}
 use Rattle.build_meaning.specs.ArcPositions.{arc_positions, crossings_of}
 use Rattle.build_meaning.specs.GridLaws.{all_features}
-use Rattle.build_meaning.specs.Left.{left_arcs}
+use Rattle.build_meaning.specs.InTurn.{arcs_in_turn}
 use Rattle.build_meaning.specs.LeftLaws.{HasRing}
 use Rattle.build_meaning.specs.Protected.{greatest_ring, protected_of}
 use Rattle.build_meaning.specs.Trimming.{keep_from}
@@ -29,16 +29,16 @@ pub record HasOrigins (before after : Contents) : Type 0 where
   pub met : (new other : Neighbours) → In new (arc_segments vertices) → In other (arc_segments vertices) → new ≢ other
       → meets_badly (segment_of new) (segment_of other) ≡ true → MetBefore (arc_segments (map (numbered 0) (arc_positions before))) new other
 
--- no more pairs of segments of the second topology meet badly than of the first, none where none of the first do, and each comes of one of the
--- first's
-pub record CrossesNoMore (before after : Contents) : Type 0 where
+-- No more pairs of segments of the last topology meet badly than of the first, and none where none of the first do; and each comes of one of the second's,
+-- which is the first one without what goes before arcs are reduced.
+pub record CrossesNoMore (before full after : Contents) : Type 0 where
   pub fewer : crossings_of after ≤ crossings_of before
   pub none : crossings_of before ≡ 0 → crossings_of after ≡ 0
-  pub origins : HasOrigins before after
+  pub origins : HasOrigins full after
 
 -- Each feature of the first topology with an outer ring of four positions or more has the one that encloses most, the first of equals, in the
 -- second topology: a ring of the same arcs, as they are reduced at this threshold, and with four positions or more.
-abbrev pub KeepsShapes : Guards → ℕ → Contents → Contents → Type 0
-KeepsShapes guards t before after =
-    EachTo (λ f g. (refs : List ℤ) → protected_of (greatest_ring (arc_positions before)) g ≡ Some refs → HasRing (left_arcs guards t before) (arc_positions after) refs f)
+abbrev pub KeepsShapes : Guards → ℕ → ℕ → Contents → Contents → Type 0
+KeepsShapes guards t limit before after =
+    EachTo (λ f g. (refs : List ℤ) → protected_of (greatest_ring (arc_positions before)) g ≡ Some refs → HasRing (arcs_in_turn guards t limit before) (arc_positions after) refs f)
     (all_features after) (all_features before)

@@ -1,12 +1,12 @@
 // Cells in place of positions, in arcs, points and MultiPoints.
-ghost use Rattle.std.specs.Prelude.{◌≡◌, Some, map};
+ghost use Rattle.std.specs.Prelude.{◌≡◌, None, Some, map};
 ghost use Rattle.std.specs.List.{AllByRecursion};
 ghost use Rattle.build_meaning.specs.Quantized.{IsOn};
 ghost use Rattle.grid_snap.specs.Axes.{cell};
 ghost use Rattle.topo_model.specs.ArcUses.{as_they_are};
 ghost use Rattle.layer_topology.specs.Replacing.{cell_if_covered};
 
-use geojson_types::Position;
+use geojson_types::{Cause, Position};
 use grid_snap::Grid;
 use json_value::Items;
 use std::marker::Model;
@@ -88,11 +88,17 @@ impl<'a> Keeps for Gridding<'a> {
 
     ghost keeps = { λ grid. as_they_are };
 
+    ghost goes = { λ grid closed l. None };
+
     fn place(&self, cell: Cell) -> Cell {
         cell_if_covered(self.grid, cell)
     }
 
-    fn keep(&self, _closed: bool, _refs: &mut Items<ArcRef>) -> bool {
-        true
+    fn keep(&self, _closed: bool, _refs: &mut Items<ArcRef>) -> Option<Cause> {
+        None
+    }
+
+    fn hole_goes(&self, _outer: &[ArcRef], _hole: &[ArcRef]) -> Option<Cause> {
+        None
     }
 }

@@ -12,7 +12,7 @@ ghost use Rattle.build_meaning.specs.Simplified.{objects_pruned, retained_arcs};
 ghost use Rattle.build_meaning.specs.Trimming.{is_used};
 ghost use Rattle.geometry.specs.Lists.{map_some};
 ghost use Rattle.layer_topology.specs.Levels.{calls_over, chosen_for, is_simplifying_level};
-ghost use Rattle.layer_topology.specs.Written.{layers_threshold};
+ghost use Rattle.layer_topology.specs.Written.{built_threshold};
 ghost use Rattle.topo_model.specs.DraftUses.{with_refs};
 ghost use Rattle.topo_model.specs.Retaining.{IsDraftOf};
 ghost use Rattle.topo_model.specs.Uses.{answers};
@@ -108,11 +108,11 @@ fn retained_at_once(
     requires level { is_simplifying_level level ≡ true }
     requires draft { (ls : Named) × IsDraftOf ls objects.now × (arcs.items ≡ arcs_of_layers ls) }
     ensures arcs { IfOk result (λ r. (ls : Named) → IsDraftOf ls objects.now → arcs.items ≡ arcs_of_layers ls
-        → r.arcs.items ≡ retained_arcs (layers_indexes guards (layers_threshold guards level ls) ls) (arcs_of_layers ls)) }
+        → r.arcs.items ≡ retained_arcs (layers_indexes guards (built_threshold guards level ls) ls) (arcs_of_layers ls)) }
     ensures counts { IfOk result (λ r. r.counts.items ≡ counts.items) }
     ensures ways { IfOk result (λ r. map (map_some (λ w. w.items)) r.ways.items ≡ ways_under guards.keep_shapes arcs.items objects.now) }
     ensures chosen { IfOk result (λ r. (ls : Named) → IsDraftOf ls objects.now → arcs.items ≡ arcs_of_layers ls
-        → r.chosen ≡ chosen_for level (layers_threshold guards level ls)) }
+        → r.chosen ≡ chosen_for level (built_threshold guards level ls)) }
 {
     built_is_valid();
     draft_uses_at_zero();
@@ -143,11 +143,11 @@ pub(crate) fn retained_of_draft<Q: Reducer>(
     requires draft { (ls : Named) × IsDraftOf ls objects.now × (arcs.items ≡ arcs_of_layers ls) }
     requires long { AllByRecursion (λ arc. 2 ≤ length arc) arcs.items }
     ensures arcs { IfOk result (λ r. (ls : Named) → IsDraftOf ls objects.now → arcs.items ≡ arcs_of_layers ls
-        → r.arcs.items ≡ retained_arcs (layers_indexes guards (layers_threshold guards level ls) ls) (arcs_of_layers ls)) }
+        → r.arcs.items ≡ retained_arcs (layers_indexes guards (built_threshold guards level ls) ls) (arcs_of_layers ls)) }
     ensures counts { IfOk result (λ r. r.counts.items ≡ map length arcs.items) }
     ensures ways { IfOk result (λ r. map (map_some (λ w. w.items)) r.ways.items ≡ ways_under guards.keep_shapes arcs.items objects.now) }
     ensures chosen { IfOk result (λ r. (ls : Named) → IsDraftOf ls objects.now → arcs.items ≡ arcs_of_layers ls
-        → r.chosen ≡ chosen_for level (layers_threshold guards level ls)) }
+        → r.chosen ≡ chosen_for level (built_threshold guards level ls)) }
     ensures called { IfOk result (λ _. Q.calls reducer.new ≡ Q.calls reducer.old ++ calls_over guards level arcs.items) }
 {
     let counts = position_counts(alloc, &arcs)?;

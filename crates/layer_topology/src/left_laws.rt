@@ -3,9 +3,11 @@ ghost use Rattle.layer_topology.specs.GuardLaws.{GuardedAtZero, LeftLaw, ShareSt
 
 use crate::laws::written_laws;
 use build_meaning::{
-    crossings_never_rise, layers_are_left_of_built, left_arcs_are_reduced, left_is_valid,
-    left_keeps, none_stays_none, shapes_stay, snapped_are_on, spared_nests_no_deeper,
-    unguarded_is_built, unprotected_is_simplified,
+    built_cells_are_on, crossings_never_rise, layers_are_left_of_built, left_arcs_are_reduced,
+    left_is_valid, left_keeps, left_on_grid, shapes_stay_in_turn, snapped_are_on,
+    spared_nests_no_deeper, unguarded_is_built, unprotected_is_simplified,
+    without_small_crosses_no_more, without_small_is_valid, without_small_keeps,
+    without_small_on_grid,
 };
 use guarded_meaning::{kept_by_weight, no_crossings_law, share_stays as share_stays_at_once};
 
@@ -18,11 +20,13 @@ pub fn left_law()
     left_is_valid();
     left_keeps();
     crossings_never_rise();
-    none_stays_none();
     no_crossings_law();
     left_arcs_are_reduced();
     spared_nests_no_deeper();
-    shapes_stay();
+    without_small_is_valid();
+    without_small_keeps();
+    without_small_crosses_no_more();
+    shapes_stay_in_turn();
 }
 
 /// Of arcs that are reduced at once at least the share stays that is asked for, whatever holds corners: of the positions between the ends, before
@@ -42,6 +46,10 @@ pub fn written_left_law()
     left_law();
     layers_are_left_of_built();
     snapped_are_on();
+    built_cells_are_on();
+    left_on_grid();
+    without_small_on_grid();
+    without_small_keeps();
     written_laws();
 }
 

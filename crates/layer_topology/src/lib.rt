@@ -10,6 +10,7 @@ mod cells;
 mod choosing;
 mod drafts;
 mod guarding;
+mod in_turn;
 mod laws;
 mod layers;
 mod left_laws;
@@ -21,6 +22,7 @@ mod splitting;
 mod topologies;
 mod topology;
 mod transforms;
+mod used;
 
 pub use build_meaning::Guards;
 pub use laws::written_laws;

@@ -5,30 +5,33 @@ ghost use Rattle.arc_table.specs.Arcs.{table_of};
 ghost use Rattle.build_meaning.specs.Assembled.{arcs_of_layers};
 ghost use Rattle.build_meaning.specs.BuiltLaws.{AreSound};
 ghost use Rattle.build_meaning.specs.Layers.{Named, layers_of, named_lines_and_rings, names_of};
-ghost use Rattle.build_meaning.specs.LeftOfLayers as meaning;
+ghost use Rattle.build_meaning.specs.InTurn as meaning;
+ghost use Rattle.build_meaning.specs.LeftOfLayers.{left_of_layers as left_at_once};
 ghost use Rattle.build_meaning.specs.Quantized.{AreInputs, IsCount, named_grid};
 ghost use Rattle.cutter.specs.Slices.{split_of};
 ghost use Rattle.geometry.specs.Units.{threshold_limit};
 ghost use Rattle.layer_topology.specs.Levels.{calls_over, chosen_for, is_level, is_simplifying_level};
 ghost use Rattle.layer_topology.specs.Topologies.{IsLeft};
-ghost use Rattle.layer_topology.specs.Written.{AreTaken, layers_threshold, snapped_to, written_left, written_threshold};
+ghost use Rattle.layer_topology.specs.Written.{AreTaken, built_threshold, layers_threshold, snapped_to, written_left, written_threshold};
 ghost use Rattle.linework.specs.Linework.{linework};
 ghost use Rattle.linework.specs.Outlines.{IsRingIfClosed, is_short_outline};
 ghost use Rattle.topojson_types.specs.Validity.{AreDistinct};
 ghost use Rattle.topo_model.specs.Retaining.{IsDraftOf};
 
 use crate::drafts::retained_of_draft;
+use crate::guarding::whole_arcs;
+use crate::in_turn::{goes_first, left_in_turn};
 use crate::layers::snap_layers;
 use crate::reduction::Reduction;
 use crate::topology::on_grid;
 use arc_table::Table;
 use build_meaning::{
-    addresses_do_not_matter, built_cells_are_on, layers_indexes_reach, layers_left_are_on,
-    left_on_grid, snapped_are_on,
+    addresses_do_not_matter, built_cells_are_on, first_of_built, layers_indexes_reach,
+    layers_left_are_on, left_on_grid, snapped_are_on, without_small_keeps, without_small_on_grid,
 };
 use cutter::{Pieces, cut};
 use effective_area::Reducer;
-use elimination_meaning::nothing_is_new;
+use elimination_meaning::{ends_stay, nothing_is_new, zero_law};
 use extraction::ExtractedLayer;
 use geojson_types::Position;
 use grid_snap::Grid;
@@ -98,8 +101,64 @@ fn draft_and_arcs(
     }
 }
 
-/// What is left of named layers over the arcs of their lines.
+/// What is left of named layers over the arcs of their lines, where nothing goes before these are reduced.
 #[tactic(auto, using(topo_model::proofs::Assembled::draft_of))]
+fn left_of_drafted<Q: Reducer>(
+    alloc: Global,
+    reducer: &mut Q,
+    seed: u64,
+    layers: Vec<(OwnText, ExtractedLayer)>,
+    asked: Reduction,
+) -> Result<Left, Memory>
+    requires level { is_simplifying_level asked.level ≡ true }
+    requires sound { AreSound layers.items }
+    requires names { AreDistinct (names_of layers.items) }
+    requires limit { asked.ring_limit ≤ threshold_limit }
+    ensures left { IfOk result
+        (λ r. IsLeft (left_at_once asked.guards (built_threshold asked.guards asked.level layers.items) asked.ring_limit layers.items)
+        r.topology r.dropped.items r.removed_count) }
+    ensures chosen { IfOk result (λ r. r.chosen ≡ chosen_for asked.level (built_threshold asked.guards asked.level layers.items)) }
+    ensures called { IfOk result
+        (λ _. Q.calls reducer.new ≡ Q.calls reducer.old ++ calls_over asked.guards asked.level (arcs_of_layers layers.items)) }
+    ensures few { IfOk result (λ r. length r.topology.arcs < 2 ^ 63) }
+{
+    layers_indexes_reach();
+    let (objects, arcs) = draft_and_arcs(alloc, seed, layers)?;
+    let retained = retained_of_draft(alloc, reducer, &objects, arcs, asked.guards, asked.level)?;
+    let left = assemble_draft(alloc, objects, retained, asked.ring_limit)?;
+    Ok(left)
+}
+
+/// What is left of named layers over the arcs of their lines, where small rings go first.
+fn left_of_fewer(
+    alloc: Global,
+    seed: u64,
+    layers: Vec<(OwnText, ExtractedLayer)>,
+    asked: Reduction,
+) -> Result<Left, Memory>
+    requires level { is_simplifying_level asked.level ≡ true }
+    requires first { meaning.goes_first asked.guards asked.ring_limit ≡ true }
+    requires sound { AreSound layers.items }
+    requires names { AreDistinct (names_of layers.items) }
+    requires limit { asked.ring_limit ≤ threshold_limit }
+    ensures left { IfOk result
+        (λ r. IsLeft (meaning.layers_left_in_turn asked.guards (layers_threshold asked.guards asked.level asked.ring_limit layers.items) asked.ring_limit layers.items)
+        r.topology r.dropped.items r.removed_count) }
+    ensures chosen { IfOk result (λ r. r.chosen ≡ chosen_for asked.level (layers_threshold asked.guards asked.level asked.ring_limit layers.items)) }
+    ensures few { IfOk result (λ r. length r.topology.arcs < 2 ^ 63) }
+{
+    zero_law();
+    ends_stay();
+    nothing_is_new();
+    first_of_built();
+    let (objects, arcs) = draft_and_arcs(alloc, seed, layers)?;
+    let cells = whole_arcs(alloc, &arcs)?;
+    drop(arcs);
+    let left = left_in_turn(alloc, objects, &cells, &cells, None, asked)?;
+    Ok(left)
+}
+
+/// What is left of named layers over the arcs of their lines.
 fn left_of_layers<Q: Reducer>(
     alloc: Global,
     reducer: &mut Q,
@@ -112,18 +171,17 @@ fn left_of_layers<Q: Reducer>(
     requires names { AreDistinct (names_of layers.items) }
     requires limit { asked.ring_limit ≤ threshold_limit }
     ensures left { IfOk result
-        (λ r. IsLeft (meaning.left_of_layers asked.guards (layers_threshold asked.guards asked.level layers.items) asked.ring_limit layers.items)
+        (λ r. IsLeft (meaning.layers_left_in_turn asked.guards (layers_threshold asked.guards asked.level asked.ring_limit layers.items) asked.ring_limit layers.items)
         r.topology r.dropped.items r.removed_count) }
-    ensures chosen { IfOk result (λ r. r.chosen ≡ chosen_for asked.level (layers_threshold asked.guards asked.level layers.items)) }
+    ensures chosen { IfOk result (λ r. r.chosen ≡ chosen_for asked.level (layers_threshold asked.guards asked.level asked.ring_limit layers.items)) }
     ensures called { IfOk result
         (λ _. Q.calls reducer.new ≡ Q.calls reducer.old ++ calls_over asked.guards asked.level (arcs_of_layers layers.items)) }
     ensures few { IfOk result (λ r. length r.topology.arcs < 2 ^ 63) }
 {
-    layers_indexes_reach();
-    let (objects, arcs) = draft_and_arcs(alloc, seed, layers)?;
-    let retained = retained_of_draft(alloc, reducer, &objects, arcs, asked.guards, asked.level)?;
-    let left = assemble_draft(alloc, objects, retained, asked.ring_limit)?;
-    Ok(left)
+    if goes_first(asked) {
+        return left_of_fewer(alloc, seed, layers, asked);
+    }
+    left_of_drafted(alloc, reducer, seed, layers, asked)
 }
 
 /// The layers snapped to the grid that is asked for, if one is, and the grid.
@@ -145,8 +203,8 @@ fn snapped_layers(
 /// that they share, each arc is reduced once at the threshold (twice an area, in square units) that the level gives or for which all arcs
 /// keep its share, rings that then enclose less than half the ring limit are left out, and positions on a grid become cells of it. Where
 /// the guards forbid crossings or shapes stay, the arcs that the topology has at zero are reduced at once in place of that, a share is one of
-/// their positions, and the others stay whole. Where shapes stay, in each feature the outer ring is left that encloses most before, of those with
-/// four positions or more.
+/// their positions, and the others stay whole; where there is a ring limit, too, what is small as it stands goes before that, with the arcs that
+/// nothing else uses. Where shapes stay, in each feature the outer ring is left that encloses most before, of those with four positions or more.
 pub fn topology_of_layers<Q: Reducer>(
     alloc: Global,
     reducer: &mut Q,
@@ -159,18 +217,19 @@ pub fn topology_of_layers<Q: Reducer>(
     requires taken { AreTaken grid layers.items }
     requires limit { asked.ring_limit ≤ threshold_limit }
     ensures left { IfOk result
-        (λ r. IsLeft (written_left asked.guards grid (written_threshold asked.guards grid asked.level layers.items) asked.ring_limit layers.items)
+        (λ r. IsLeft (written_left asked.guards grid (written_threshold asked.guards grid asked.level asked.ring_limit layers.items) asked.ring_limit layers.items)
         r.topology r.dropped.items r.removed_count) }
-    ensures chosen { IfOk result (λ r. r.chosen ≡ chosen_for asked.level (written_threshold asked.guards grid asked.level layers.items)) }
+    ensures chosen { IfOk result (λ r. r.chosen ≡ chosen_for asked.level (written_threshold asked.guards grid asked.level asked.ring_limit layers.items)) }
     ensures called { IfOk result
         (λ _. Q.calls reducer.new ≡ Q.calls reducer.old ++ calls_over asked.guards asked.level (arcs_of_layers (snapped_to grid layers.items))) }
     ensures few { IfOk result (λ r. length r.topology.arcs < 2 ^ 63) }
 {
     snapped_are_on();
     built_cells_are_on();
-    nothing_is_new();
     left_on_grid();
     layers_left_are_on();
+    without_small_on_grid();
+    without_small_keeps();
     let (snapped, grid) = snapped_layers(layers, grid);
     let left = left_of_layers(alloc, reducer, seed, snapped, asked)?;
     let Left {

@@ -3,6 +3,7 @@ ghost use Rattle.std.specs.Prelude.{◌≡◌, ◌<◌, ◌≤◌, ◌∷◌, �
 ghost use Rattle.std.specs.List.{AllByRecursion};
 ghost use Rattle.std.specs.Option.{option_copied};
 ghost use Rattle.build_meaning.specs.ArcPositions as spec;
+ghost use Rattle.build_meaning.specs.InTurn.{goes_first as goes_first_of, left_in_turn as left_in_turn_of, without_small};
 ghost use Rattle.build_meaning.specs.Left as meaning;
 ghost use Rattle.build_meaning.specs.Left.{is_at_once, left_by, left_indexes, left_of, no_guards};
 ghost use Rattle.build_meaning.specs.Protected.{Protection};
@@ -24,6 +25,7 @@ ghost use Rattle.topojson_types.specs.Validity.{IsArc};
 use crate::at_once::kept_at_once;
 use crate::choosing::{kept_by_share, reduced_line};
 use crate::drafts::Protected;
+use crate::in_turn::{goes_first, left_in_turn};
 use crate::level::Level;
 use crate::reduction::Reduction;
 use build_meaning::{
@@ -36,7 +38,8 @@ use json_value::Items;
 use owned_values::Memory;
 use std::alloc::Global;
 use topo_model::{
-    Left, Retained, cells_of_all, position_counts, reassemble, retained_arc, rings_to_stay,
+    Left, Retained, cells_of_all, placed_arcs, position_counts, reassemble, retained_arc,
+    rings_to_stay,
 };
 use topojson_types::{Cell, Topology, Transform, positions};
 
@@ -364,9 +367,32 @@ fn left_apart<Q: Reducer>(
     }
 }
 
+/// What is left of a topology where small rings go first.
+fn left_of_fewer(alloc: Global, topology: Topology, asked: Reduction) -> Result<Left, Memory>
+    requires level { is_simplifying_level asked.level ≡ true }
+    requires first { goes_first_of asked.guards asked.ring_limit ≡ true }
+    requires limit { asked.ring_limit ≤ threshold_limit }
+    ensures left { IfOk result
+        (λ r. IsLeft (left_in_turn_of asked.guards (threshold_of asked.guards asked.level (without_small asked.guards asked.ring_limit topology)) asked.ring_limit topology)
+        r.topology r.dropped.items r.removed_count) }
+    ensures chosen { IfOk result (λ r. r.chosen ≡ chosen_for asked.level (threshold_of asked.guards asked.level (without_small asked.guards asked.ring_limit topology))) }
+{
+    let (objects, arcs, transform) = topology.into_parts();
+    let placed = placed_arcs(alloc, arcs.as_slice(), transform.as_ref())?;
+    let left = left_in_turn(
+        alloc,
+        objects.into_inner(),
+        arcs.as_slice(),
+        &placed,
+        transform,
+        asked,
+    )?;
+    Ok(left)
+}
+
 /// What is left of a topology: its arcs are reduced, at once where guards are asked for, and each by itself otherwise, without the lines and rings
-/// that are then left with too few positions, rings under the limit, and arcs that no other line uses. The cells that stay keep their numbers, and
-/// the transform stays.
+/// that are then left with too few positions, rings under the limit, and arcs that no other line uses. Where guards are asked for and there is a
+/// limit, those that are small as they stand go before that, and hold nothing. The cells that stay keep their numbers, and the transform stays.
 pub fn left_of_topology<Q: Reducer>(
     alloc: Global,
     reducer: &mut Q,
@@ -376,9 +402,9 @@ pub fn left_of_topology<Q: Reducer>(
     requires level { is_simplifying_level asked.level ≡ true }
     requires limit { asked.ring_limit ≤ threshold_limit }
     ensures left { IfOk result
-        (λ r. IsLeft (left_of asked.guards (threshold_of asked.guards asked.level topology) asked.ring_limit topology)
+        (λ r. IsLeft (left_in_turn_of asked.guards (threshold_of asked.guards asked.level (without_small asked.guards asked.ring_limit topology)) asked.ring_limit topology)
         r.topology r.dropped.items r.removed_count) }
-    ensures chosen { IfOk result (λ r. r.chosen ≡ chosen_for asked.level (threshold_of asked.guards asked.level topology)) }
+    ensures chosen { IfOk result (λ r. r.chosen ≡ chosen_for asked.level (threshold_of asked.guards asked.level (without_small asked.guards asked.ring_limit topology))) }
     ensures called { IfOk result (λ _. Q.calls reducer.new
         ≡ Q.calls reducer.old ++ calls_over asked.guards asked.level (map (placed_cells topology.transform) topology.arcs)) }
 {
@@ -387,6 +413,9 @@ pub fn left_of_topology<Q: Reducer>(
         level,
         ring_limit,
     } = asked;
+    if goes_first(asked) {
+        return left_of_fewer(alloc, topology, asked);
+    }
     if guards.no_crossings || guards.keep_shapes {
         return left_at_once(alloc, topology, guards, level, ring_limit);
     }

@@ -22,7 +22,7 @@ use Rattle.inputs.specs.declared.fault.BuildFault.{BuildFault}
 use Rattle.inputs.specs.declared.fault.BuildFault.TheVariants.{Write, Memory}
 use Rattle.reports.specs.declared.report.Report.{Report}
 use Rattle.reports.specs.Summaries.{report_with}
-use Rattle.mapchain_engine.specs.Building.{threshold_for, whole_for, written_for, BuildingLaws, IsGuarded, SaysTopology, Builds, IsBuilt, IsLateFault, Sends, report_of}
+use Rattle.mapchain_engine.specs.Building.{threshold_for, whole_for, full_for, written_for, BuildingLaws, IsGuarded, SaysTopology, Builds, IsBuilt, IsLateFault, Sends, report_of}
 use Rattle.mapchain_engine.specs.Simplified.{report_of_left}
 use Rattle.mapchain_engine.specs.BuildLaws.{LayerLaws}
 use Rattle.mapchain_engine.specs.declared.options.Options.{Options}
@@ -66,9 +66,9 @@ module _ (laws : BuildingLaws) (o : Options) where
         whole = laws.written.back o.grid 0 0 ls are;
         labels_stay = left.is_left.labels_stay;
         crosses = left.is_left.crosses;
-        stays = left.is_left.stays;
+        stays = λ k. left.is_left.stays k (laws.written.valid o.grid 0 0 ls are);
         left = sym left.simplified;
-        share = laws.share o.guards o.level (whole_for o ls) (simplifying_level_of o);
+        share = laws.share o.guards o.level (full_for o ls) (simplifying_level_of o);
       }
 
   says : (ls : Named) → AllTaken ls → AreDistinct (names_of ls) → AllByRecursion (λ n. IsUtf8 n) (names_of ls) → length (written_for o ls).arcs < 2 ^ 63 → SaysTopology o ls (text_for o ls)

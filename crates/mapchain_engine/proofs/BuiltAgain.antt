@@ -3,7 +3,7 @@ use Rattle.std.proofs.Common.{◌≡◌, ℕ, Bool, true, false, cond, List, [],
 use Rattle.std.proofs.Math.Seq.{take-length}
 use Rattle.std.proofs.lemmas.List.{append_cancel_left}
 use Rattle.std.specs.Io.KnownBytes.{Appends}
-use Rattle.std.specs.Prelude.{IfSome}
+use Rattle.std.specs.Prelude.{◌&&◌, nat_lt, IfSome}
 use Rattle.std.specs.List.{AllByRecursion}
 use Rattle.byte_ends.specs.Ends.{Fed, Drained, Takes}
 use Rattle.byte_ends.specs.Writes.{WritesAll}
@@ -20,15 +20,17 @@ use Rattle.reports.specs.declared.summary.Summary.{Summary}
 use Rattle.build_meaning.specs.declared.guards.Guards.{Guards}
 use Rattle.layer_topology.specs.declared.level.Level.{Level}
 use Rattle.layer_topology.specs.declared.level.Level.TheVariants.{Fixed}
-use Rattle.build_meaning.specs.Left.{guard_of, is_at_once, left_of}
+use Rattle.build_meaning.specs.InTurn.{first_whole, left_in_turn, without_small}
+use Rattle.build_meaning.specs.Left.{guard_of, is_at_once}
+use Rattle.build_meaning.specs.Trimming.{trimmed}
 use Rattle.layer_topology.specs.GuardLaws.{GuardedAtZero, WrittenLeftLaw}
-use Rattle.layer_topology.specs.Levels.{chosen_for, threshold_at, threshold_by, threshold_of, threshold_over}
+use Rattle.layer_topology.specs.Levels.{chosen_for, threshold_at, threshold_by, threshold_over}
 use Rattle.mapchain_engine.specs.Building.{expected_for, snapped_for, threshold_for, whole_for, written_for, IsBuilt}
 use Rattle.mapchain_engine.specs.BuildLaws.{ReadAreTaken}
 use Rattle.mapchain_engine.specs.declared.options.Options.{Options}
 use Rattle.json_value.specs.Limits.{topology_depth}
 use Rattle.mapchain_engine.specs.Files.{IsTopologyRead, IsSummarised}
-use Rattle.mapchain_engine.specs.Simplified.{simplified_contents_text, IsSimplified}
+use Rattle.mapchain_engine.specs.Simplified.{simplified_contents_text, IsSimplified, threshold_for as simplified_threshold}
 use Rattle.layer_topology.specs.Written.{snapped_to, written_left, written as written_on, AreTaken}
 use Rattle.build_meaning.specs.Assembled.{arcs_of_layers}
 use Rattle.build_meaning.specs.ArcPositions.{arc_positions}
@@ -113,13 +115,13 @@ module _ (one_value : OneValue) (o : Options) (olds news : Sources) (sink_old si
 
   -- at a level by which its arcs are reduced at this threshold, what is left of it under guards is what is then written of the layers under them
   simplified_text : GuardedAtZero → WrittenLeftLaw → AreTaken o.grid is.layers → (guards : Guards) (level : Level) (t limit : ℕ)
-      → threshold_of guards level is.builds.topology.contents ≡ t → threshold_for o is.layers ≡ 0 → o.ring_limit ≡ 0
+      → simplified_threshold guards level limit is.builds.topology.contents ≡ t → threshold_for o is.layers ≡ 0 → o.ring_limit ≡ 0
       → (after : Fed) (contents : Contents) (counts : Counts) → IsTopologyRead source after contents counts
       → simplified_contents_text guards level limit contents ≡ json_text (topology_value (written_left guards o.grid t limit is.layers).contents)
   simplified_text at_zero law are guards level t limit at zero none after contents counts read =
       ap (simplified_contents_text guards level limit) (same_contents after contents counts read)
-      ∙ ap (λ n. json_text (topology_value (left_of guards n limit is.builds.topology.contents).contents)) at
-      ∙ ap (λ y. json_text (topology_value (left_of guards t limit y).contents)) (zero_is at_zero are zero none)
+      ∙ ap (λ n. json_text (topology_value (left_in_turn guards n limit is.builds.topology.contents).contents)) at
+      ∙ ap (λ y. json_text (topology_value (left_in_turn guards t limit y).contents)) (zero_is at_zero are zero none)
       ∙ ap (λ y. json_text (topology_value y)) (law guards o.grid t limit is.layers are).simplified
 
 -- the arcs matter to a threshold only where nothing is asked for
@@ -132,13 +134,17 @@ same_over guards level y xs ys same = by (is_at_once guards) same
     by true same = refl
     by false same = ap (threshold_at level) (same refl)
 
+-- where nothing is asked for nothing goes first
+none_first : (guards : Guards) (limit : ℕ) (y : Contents) → is_at_once guards ≡ false → without_small guards limit y ≡ y
+none_first guards limit y e = ap (λ b. cond (b && nat_lt 0 limit) (trimmed (first_whole guards limit y)) y) e
+
 module _ (one_value : OneValue) (valid : ReadsValid) (may : ReadAreTaken) (o p : Options) (olds news : Sources) (sink_old sink_new : Drained) (report : Report)
     (full : IsBuilt o olds news sink_old sink_new report)
     (more_olds more_news : Sources) (more_old more_new : Drained) (more_report : Report) (small : IsBuilt p more_olds more_news more_old more_new more_report)
     (zero : threshold_for o full.layers ≡ 0) (none : o.ring_limit ≡ 0) (grid : p.grid ≡ o.grid) (same : small.layers ≡ full.layers)
     (source after : Fed) (out_old out_new : Drained) (simplified : Report) (from : IsWrittenTo sink_old sink_new source) where
   -- at a level by which the arcs of the first are reduced at the threshold of the second
-  built_at : GuardedAtZero → WrittenLeftLaw → (level : Level) → threshold_of p.guards level full.builds.topology.contents ≡ threshold_for p small.layers
+  built_at : GuardedAtZero → WrittenLeftLaw → (level : Level) → simplified_threshold p.guards level p.ring_limit full.builds.topology.contents ≡ threshold_for p small.layers
       → IsSimplified p.guards level p.ring_limit source after out_old out_new simplified → Takes out_old out_new small.text (length small.text)
   built_at at_zero law level at s =
       let says = small.builds.topology in
@@ -164,17 +170,18 @@ module _ (one_value : OneValue) (valid : ReadsValid) (may : ReadAreTaken) (o p :
       ∙ ap (λ g. written_on g 0 0 full.layers) (sym grid) ∙ ap (λ ls. written_on p.grid 0 0 ls) (sym same)
 
   -- so at one level both have the same threshold, with guards by what is written at zero, and without by the arcs of the layers
-  same_thresholds : GuardedAtZero → (is_at_once p.guards ≡ false → HasEachArc o full.layers) → threshold_of p.guards p.level full.builds.topology.contents ≡ threshold_for p small.layers
+  same_thresholds : GuardedAtZero → (is_at_once p.guards ≡ false → HasEachArc o full.layers) → simplified_threshold p.guards p.level p.ring_limit full.builds.topology.contents ≡ threshold_for p small.layers
   same_thresholds at_zero has =
       let y = full.builds.topology.contents in
-      same_over p.guards p.level y (arc_positions y) (arcs_of_layers (snapped_for p small.layers)) (λ plain. same_arcs (has plain))
-      ∙ ap (λ z. threshold_over p.guards p.level z (arcs_of_layers (snapped_for p small.layers))) (whole_at_zero at_zero)
+      let few = without_small p.guards p.ring_limit y in
+      same_over p.guards p.level few (arc_positions few) (arcs_of_layers (snapped_for p small.layers)) (λ plain. ap arc_positions (none_first p.guards p.ring_limit y plain) ∙ same_arcs (has plain))
+      ∙ ap (λ z. threshold_over p.guards p.level (without_small p.guards p.ring_limit z) (arcs_of_layers (snapped_for p small.layers))) (whole_at_zero at_zero)
 
   same_chosen : GuardedAtZero → (is_at_once p.guards ≡ false → HasEachArc o full.layers) → IsSimplified p.guards p.level p.ring_limit source after out_old out_new simplified
       → simplified.chosen ≡ more_report.chosen
   same_chosen at_zero has s =
       ap (λ (r : Report). r.chosen) s.reported
-      ∙ ap (λ y. chosen_for p.level (threshold_of p.guards p.level y)) (same_contents one_value o olds news sink_old sink_new report full source from after s.contents s.counts s.read)
+      ∙ ap (λ y. chosen_for p.level (simplified_threshold p.guards p.level p.ring_limit y)) (same_contents one_value o olds news sink_old sink_new report full source from after s.contents s.counts s.read)
       ∙ ap (chosen_for p.level) (same_thresholds at_zero has) ∙ sym (ap (λ (r : Report). r.chosen) small.reported)
 
 -- a threshold that is given is the same with guards and without

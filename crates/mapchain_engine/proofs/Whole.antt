@@ -6,16 +6,18 @@ use Rattle.inputs.specs.declared.file_fault.FileFault.{FileFault}
 use Rattle.inputs.specs.declared.file_fault.FileFault.TheVariants.{Write}
 use Rattle.json_value.specs.Text.{json_text}
 use Rattle.reports.specs.declared.report.Report.{Report}
+use Rattle.topojson_meaning.specs.Laws.{ReadsValid}
 use Rattle.topojson_types.specs.Topologies.{Contents}
 use Rattle.topojson_types.specs.Values.{topology_value}
 use Rattle.layer_topology.specs.GuardLaws.{LeftLaw, ShareStays}
-use Rattle.layer_topology.specs.Levels.{is_simplifying_level, threshold_of}
+use Rattle.layer_topology.specs.Levels.{is_simplifying_level}
+use Rattle.build_meaning.specs.InTurn.{without_small}
 use Rattle.build_meaning.specs.declared.guards.Guards.{Guards}
 use Rattle.layer_topology.specs.declared.level.Level.{Level}
 use Rattle.mapchain_engine.specs.Files.{FailsToGive}
 use Rattle.mapchain_engine.specs.Geo.{SendsText}
 use Rattle.mapchain_engine.specs.SimplifyLaws.{SimplifiedIsUtf8}
-use Rattle.mapchain_engine.specs.Simplified.{IsReadAndSimplified, IsSimplified, IsSimplifyFault}
+use Rattle.mapchain_engine.specs.Simplified.{threshold_for, IsReadAndSimplified, IsSimplified, IsSimplifyFault}
 
 -- ---- nothing is written
 
@@ -26,11 +28,11 @@ not_given guards level limit old new sink e f = (refl, f)
 -- ---- the text of what is left is sent
 
 module _ (guards : Guards) (level : Level) (limit : ℕ) (old new : Fed) (sink_old sink_new : Drained) (less : Contents) (report : Report) (is : IsReadAndSimplified guards level limit old new less report) where
-  pub sent_whole : SimplifiedIsUtf8 → LeftLaw → ShareStays → is_simplifying_level level ≡ true → (sent : ℕ) → SendsText sink_old sink_new (json_text (topology_value less)) (Ok sent) → IsSimplified guards level limit old new sink_old sink_new report
-  sent_whole utf8 law stays may sent w =
+  pub sent_whole : SimplifiedIsUtf8 → LeftLaw → ShareStays → ReadsValid → is_simplifying_level level ≡ true → (sent : ℕ) → SendsText sink_old sink_new (json_text (topology_value less)) (Ok sent) → IsSimplified guards level limit old new sink_old sink_new report
+  sent_whole utf8 law stays valid may sent w =
       let all = subst (λ z. WritesAll sink_old sink_new 0 (json_text (topology_value z)) sent) is.left w.0 in
       let read = is.read in
-      let left = law guards (threshold_of guards level is.contents) limit is.contents in
+      let left = law guards (threshold_for guards level limit is.contents) limit is.contents in
       record {
         contents = is.contents;
         counts = is.counts;
@@ -41,8 +43,8 @@ module _ (guards : Guards) (level : Level) (limit : ℕ) (old new : Fed) (sink_o
         flushed = w.1;
         reported = is.reported;
         crosses = left.crosses;
-        stays = left.stays;
-        share = stays guards level is.contents may;
+        stays = λ k. left.stays k (valid read.spells.value is.contents is.counts read.spells.stands);
+        share = stays guards level (without_small guards limit is.contents) may;
       }
 
   pub cut_short : (e : FileFault) → SendsText sink_old sink_new (json_text (topology_value less)) (Err e) → IsSimplifyFault guards level limit old new sink_old sink_new e

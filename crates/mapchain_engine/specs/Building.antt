@@ -27,7 +27,8 @@ use Rattle.layer_topology.specs.Laws.{WrittenLaws}
 use Rattle.layer_topology.specs.Levels.{calls_over, chosen_for, KeepsShareOf}
 use Rattle.layer_topology.specs.Promises.{CrossesNoMore, KeepsShapes}
 use Rattle.layer_topology.specs.Written.{snapped_to, written_left, written_threshold, written as written_on}
-use Rattle.build_meaning.specs.Left.{Left, is_at_once, left_of}
+use Rattle.build_meaning.specs.InTurn.{left_in_turn, without_small}
+use Rattle.build_meaning.specs.Left.{Left, is_at_once}
 use Rattle.build_meaning.specs.SimplifiedLaws.{labels}
 use Rattle.topojson_meaning.specs.Laws.{ReadsBack, TextIsRead}
 use Rattle.topojson_meaning.specs.Texts.{TextIsUtf8}
@@ -48,7 +49,7 @@ snapped_for o layers = snapped_to o.grid layers
 
 -- the threshold at which their arcs are reduced: the one that is given, or the greatest that keeps the share that is asked for, under the guards
 abbrev pub threshold_for : Options → Named → ℕ
-threshold_for o layers = written_threshold o.guards o.grid o.level layers
+threshold_for o layers = written_threshold o.guards o.grid o.level o.ring_limit layers
 
 -- what a reducer is asked for: to reduce each of their arcs at the threshold that is given, in order, and nothing for a share, nor where no
 -- crossing may be made or shapes stay
@@ -66,6 +67,10 @@ written_for o layers = (left_for o layers).contents
 -- the one that is written of them on the same grid at a threshold and a limit of zero
 abbrev pub whole_for : Options → Named → Contents
 whole_for o layers = written_on o.grid 0 0 layers
+
+-- and without what is small as it stands, where that goes first
+abbrev pub full_for : Options → Named → Contents
+full_for o layers = without_small o.guards o.ring_limit (whole_for o layers)
 
 -- the features that are expected of what is written where crossings may be made and shapes needn't stay, by layers
 abbrev pub expected_for : Options → Named → Named
@@ -89,17 +94,17 @@ pub record BuildingLaws : Type 0 where
 -- Where no crossing may be made or shapes stay, the topology is valid, and it is what is left of the one that is written of the layers at zero where
 -- this is simplified under the same guards. Decoding that one gives each layer's features whole; the topology has the same names, identifiers and
 -- properties. Where no crossing may be made, no more of its segments cross, lie on one another, or touch but at an end of both, none where none of
--- that one's do, and each two that do come of two of that one's that do. Where shapes stay, each feature keeps the outer ring that encloses most in
--- that one, of those with four positions or more. Of the positions between the ends of that one's arcs at least the share that is asked for stays,
--- before lines are dropped.
+-- that one's do, and each two that do come of two of that one's that do, without what is small as it stands. Where shapes stay, each feature keeps the
+-- outer ring that encloses most in that one, of those with four positions or more. Of the positions between the ends of that one's arcs, without what
+-- is small as it stands, at least the share that is asked for stays, before more lines are dropped.
 pub record IsGuarded (o : Options) (layers : Named) (contents : Contents) : Type 0 where
   pub valid : IsTopology contents
   pub whole : AllByRecursion (λ l. decoded (whole_for o layers) l.0 ≡ Some (set.Many l.1.features)) (expected 0 0 (snapped_for o layers))
   pub labels_stay : labels contents ≡ labels (whole_for o layers)
-  pub crosses : o.guards.no_crossings ≡ true → CrossesNoMore (whole_for o layers) contents
-  pub stays : o.guards.keep_shapes ≡ true → KeepsShapes o.guards (threshold_for o layers) (whole_for o layers) contents
-  pub left : contents ≡ (left_of o.guards (threshold_for o layers) o.ring_limit (whole_for o layers)).contents
-  pub share : KeepsShareOf o.guards o.level (whole_for o layers)
+  pub crosses : o.guards.no_crossings ≡ true → CrossesNoMore (whole_for o layers) (full_for o layers) contents
+  pub stays : o.guards.keep_shapes ≡ true → KeepsShapes o.guards (threshold_for o layers) o.ring_limit (whole_for o layers) contents
+  pub left : contents ≡ (left_in_turn o.guards (threshold_for o layers) o.ring_limit (whole_for o layers)).contents
+  pub share : KeepsShareOf o.guards o.level (full_for o layers)
 
 -- The text is UTF-8, and JSON (RFC 8259) of a topology (TopoJSON 1.0) whose objects have the names of the layers, in order. Decoding each gives
 -- the features that are expected of its layer, snapped to the grid that is asked for, at the threshold and the least ring area, unless no

@@ -7,7 +7,8 @@ use Rattle.geojson_types.specs.declared.counts.Counts.{Counts}
 use Rattle.inputs.specs.declared.file_fault.FileFault.{FileFault}
 use Rattle.inputs.specs.declared.file_fault.FileFault.TheVariants.{Write}
 use Rattle.json_value.specs.Text.{json_text}
-use Rattle.build_meaning.specs.Left.{Left, left_of}
+use Rattle.build_meaning.specs.InTurn.{left_in_turn, without_small}
+use Rattle.build_meaning.specs.Left.{Left}
 use Rattle.build_meaning.specs.Thresholds.{placed_cells}
 use Rattle.build_meaning.specs.declared.guards.Guards.{Guards}
 use Rattle.layer_topology.specs.Levels.{calls_over, chosen_for, threshold_of, KeepsShareOf}
@@ -23,9 +24,12 @@ use Rattle.mapchain_engine.specs.Files.{IsTopologyRead, FailsToGive}
 
 -- It, where its arcs are reduced at a threshold under the guards that are asked for: at the one that is given, or the greatest that keeps the share
 -- that is asked for. The share is of the positions between the ends of all its arcs as they stand, also of those that no line uses, by the positions
--- that the cells stand for.
+-- that the cells stand for; where small rings go first, without them.
+abbrev pub threshold_for : Guards → Level → ℕ → Contents → ℕ
+threshold_for guards level limit y = threshold_of guards level (without_small guards limit y)
+
 abbrev pub left_at : Guards → Level → ℕ → Contents → Left
-left_at guards level limit y = left_of guards (threshold_of guards level y) limit y
+left_at guards level limit y = left_in_turn guards (threshold_for guards level limit y) limit y
 
 -- the text (TopoJSON 1.0) of what is left
 abbrev pub simplified_contents_text : Guards → Level → ℕ → Contents → List ℕ
@@ -38,7 +42,7 @@ report_of_left counts left chosen = report_with counts left.dropped left.content
 
 -- what was counted in reading the topology, and what is left of it
 abbrev pub report_of : Guards → Level → ℕ → Contents → Counts → Report
-report_of guards level limit y counts = report_of_left counts (left_at guards level limit y) (chosen_for level (threshold_of guards level y))
+report_of guards level limit y counts = report_of_left counts (left_at guards level limit y) (chosen_for level (threshold_for guards level limit y))
 
 -- ---- reading and writing
 
@@ -71,9 +75,9 @@ pub record IsSimplified (guards : Guards) (level : Level) (limit : ℕ) (old new
   pub sound : sink_new.failures ≡ 0
   pub flushed : sink_new.flushed ≡ true
   pub reported : report ≡ report_of guards level limit contents counts
-  pub crosses : guards.no_crossings ≡ true → CrossesNoMore contents (left_at guards level limit contents).contents
-  pub stays : guards.keep_shapes ≡ true → KeepsShapes guards (threshold_of guards level contents) contents (left_at guards level limit contents).contents
-  pub share : KeepsShareOf guards level contents
+  pub crosses : guards.no_crossings ≡ true → CrossesNoMore contents (without_small guards limit contents) (left_at guards level limit contents).contents
+  pub stays : guards.keep_shapes ≡ true → KeepsShapes guards (threshold_for guards level limit contents) limit contents (left_at guards level limit contents).contents
+  pub share : KeepsShareOf guards level (without_small guards limit contents)
 
 -- the device failed when it had taken a prefix of that text
 pub record IsSimplifiedInPart (guards : Guards) (level : Level) (limit : ℕ) (old new : Fed) (sink_old sink_new : Drained) (sent : ℕ) : Type 0 where

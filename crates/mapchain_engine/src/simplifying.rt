@@ -22,6 +22,7 @@ use layer_topology::{Guards, Level, Reduction, left_law, share_stays};
 use reports::Report;
 use std::alloc::Global;
 use std::mem;
+use topojson_meaning::topology_is_valid;
 use topojson_types::Topology;
 use topojson_writer::write_topology;
 
@@ -58,8 +59,8 @@ fn send<W: Drain>(topology: &Topology, sink: &mut Sink<W>) -> Result<u64, FileFa
 ///
 /// Each arc is reduced once at the threshold of `level`, twice an area in square units, by the positions that it stands for (Visvalingam
 /// and Whyatt 1993). For a share it is the greatest at which the share of the positions between the ends of all arcs stays. Where
-/// `guards` forbid crossings or keep shapes, all arcs are reduced at once in place of that, and so is a share reckoned. The cells that stay keep
-/// their numbers, and the transform stays. A line or ring that is left with too few positions is dropped, a ring of which twice the area is
+/// `guards` forbid crossings or keep shapes, all arcs are reduced at once in place of that, and so is a share reckoned; then, if `ring_limit` isn't
+/// zero, what is small as it stands is dropped before that, and holds nothing. The cells that stay keep their numbers, and the transform stays. A line or ring that is left with too few positions is dropped, a ring of which twice the area is
 /// under `ring_limit` (in square units), and a ring of a polygon whose outer ring is, but where shapes stay not the largest outer ring of a
 /// feature; arcs that no line uses are left out. The report says what was counted in reading, what is dropped, of the arcs that are left how many
 /// positions stay and were removed, and the threshold, where it was chosen. The topology is refused as by `stat`. On each fault but `Write` the sink
@@ -118,6 +119,7 @@ pub fn simplify_watched<Q: Reducer, R: Feed, W: Drain, K: Watch>(
     simplified_text_is_utf8();
     left_law();
     share_stays();
+    topology_is_valid();
     let asked = Reduction {
         guards,
         level,

@@ -40,9 +40,9 @@ use Rattle.topojson_types.specs.Topologies.{Contents, object_features, TopoShape
 use Rattle.topojson_types.specs.Validity.{AreDistinct}
 use Rattle.topo_model.specs.Along.{Ways, AreWays}
 use Rattle.topo_model.specs.Drops.{draft_cause, objects_drops}
-use Rattle.topo_model.proofs.Drops.{protected_drops, objects_are as drops_along}
+use Rattle.topo_model.proofs.Drops.{judged_alone, protected_drops, objects_are as drops_along}
 use Rattle.topo_model.proofs.Along.{objects_are, fused, each_part}
-use Rattle.topo_model.proofs.Result.{of_arcs}
+use Rattle.topo_model.proofs.Result.{in_turn, of_arcs}
 use Rattle.topo_model.specs.Drafts.{RefsOf, long_refs, draft_refs, relined, feature_drafted, no_refs, objects_drafted, objects_relined}
 use Rattle.topo_model.specs.Retaining.{IsDraftOf, StandsFor, StandsForTopology}
 use Rattle.std.specs.List.{AllByRecursion}
@@ -215,7 +215,7 @@ module _ (ls : Named) where
     why_layers = unprotected_cause (lines_of ls) arcs limit
 
     abbrev gone : Option TopoShape → List (Placed Cause)
-    gone s = protected_drops (of_arcs limit arcs) protects s
+    gone s = protected_drops (in_turn None limit arcs) protects s
 
     same_cause : (b : Bool × (Bool × List Point)) → IsWholeAtZero (lines_of ls) (without_mark b) → why_draft b.0 b.1 ≡ why_layers b.0 b.1
     same_cause b whole = ap (λ (c : Option Cause). if b.1.0 then None else c) (cause_is (lines_of ls) arcs limit (without_mark b) whole)
@@ -223,7 +223,7 @@ module _ (ls : Named) where
     shape_dropped : (s : Option Shape) → AllWhole (lines_of ls) (option_lines_and_rings s) → gone (map_some (relined refs) s) ≡ option_unspared keep_shapes why_layers ls s
     shape_dropped None h = refl
     shape_dropped (Some s) h =
-        ap (λ w. drop_causes (cause_sparing (draft_cause (of_arcs limit arcs))) (marked (relined refs s) w)) (way_is keep_shapes s)
+        judged_alone (of_arcs limit arcs) (shape_marked protects (relined refs s)) ∙ ap (λ w. drop_causes (cause_sparing (draft_cause (of_arcs limit arcs))) (marked (relined refs s) w)) (way_is keep_shapes s)
         ∙ dropped_once refs (cause_sparing (draft_cause (of_arcs limit arcs))) s (way keep_shapes s)
         ∙ drop_causes_agree Point (Bool × List Point) why_draft why_layers (marked s (way keep_shapes s))
         (all_weaker (λ b. IsWholeAtZero (lines_of ls) (without_mark b)) (λ b. why_draft b.0 b.1 ≡ why_layers b.0 b.1) same_cause (lines_and_rings (marked s (way keep_shapes s)))
@@ -268,7 +268,7 @@ module _ (zero : ZeroLaw) (of_lines : AssembledIsOfLines) (keep_shapes : Bool) (
   counts_of counts counted = counted ∙ ap (map length) same_arcs
 
   -- it stands for the layers: what is left of it is what is left of these
-  pub stands : StandsFor (protection keep_shapes (arcs_of_layers ls)) kept (untrimmed 0 0 ls).objects draft (untrimmed 0 0 ls).arcs retained None limit ways
+  pub stands : StandsFor (protection keep_shapes (arcs_of_layers ls)) kept (untrimmed 0 0 ls).objects draft (untrimmed 0 0 ls).arcs retained None None limit ways
   stands =
       let retained_is : retained ≡ retained_arcs kept whole.arcs = picks ∙ ap (retained_arcs kept) same_arcs in
       record {
@@ -280,7 +280,7 @@ module _ (zero : ZeroLaw) (of_lines : AssembledIsOfLines) (keep_shapes : Bool) (
       }
 
   -- which are a valid topology
-  pub stands_for_topology : EndsStay → NoneIsNew → (counts : List ℕ) → EachFromFirstToLast kept (arcs_of_layers ls) → counts ≡ map length (arcs_of_layers ls) → StandsForTopology draft retained counts None limit ways
+  pub stands_for_topology : EndsStay → NoneIsNew → (counts : List ℕ) → EachFromFirstToLast kept (arcs_of_layers ls) → counts ≡ map length (arcs_of_layers ls) → StandsForTopology draft retained counts None None limit ways
   stands_for_topology ends new counts through counted = record {
     protects = marks;
     kept = kept;
@@ -292,10 +292,10 @@ module _ (zero : ZeroLaw) (of_lines : AssembledIsOfLines) (keep_shapes : Bool) (
     valid = untrimmed_is_valid ends new 0 0 ls of.sound of.names;
   }
 
-  pub drops_are : objects_drops (of_arcs limit retained) 0 ways draft ≡ (assembled_by keep_shapes kept limit ls).dropped
+  pub drops_are : objects_drops (in_turn None limit retained) 0 ways draft ≡ (assembled_by keep_shapes kept limit ls).dropped
   unfolding assembled_by
   drops_are =
-      drops_along (of_arcs limit retained) marks ways draft (ways_are keep_shapes (arcs_of_layers ls) ways draft lead)
-      ∙ ap (λ (os : Objects). dropped_of_layers 0 (map (λ o. map (λ f. protected_drops (of_arcs limit retained) marks f.shape) (object_features o.1)) os)) of.drafted
+      drops_along (in_turn None limit retained) marks ways draft (ways_are keep_shapes (arcs_of_layers ls) ways draft lead)
+      ∙ ap (λ (os : Objects). dropped_of_layers 0 (map (λ o. map (λ f. protected_drops (in_turn None limit retained) marks f.shape) (object_features o.1)) os)) of.drafted
       ∙ ap (dropped_of_layers 0) (layers_dropped ls keep_shapes limit retained ls (loses_nothing zero ls of.sound))
       ∙ ap (λ arcs. dropped_of_layers 0 (map (λ m. map (λ f. option_unspared keep_shapes (unprotected_cause (lines_of ls) arcs limit) ls f.shape) m.1.features) ls)) picks

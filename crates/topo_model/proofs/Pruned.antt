@@ -1,7 +1,7 @@
 -- What is left of the rings of a polygon, and of lists that may be empty.
 use Rattle.std.proofs.Common.{arith, ◌≡◌, ℕ, ◌==◌, ◌<◌, ℤ, Bool, true, false, List, [], ◌∷◌, ◌++◌, take, drop, length, get_or, set, Option, None, Some, refl, sym, ap, ◌∙◌}
 use Rattle.std.specs.Option.{is_some}
-use Rattle.std.specs.Prelude.{if◌then◌else◌, not}
+use Rattle.std.specs.Prelude.{IfSome, if◌then◌else◌, not}
 use Rattle.std.proofs.Math.Seq.{take-append_seam}
 use Rattle.geometry.specs.declared.address.Cause.{Cause}
 use Rattle.geometry.specs.Lists.{map_some, some_of, unless_empty}
@@ -42,6 +42,14 @@ some_left make got n empty e k f = grind arith
 pub left_if_some : {A B : Type 0} (make : List A → B) (xs : List A) (empty : Bool) → empty ≡ (length xs == 0) → unless_empty make xs ≡ (if not empty then Some (make xs) else None)
 left_if_some make xs true e = sym (empty_left make xs (length xs) true e refl refl)
 left_if_some make xs false e = sym (some_left make xs (length xs) false e refl refl)
+
+pub none_is : {A : Type 0} (o : Option A) (none : Bool) → is_some o ≡ not none → none ≡ true → o ≡ None
+none_is None none e t = refl
+none_is (Some x) none e t = absurd cc
+
+pub where_some : {A P : Type 0} (o : Option A) → IfSome o (λ x. P) → is_some o ≡ true → P
+where_some None h e = absurd cc
+where_some (Some x) h e = h
 
 pub some_there : (n : ℕ) (empty : Bool) → empty ≡ (n == 0) → empty ≡ false → 0 < n
 some_there n empty e f = grind arith

@@ -1,12 +1,13 @@
 -- The topology that is put together is the one that is left.
 use Rattle.std.proofs.Common.{arith, ◌≡◌, ℕ, zero, suc, ◌-◌, ℤ, Bool, true, false, List, [], ◌∷◌, ◌++◌, map, length, take, drop, Option, None, Some, refl, sym, ap, ◌∙◌, subst}
 use Rattle.std.specs.List.{AllByRecursion}
-use Rattle.std.specs.Prelude.{sum, if◌then◌else◌}
-use Rattle.topo_model.specs.Rebuilding.{Rebuilding}
+use Rattle.std.specs.Prelude.{sum}
+use Rattle.topo_model.specs.Rebuilding.{Rebuilding, Judging}
 use Rattle.topo_model.specs.Uses.{answers}
 use Rattle.topo_model.proofs.Renumbered.{NewIndexesOf, all_renumbered}
 use Rattle.build_meaning.specs.Built.{positions_of}
 use Rattle.build_meaning.specs.Expected.{unless}
+use Rattle.build_meaning.specs.InTurn.{option_dropped_in_turn}
 use Rattle.build_meaning.specs.Trimming.{is_used, keep_from, line_renumbered, trimmed}
 use Rattle.build_meaning.proofs.Trimmed.{kept_of_map}
 use Rattle.geometry.specs.declared.address.Cause.{Cause}
@@ -18,6 +19,7 @@ use Rattle.std.proofs.Math.Seq.{take-append_seam}
 use Rattle.geometry.specs.Lists.{map_some}
 use Rattle.geometry.proofs.Omitted.{drop_causes_agree}
 use Rattle.geojson_types.specs.Features.{is_some_list}
+use Rattle.geometry.specs.Paths.{Placed}
 use Rattle.geometry.specs.Points.{Point, IsPosition}
 use Rattle.build_meaning.specs.OuterRings.{marked}
 use Rattle.build_meaning.specs.Protected.{Protection, MarkedRefs, cause_sparing, sparing, objects_spared, spared_whole, spared_by, option_unprotected, spared_dropped, spared_removed_count}
@@ -38,9 +40,9 @@ use Rattle.topojson_types.specs.Topologies.{TopoShape, Contents, features_lines_
 use Rattle.topojson_types.specs.Transforms.{place_on}
 use Rattle.topojson_types.specs.Validity.{is_full_option, IsPlace, IsFeature, IsObject, IsTopology}
 use Rattle.topo_model.specs.Along.{Ways, ways_after, by_object, object_along, objects_along, large_along, AreWays}
-use Rattle.topo_model.specs.Drops.{draft_cause, objects_drops}
+use Rattle.topo_model.specs.Drops.{draft_cause, judged_refs, objects_drops}
 use Rattle.topo_model.proofs.Along.{objects_are as objects_along_are}
-use Rattle.topo_model.proofs.Drops.{protected_drops, objects_are as drops_along}
+use Rattle.topo_model.proofs.Drops.{judged_agree, judged_alone, protected_drops, objects_are as drops_along}
 use Rattle.topo_model.specs.Parts.{contents}
 use Rattle.topo_model.specs.Retaining.{StandsFor}
 use Rattle.topo_model.specs.ArcUses.{AllNameArcs, NamesArcs, as_they_are, renumbered_refs}
@@ -140,34 +142,57 @@ parts_are y os arcs transform o a t = grind arith
 abbrev pub of_arcs : ℕ → List (List Point) → Rebuilding
 of_arcs limit arcs = record { arcs = arcs; limit = limit }
 
--- a line or ring with an index is dropped only where it has too few positions
-same_cause : (limit : ℕ) (arcs : List (List Point)) (b : Bool × List ℤ) → is_some_list b.1 ≡ true → draft_cause (of_arcs limit arcs) b.0 b.1 ≡ small_cause limit arcs b.0 b.1
-same_cause limit arcs (closed, []) h = absurd cc
-same_cause limit arcs (closed, r ∷ rs) h = refl
+-- where they are judged by these arcs first, if there are any
+abbrev pub in_turn : Option (List (List Point)) → ℕ → List (List Point) → Judging
+in_turn first limit arcs = record { first = map_some (of_arcs limit) first; later = of_arcs limit arcs }
 
-shape_same : (protects : Protection) (limit : ℕ) (arcs : List (List Point)) (s : Option TopoShape) → is_full_option s ≡ true → protected_drops (of_arcs limit arcs) protects s ≡ option_unprotected protects limit arcs s
-shape_same protects limit arcs None h = refl
-shape_same protects limit arcs (Some s) h =
-    let way : Option (List ℕ) = map_some (λ x. x.path) (protects s) in
-    drop_causes_agree Point (Bool × List ℤ) (cause_sparing (draft_cause (of_arcs limit arcs))) (cause_sparing (small_cause limit arcs)) (marked s way)
-    (all_weaker (λ b. is_some_list b.1.1 ≡ true) (λ b. cause_sparing (draft_cause (of_arcs limit arcs)) b.0 b.1 ≡ cause_sparing (small_cause limit arcs) b.0 b.1)
-    (λ b full. ap (λ c. if b.1.0 then None else c) (same_cause limit arcs (without_mark b) full)) (lines_and_rings (marked s way))
-    (all_of_map (λ b. is_some_list b.1 ≡ true) without_mark (lines_and_rings (marked s way)) (subst (AllByRecursion (λ b. is_some_list b.1 ≡ true)) (sym (lines_and_rings_back s way)) (lines_and_rings_full s h))))
+-- what is dropped then of a shape that may be null
+abbrev option_dropped : Protection → Option (List (List Point)) → ℕ → List (List Point) → Option TopoShape → List (Placed Cause)
+option_dropped protects None limit arcs s = option_unprotected protects limit arcs s
+option_dropped protects (Some first) limit arcs s = option_dropped_in_turn protects limit first arcs s
 
-features_same : (protects : Protection) (limit : ℕ) (arcs : List (List Point)) (transform : Option Transform) (fs : List TopoFeature) → AllByRecursion (IsFeature transform) fs
-    → map (λ f. protected_drops (of_arcs limit arcs) protects f.shape) fs ≡ map (λ f. option_unprotected protects limit arcs f.shape) fs
-features_same protects limit arcs transform [] h = refl
-features_same protects limit arcs transform (f ∷ fs) h = rw (shape_same protects limit arcs f.shape h.0.0, features_same protects limit arcs transform fs h.1) refl
+module _ (protects : Protection) (limit : ℕ) (arcs : List (List Point)) where
+  -- a line or ring with an index is dropped only where it has too few positions
+  same_cause : (arcs : List (List Point)) (b : Bool × (Bool × List ℤ)) → is_some_list b.1.1 ≡ true → cause_sparing (draft_cause (of_arcs limit arcs)) b.0 b.1 ≡ cause_sparing (small_cause limit arcs) b.0 b.1
+  same_cause arcs (closed, (mark, [])) h = absurd cc
+  same_cause arcs (closed, (mark, r ∷ rs)) h = refl
 
-object_same : (protects : Protection) (limit : ℕ) (arcs : List (List Point)) (transform : Option Transform) (o : TopoObject) → IsObject transform o
-    → map (λ f. protected_drops (of_arcs limit arcs) protects f.shape) (object_features o) ≡ map (λ f. option_unprotected protects limit arcs f.shape) (object_features o)
-object_same protects limit arcs transform (One f) h = features_same protects limit arcs transform (f ∷ []) (h.0, tt)
-object_same protects limit arcs transform (Many fs) h = features_same protects limit arcs transform fs h
+  shape_same : (first : Option (List (List Point))) (s : Option TopoShape) → is_full_option s ≡ true → protected_drops (in_turn first limit arcs) protects s ≡ option_dropped protects first limit arcs s
+  shape_same None None h = refl
+  shape_same (Some first) None h = refl
+  shape_same first (Some s) h = of_judging first
+    where
+      way : Option (List ℕ)
+      way = map_some (λ x. x.path) (protects s)
 
-objects_same : (protects : Protection) (limit : ℕ) (arcs : List (List Point)) (transform : Option Transform) (os : Objects) → AllByRecursion (λ o. IsObject transform o.1) os
-    → map (λ o. map (λ f. protected_drops (of_arcs limit arcs) protects f.shape) (object_features o.1)) os ≡ map (λ o. map (λ f. option_unprotected protects limit arcs f.shape) (object_features o.1)) os
-objects_same protects limit arcs transform [] h = refl
-objects_same protects limit arcs transform (o ∷ os) h = rw (object_same protects limit arcs transform o.1 h.0, objects_same protects limit arcs transform os h.1) refl
+      full : AllByRecursion (λ b. is_some_list b.1.1 ≡ true) (lines_and_rings (marked s way))
+      full = all_of_map (λ b. is_some_list b.1 ≡ true) without_mark (lines_and_rings (marked s way)) (subst (AllByRecursion (λ b. is_some_list b.1 ≡ true)) (sym (lines_and_rings_back s way)) (lines_and_rings_full s h))
+
+      of_judging : (first : Option (List (List Point))) → protected_drops (in_turn first limit arcs) protects (Some s) ≡ option_dropped protects first limit arcs (Some s)
+      of_judging None =
+          judged_alone (of_arcs limit arcs) (marked s way)
+          ∙ drop_causes_agree Point (Bool × List ℤ) (cause_sparing (draft_cause (of_arcs limit arcs))) (cause_sparing (small_cause limit arcs)) (marked s way)
+          (all_weaker (λ b. is_some_list b.1.1 ≡ true) (λ b. cause_sparing (draft_cause (of_arcs limit arcs)) b.0 b.1 ≡ cause_sparing (small_cause limit arcs) b.0 b.1) (same_cause arcs) (lines_and_rings (marked s way)) full)
+      of_judging (Some first) =
+          judged_agree (cause_sparing (draft_cause (of_arcs limit first))) (cause_sparing (draft_cause (of_arcs limit arcs))) (cause_sparing (small_cause limit first)) (cause_sparing (small_cause limit arcs)) (marked s way)
+          (all_weaker (λ b. is_some_list b.1.1 ≡ true)
+          (λ b. (cause_sparing (draft_cause (of_arcs limit first)) b.0 b.1 ≡ cause_sparing (small_cause limit first) b.0 b.1) × (cause_sparing (draft_cause (of_arcs limit arcs)) b.0 b.1 ≡ cause_sparing (small_cause limit arcs) b.0 b.1))
+          (λ b k. (same_cause first b k, same_cause arcs b k)) (lines_and_rings (marked s way)) full)
+
+  features_same : (first : Option (List (List Point))) (transform : Option Transform) (fs : List TopoFeature) → AllByRecursion (IsFeature transform) fs
+      → map (λ f. protected_drops (in_turn first limit arcs) protects f.shape) fs ≡ map (λ f. option_dropped protects first limit arcs f.shape) fs
+  features_same first transform [] h = refl
+  features_same first transform (f ∷ fs) h = rw (shape_same first f.shape h.0.0, features_same first transform fs h.1) refl
+
+  object_same : (first : Option (List (List Point))) (transform : Option Transform) (o : TopoObject) → IsObject transform o
+      → map (λ f. protected_drops (in_turn first limit arcs) protects f.shape) (object_features o) ≡ map (λ f. option_dropped protects first limit arcs f.shape) (object_features o)
+  object_same first transform (One f) h = features_same first transform (f ∷ []) (h.0, tt)
+  object_same first transform (Many fs) h = features_same first transform fs h
+
+  objects_same : (first : Option (List (List Point))) (transform : Option Transform) (os : Objects) → AllByRecursion (λ o. IsObject transform o.1) os
+      → map (λ o. map (λ f. protected_drops (in_turn first limit arcs) protects f.shape) (object_features o.1)) os ≡ map (λ o. map (λ f. option_dropped protects first limit arcs f.shape) (object_features o.1)) os
+  objects_same first transform [] h = refl
+  objects_same first transform (o ∷ os) h = rw (object_same first transform o.1 h.0, objects_same first transform os h.1) refl
 
 module _ (protects : Protection) (kept : List (List ℕ)) (limit : ℕ) (y : Contents) (retained : List (List Point)) (is : retained ≡ retained_arcs kept y.arcs) where
   abbrev pub large : Objects
@@ -199,37 +224,50 @@ module _ (protects : Protection) (kept : List (List ℕ)) (limit : ℕ) (y : Con
   taken_is = ap (λ ns. sum ns - positions_of (keep_from (is_used large) 0 retained)) (sym (kept_of_map {X = List Point} length (is_used large) 0 y.arcs)) ∙ taken_of
 
   -- the lines and rings that are dropped
-  pub drops_are : (ways : Ways) → AreWays protects ways y.objects → AllByRecursion (λ o. IsObject y.transform o.1) y.objects → objects_drops (of_arcs limit (placed_arcs y.transform retained)) 0 ways y.objects ≡ spared_dropped protects kept limit y
-  unfolding spared_dropped
-  drops_are ways are valid =
-      drops_along (of_arcs limit (placed_arcs y.transform retained)) protects ways y.objects are
-      ∙ ap (dropped_of_layers 0) (objects_same protects limit (placed_arcs y.transform retained) y.transform y.objects valid)
-      ∙ ap (λ arcs. dropped_of_layers 0 (map (λ o. map (λ f. option_unprotected protects limit (placed_arcs y.transform arcs) f.shape) (object_features o.1)) y.objects)) is
+  module _ (ways : Ways) (lead : AreWays protects ways y.objects) (valid : AllByRecursion (λ o. IsObject y.transform o.1) y.objects) where
+    drops_of : (first : Option (List (List Point))) → objects_drops (in_turn first limit (placed_arcs y.transform retained)) 0 ways y.objects
+        ≡ dropped_of_layers 0 (map (λ o. map (λ f. option_dropped protects first limit (placed_arcs y.transform (retained_arcs kept y.arcs)) f.shape) (object_features o.1)) y.objects)
+    drops_of first =
+        drops_along (in_turn first limit (placed_arcs y.transform retained)) protects ways y.objects lead
+        ∙ ap (dropped_of_layers 0) (objects_same protects limit (placed_arcs y.transform retained) first y.transform y.objects valid)
+        ∙ ap (λ arcs. dropped_of_layers 0 (map (λ o. map (λ f. option_dropped protects first limit (placed_arcs y.transform arcs) f.shape) (object_features o.1)) y.objects)) is
+
+    pub drops_are : objects_drops (record { first = None; later = of_arcs limit (placed_arcs y.transform retained) }) 0 ways y.objects ≡ spared_dropped protects kept limit y
+    unfolding spared_dropped
+    drops_are = drops_of None
+
+    -- where they are judged by these arcs first
+    pub drops_in_turn_are : (first : List (List Point)) → objects_drops (record { first = Some (of_arcs limit first); later = of_arcs limit (placed_arcs y.transform retained) }) 0 ways y.objects
+        ≡ dropped_of_layers 0 (map (λ o. map (λ f. option_dropped_in_turn protects limit first (placed_arcs y.transform (retained_arcs kept y.arcs)) f.shape) (object_features o.1)) y.objects)
+    drops_in_turn_are first = drops_of (Some first)
 
 -- objects whose features have these ways stand for themselves
 pub stands_for_itself : (protects : Protection) (kept : List (List ℕ)) (os now : Objects) (arcs retained : List (List Point)) (transform : Option Transform) (limit : ℕ) (ways : Ways) → AreWays protects ways os → retained ≡ retained_arcs kept arcs
-    → now ≡ os → StandsFor protects kept os now arcs retained transform limit ways
+    → now ≡ os → StandsFor protects kept os now arcs retained transform None limit ways
 stands_for_itself protects kept os now arcs retained transform limit ways are picks same =
     record { picks = picks; large = ap (large_along limit (placed_arcs transform retained) ways) same ∙ objects_along_are protects (sparing (large_refs limit (placed_arcs transform retained))) ways os are }
 
 -- ---- a draft
 
+abbrev judged_along : Option Rebuilding → ℕ → List (List Point) → Ways → Objects → Objects
+judged_along at_first limit arcs = objects_along (sparing (judged_refs at_first (of_arcs limit arcs)))
+
 -- the objects are lent whole, and come back without what is small, which is a topology's
-module _ (limit : ℕ) (ways told : Ways) (os first new second : Objects) (n : ℕ) (retained seen : List (List Point)) (transform shown : Option Transform) (many : n ≡ length os) (lent : first ≡ os) (same : seen ≡ retained) (as_shown : shown ≡ transform)
-    (as_told : told ≡ ways) (left : new ≡ large_along limit (placed_arcs shown seen) told first) (again : second ≡ take n (new ++ drop (length new) os)) where
+module _ (at_first : Option Rebuilding) (limit : ℕ) (ways told : Ways) (os first new second : Objects) (n : ℕ) (retained seen : List (List Point)) (transform shown : Option Transform) (many : n ≡ length os) (lent : first ≡ os) (same : seen ≡ retained) (as_shown : shown ≡ transform)
+    (as_told : told ≡ ways) (left : new ≡ judged_along at_first limit (placed_arcs shown seen) told first) (again : second ≡ take n (new ++ drop (length new) os)) where
   abbrev between : Objects
   between = take n (new ++ drop (length new) os)
 
   abbrev kept_large : MarkedRefs
-  kept_large = sparing (large_refs limit (placed_arcs transform retained))
+  kept_large = sparing (judged_refs at_first (of_arcs limit (placed_arcs transform retained)))
 
   left_is : new ≡ objects_along kept_large ways first
-  left_is = left ∙ ap (λ w. large_along limit (placed_arcs shown seen) w first) as_told ∙ ap (λ t. large_along limit (placed_arcs t seen) ways first) as_shown ∙ ap (λ arcs. large_along limit (placed_arcs transform arcs) ways first) same
+  left_is = left ∙ ap (λ w. judged_along at_first limit (placed_arcs shown seen) w first) as_told ∙ ap (λ t. judged_along at_first limit (placed_arcs t seen) ways first) as_shown ∙ ap (λ arcs. judged_along at_first limit (placed_arcs transform arcs) ways first) same
 
-  pub large_left : second ≡ large_along limit (placed_arcs transform retained) ways os
+  pub large_left : second ≡ judged_along at_first limit (placed_arcs transform retained) ways os
   large_left = again ∙ put_along kept_large ways n os first new many lent left_is ∙ ap (objects_along kept_large ways) lent
 
-  pub finished : (protects : Protection) (kept : List (List ℕ)) (of : Objects) (arcs stay : List (List Point)) (last : Objects) → StandsFor protects kept of os arcs retained transform limit ways
+  pub finished : (protects : Protection) (kept : List (List ℕ)) (of : Objects) (arcs stay : List (List Point)) (last : Objects) → StandsFor protects kept of os arcs retained transform at_first limit ways
       → last ≡ objects_pruned (line_renumbered (is_used second)) second → stay ≡ keep_from (is_used second) 0 retained
       → contents (take n (last ++ drop (length last) (take n (new ++ drop (length new) os)))) stay transform ≡ spared_by protects kept limit (contents of arcs transform)
   unfolding spared_by trimmed

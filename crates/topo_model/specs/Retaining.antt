@@ -11,9 +11,11 @@ use Rattle.topojson_types.specs.declared.object.TopoObject.{TopoObject}
 use Rattle.topojson_types.specs.declared.transform.Transform.{Transform}
 use Rattle.topojson_types.specs.Decoding.{placed_arcs}
 use Rattle.topojson_types.specs.Validity.{AreDistinct, IsTopology}
-use Rattle.topo_model.specs.Along.{Ways, large_along}
+use Rattle.topo_model.specs.Along.{Ways, objects_along}
 use Rattle.topo_model.specs.Drafts.{objects_drafted}
+use Rattle.topo_model.specs.Drops.{judged_refs}
 use Rattle.topo_model.specs.Parts.{contents}
+use Rattle.topo_model.specs.Rebuilding.{Rebuilding}
 use Rattle.topo_model.specs.Ways.{ways_under}
 
 -- of each of the arcs the positions of some numbers, which begin with its first and end with its last
@@ -46,18 +48,18 @@ pub record IsDraft (objects : List (List ℕ × TopoObject)) (retained : List (L
   pub ways_are : ways ≡ ways_under keep_shapes (arcs_of_layers layers) objects
 
 -- objects over retained cells, whose features have these ways, stand for other objects and arcs in which rings are protected: the same is
--- left of both without what is small
-pub record StandsFor (protects : Protection) (kept : List (List ℕ)) (of objects : List (List ℕ × TopoObject)) (arcs retained : List (List Point)) (transform : Option Transform) (limit : ℕ) (ways : Ways) : Type 0 where
+-- left of both without what is small, where theirs may go at first, too
+pub record StandsFor (protects : Protection) (kept : List (List ℕ)) (of objects : List (List ℕ × TopoObject)) (arcs retained : List (List Point)) (transform : Option Transform) (first : Option Rebuilding) (limit : ℕ) (ways : Ways) : Type 0 where
   pub picks : retained ≡ retained_arcs kept arcs
-  pub large : large_along limit (placed_arcs transform retained) ways objects ≡ objects_spared protects (sparing (large_refs limit (placed_arcs transform retained))) of
+  pub large : objects_along (sparing (judged_refs first (record { arcs = placed_arcs transform retained; limit = limit }))) ways objects ≡ objects_spared protects (sparing (large_refs limit (placed_arcs transform retained))) of
 
 -- they stand for those of some valid topology, each of whose arcs had so many cells
-pub record StandsForTopology (objects : List (List ℕ × TopoObject)) (retained : List (List Point)) (counts : List ℕ) (transform : Option Transform) (limit : ℕ) (ways : Ways) : Type 0 where
+pub record StandsForTopology (objects : List (List ℕ × TopoObject)) (retained : List (List Point)) (counts : List ℕ) (transform : Option Transform) (first : Option Rebuilding) (limit : ℕ) (ways : Ways) : Type 0 where
   pub protects : Protection
   pub kept : List (List ℕ)
   pub of : List (List ℕ × TopoObject)
   pub arcs : List (List Point)
-  pub stands : StandsFor protects kept of objects arcs retained transform limit ways
+  pub stands : StandsFor protects kept of objects arcs retained transform first limit ways
   pub through : EachFromFirstToLast kept arcs
   pub counts_are : counts ≡ map length arcs
   pub valid : IsTopology (contents of arcs transform)

@@ -60,7 +60,7 @@ pub fn assemble_draft(
     ends_stay();
     nothing_is_new();
     assembled_is_of_lines();
-    finish(alloc, objects, retained, None, ring_limit)
+    finish(alloc, objects, retained, None, None, ring_limit)
 }
 
 /// Named layers without their lines and rings, and these by themselves.

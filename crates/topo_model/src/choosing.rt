@@ -1,29 +1,13 @@
-// Which lines and rings of a topology stay, and with which arc indexes.
-ghost use Rattle.std.specs.Prelude.{◌≡◌};
-ghost use Rattle.build_meaning.specs.Simplified.{large_refs};
+// The lines and rings of a topology with new arc indexes.
+ghost use Rattle.std.specs.Prelude.{◌≡◌, None};
 ghost use Rattle.topo_model.specs.ArcUses.{renumbered_refs};
 
 use crate::pruning::Keeps;
-use crate::rebuilding::Rebuilding;
 use crate::trimming::renumber_all;
+use geojson_types::Cause;
 use json_value::Items;
 use std::marker::Model;
 use topojson_types::{ArcRef, Cell};
-
-/// Keeps the lines and rings that aren't small where they are rebuilt of these arcs, as they are.
-impl<'a> Keeps for Rebuilding<'a> {
-    ghost places = { λ arcs cell. cell };
-
-    ghost keeps = { λ arcs. large_refs arcs.limit arcs.arcs };
-
-    fn place(&self, cell: Cell) -> Cell {
-        cell
-    }
-
-    fn keep(&self, closed: bool, refs: &mut Items<ArcRef>) -> bool {
-        !self.is_small(closed, refs.as_slice())
-    }
-}
 
 /// Keeps all lines and rings, each index replaced by the new index of its arc.
 #[derive(Drop)]
@@ -53,12 +37,18 @@ impl<'a> Keeps for Renumbered<'a> {
 
     ghost keeps = { renumbered_refs };
 
+    ghost goes = { λ renumbering closed l. None };
+
     fn place(&self, cell: Cell) -> Cell {
         cell
     }
 
-    fn keep(&self, _closed: bool, refs: &mut Items<ArcRef>) -> bool {
+    fn keep(&self, _closed: bool, refs: &mut Items<ArcRef>) -> Option<Cause> {
         renumber_all(refs.as_mut_slice(), self.renumbering);
-        true
+        None
+    }
+
+    fn hole_goes(&self, _outer: &[ArcRef], _hole: &[ArcRef]) -> Option<Cause> {
+        None
     }
 }

@@ -3,11 +3,11 @@ ghost use Rattle.std.specs.Prelude.{◌≡◌, ◌++◌, IfOk, OnOk, map};
 ghost use Rattle.geometry.specs.Lists.{map_some};
 ghost use Rattle.build_meaning.specs.Protected.{sparing};
 ghost use Rattle.topojson_types.specs.Topologies.{object_features};
-ghost use Rattle.topo_model.specs.Along.{by_ways, feature_placed_along, large_along, object_placed_along, objects_placed, objects_placed_along, ways_after};
-ghost use Rattle.topo_model.specs.Drops.{object_drops, objects_dropped, objects_drops, unkept_cause};
+ghost use Rattle.topo_model.specs.Along.{by_ways, feature_placed_along, object_placed_along, objects_along, objects_placed, objects_placed_along, ways_after};
+ghost use Rattle.topo_model.specs.Drops.{judged_refs, object_drops, objects_dropped, objects_drops, pair_sparing};
 
+use crate::judging::Judging;
 use crate::pruning::{Keeps, prune_feature};
-use crate::rebuilding::Rebuilding;
 use crate::way_steps::Ways;
 use geojson_types::{Address, Dropped};
 use json_value::OwnText;
@@ -28,20 +28,20 @@ pub fn prune_objects<K: Keeps>(
     Ok(())
 }
 
-/// Leaves out the lines and rings of objects that have no arc index, or are small where they are rebuilt of these arcs, and the rings of
+/// Leaves out the lines and rings of objects that have no arc index, or are small where they are rebuilt of arcs, and the rings of
 /// polygons whose outer ring is left out, but no ring to which the way of its feature leads. They are, in reading order, what comes back. An
 /// object stands in the place of a layer. The ways are those of the features, in reading order, and those that come after the last way have
 /// none.
 pub fn leave_out_small(
     alloc: Global,
     objects: &mut [(OwnText, TopoObject)],
-    arcs: &Rebuilding<'_>,
+    judging: &Judging<'_>,
     ways: &[Option<Vec<usize>>],
 ) -> Result<Vec<Dropped>, Memory>
-    ensures objects { OnOk result (objects.new ≡ large_along arcs.now.limit arcs.now.arcs (map (map_some (λ v. v.items)) ways.now) objects.old) }
-    ensures dropped { IfOk result (λ dropped. dropped.items ≡ objects_drops arcs.now 0 (map (map_some (λ v. v.items)) ways.now) objects.old) }
+    ensures objects { OnOk result (objects.new ≡ objects_along (sparing (judged_refs judging.now.first judging.now.later)) (map (map_some (λ v. v.items)) ways.now) objects.old) }
+    ensures dropped { IfOk result (λ dropped. dropped.items ≡ objects_drops judging.now 0 (map (map_some (λ v. v.items)) ways.now) objects.old) }
 {
-    leave_out(alloc, arcs, objects, ways)
+    leave_out(alloc, judging, objects, ways)
 }
 
 /// Leaves out the lines and rings that don't stay, and the rings of polygons whose outer ring is left out, but no ring to which the way of its
@@ -53,7 +53,7 @@ fn leave_out<K: Keeps>(
     ways: &[Option<Vec<usize>>],
 ) -> Result<Vec<Dropped>, Memory>
     ensures objects { OnOk result (objects.new ≡ objects_placed_along (K.places keeps.now) (sparing (K.keeps keeps.now)) (map (map_some (λ v. v.items)) ways.now) objects.old) }
-    ensures dropped { IfOk result (λ dropped. dropped.items ≡ objects_dropped (unkept_cause (K.keeps keeps.now)) 0 (map (map_some (λ v. v.items)) ways.now) objects.old) }
+    ensures dropped { IfOk result (λ dropped. dropped.items ≡ objects_dropped (pair_sparing (K.goes keeps.now)) 0 (map (map_some (λ v. v.items)) ways.now) objects.old) }
 {
     let mut dropped = Vec::new(alloc);
     let mut rest = Ways::of(ways);
@@ -81,7 +81,7 @@ fn leave_out_of_object<K: Keeps>(
 ) -> Result<(), Memory>
     ensures object { OnOk result (object.new ≡ object_placed_along (K.places keeps.now) (sparing (K.keeps keeps.now)) ways.old object.old) }
     ensures ways { OnOk result (ways.new ≡ ways_after ways.old (object_features object.old)) }
-    ensures dropped { OnOk result (dropped.new.items ≡ dropped.old.items ++ object_drops (unkept_cause (K.keeps keeps.now)) number 0 ways.old (object_features object.old)) }
+    ensures dropped { OnOk result (dropped.new.items ≡ dropped.old.items ++ object_drops (pair_sparing (K.goes keeps.now)) number 0 ways.old (object_features object.old)) }
 {
     match object {
         TopoObject::One(feature) => {
@@ -105,7 +105,7 @@ fn leave_out_of_features<K: Keeps>(
 ) -> Result<(), Memory>
     ensures features { OnOk result (features.new ≡ by_ways (feature_placed_along (K.places keeps.now) (sparing (K.keeps keeps.now))) ways.old features.old) }
     ensures ways { OnOk result (ways.new ≡ ways_after ways.old features.old) }
-    ensures dropped { OnOk result (dropped.new.items ≡ dropped.old.items ++ object_drops (unkept_cause (K.keeps keeps.now)) object 0 ways.old features.old) }
+    ensures dropped { OnOk result (dropped.new.items ≡ dropped.old.items ++ object_drops (pair_sparing (K.goes keeps.now)) object 0 ways.old features.old) }
 {
     'features: for number in 0..features.len() {
         let place = Address::of_feature(alloc, object, number);

@@ -7,7 +7,9 @@
 //! arcs at once. Where in each feature a ring is protected, it is named by the way to its polygon, and stays; where none is, no ways are given.
 //! `rings_to_stay` finds the rings of a topology that are protected. It stands on `build_meaning`, which says what topology that is and when it
 //! is what is built of the layers, and on `arc_table`. The layers above use the contracts of `take_apart`, `filled`, `assemble_draft` and of
-//! `reassemble`, and put cells in the place of positions by `prune_objects`.
+//! `reassemble`, and put cells in the place of positions by `prune_objects`. Where small rings go first they make a `Rebuilding` of the arcs as
+//! they stand, learn which arcs are used without the lines and rings that are small then (`used_at_first`), and have each line judged by it
+//! before it is judged by what is left (`finish`).
 #![tactic(auto)]
 
 mod assembling;
@@ -19,6 +21,7 @@ mod enclosing;
 mod filling;
 mod finishing;
 mod given_numbers;
+mod judging;
 mod leaving_out;
 mod left;
 mod marking;
@@ -38,15 +41,18 @@ mod way_steps;
 
 pub use assembling::{assemble, assemble_draft};
 pub use draft_laws::draft_uses_at_zero;
-pub use draft_uses::draft_arcs;
+pub use draft_uses::{draft_arcs, used_at_first};
 pub use filling::filled;
+pub use finishing::finish;
 pub use given_numbers::{cells_of_all, positions_of_all};
 pub use leaving_out::prune_objects;
 pub use left::{Left, Retained};
+pub use placing::placed_arcs;
 pub use position_counting::position_counts;
 pub use protecting::{protected_rings, rings_to_stay};
 pub use pruning::Keeps;
 pub use reassembling::reassemble;
+pub use rebuilding::Rebuilding;
 pub use reducing::Reduces;
 pub use retaining::{retained_arc, retained_cells, retained_positions};
 pub use taking_apart::take_apart;

@@ -1,10 +1,9 @@
 // Which arcs lines and rings use.
-ghost use Rattle.std.specs.Prelude.{◌≡◌, ◌==◌, ℕ, Bool, IfOk, false, replicate};
-ghost use Rattle.std.specs.List.{list_all, list_any};
+ghost use Rattle.std.specs.Prelude.{◌≡◌, ◌==◌, IfOk, false, replicate};
+ghost use Rattle.std.specs.List.{list_all};
 ghost use Rattle.geometry.specs.Joins.{number_of};
 ghost use Rattle.topo_model.specs.Marks.{also_set, names_arc};
 
-use json_value::Items;
 use owned_values::Memory;
 use std::alloc::Global;
 use topojson_types::ArcRef;
@@ -17,47 +16,22 @@ pub fn unused_flags(alloc: Global, arcs: usize) -> Result<Vec<bool>, Memory>
     Ok(flags)
 }
 
-/// A way to set the flags of the arcs that something uses.
-pub trait MarkArcs<T> {
-    /// Whether it uses the arc of this number.
-    ghost uses: { T → ℕ → Bool };
-
-    /// Sets the flags of the arcs that it uses.
-    fn mark(part: &T, used: &mut [bool])
-        ensures { used.new ≡ also_set (uses part.now) 0 used.old };
-}
-
-/// Sets the flags of the arcs that one of these parts uses.
-pub fn mark_all<M: MarkArcs<T>, T>(parts: &[T], used: &mut [bool])
-    ensures { used.new ≡ also_set (λ n. list_any (λ part. M.uses part n) parts.now) 0 used.old }
+/// Sets the flag of the arc that an index names.
+fn mark_arc(arc: ArcRef, used: &mut [bool])
+    ensures { used.new ≡ also_set (λ n. number_of arc == n) 0 used.old }
 {
-    'parts: for part in parts {
-        M::mark(part, used);
+    let index = arc.index();
+    if index < used.len() {
+        used[index] = true;
     }
 }
 
-/// The way to mark the arc that an index names.
-struct Indexes;
-
-impl MarkArcs<ArcRef> for Indexes {
-    ghost uses = { λ r n. number_of r == n };
-
-    fn mark(arc: &ArcRef, used: &mut [bool]) {
-        let index = arc.index();
-        if index < used.len() {
-            used[index] = true;
-        }
-    }
-}
-
-/// The way to mark those of a line or ring.
-pub struct Lines;
-
-impl MarkArcs<Items<ArcRef>> for Lines {
-    ghost uses = { names_arc };
-
-    fn mark(refs: &Items<ArcRef>, used: &mut [bool]) {
-        mark_all::<Indexes, ArcRef>(refs.as_slice(), used);
+/// Sets the flags of the arcs that a line or ring names.
+pub fn mark_refs(refs: &[ArcRef], used: &mut [bool])
+    ensures { used.new ≡ also_set (names_arc refs.now) 0 used.old }
+{
+    'refs: for arc in refs {
+        mark_arc(*arc, used);
     }
 }
 

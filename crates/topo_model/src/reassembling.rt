@@ -42,5 +42,12 @@ pub fn reassemble(
         → r.removed_count ≡ saturated (left_by protects kept ring_limit (contents objects arcs transform)).removed_count) }
     ensures chosen { IfOk result (λ r. r.chosen ≡ retained.chosen) }
 {
-    finish(alloc, objects.into_inner(), retained, transform, ring_limit)
+    finish(
+        alloc,
+        objects.into_inner(),
+        retained,
+        transform,
+        None,
+        ring_limit,
+    )
 }

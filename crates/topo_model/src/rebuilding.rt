@@ -5,8 +5,10 @@ ghost use Rattle.build_meaning.specs.Expected.{is_small};
 ghost use Rattle.geometry.specs.Joins.{arc_at, stitched};
 ghost use Rattle.geometry.specs.Points.{IsPosition};
 ghost use Rattle.geometry.specs.Units.{threshold_limit};
+ghost use Rattle.topo_model.specs.Drops.{draft_cause};
 
 use crate::enclosing::SummedArcs;
+use geojson_types::Cause;
 use json_value::Items;
 use owned_values::Memory;
 use std::alloc::Global;
@@ -60,5 +62,18 @@ impl<'a> Rebuilding<'a> {
             return true;
         }
         closed && self.arcs.is_ring_under(refs, self.ring_limit)
+    }
+
+    /// Why a line or ring is dropped for its own sake, if it is: it has no arc index, or else it is small.
+    pub fn cause(&self, closed: bool, refs: &[ArcRef]) -> Option<Cause>
+        ensures { result ≡ draft_cause self.now closed refs.now }
+    {
+        if refs.is_empty() {
+            Some(Cause::Collapsed)
+        } else if self.is_small(closed, refs) {
+            Some(Cause::Small)
+        } else {
+            None
+        }
     }
 }

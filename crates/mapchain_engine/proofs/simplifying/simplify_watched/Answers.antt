@@ -17,9 +17,9 @@ returns-in-Err-clause-decided g c bytes outcome left comes =
 
 pub returns-in-Ok-clause-written : goal.returns-in-Ok-clause-written
 returns-in-Ok-clause-written g c =
-    sent_whole c.args.guards c.args.level c.args.ring_limit c.args.source.now c.read_and_simplify.new.source c.args.sink.now c.send-sent.new.sink c.in_ok-less.less c.in_ok-less.report c.in_ok-less.ensures.given c.simplified_text_is_utf8.ensures c.left_law.ensures c.share_stays.ensures c.requires.level _ (rw c.in-Ok.is at c.send-sent.ensures)
+    sent_whole c.args.guards c.args.level c.args.ring_limit c.args.source.now c.read_and_simplify.new.source c.args.sink.now c.send-sent.new.sink c.in_ok-less.less c.in_ok-less.report c.in_ok-less.ensures.given c.simplified_text_is_utf8.ensures c.left_law.ensures c.share_stays.ensures c.topology_is_valid.ensures c.requires.level _ (rw c.in-Ok.is at c.send-sent.ensures)
 
 pub returns-in-Ok-clause-decided : goal.returns-in-Ok-clause-decided
 returns-in-Ok-clause-decided g c bytes outcome left comes =
     simplified_follows c.args.sink.now c.send-sent.new.sink c.args.guards c.args.level c.args.ring_limit c.args.source.now c.read_and_simplify.new.source bytes left outcome comes c.in_ok-less.report
-    (sent_whole c.args.guards c.args.level c.args.ring_limit c.args.source.now c.read_and_simplify.new.source c.args.sink.now c.send-sent.new.sink c.in_ok-less.less c.in_ok-less.report c.in_ok-less.ensures.given c.simplified_text_is_utf8.ensures c.left_law.ensures c.share_stays.ensures c.requires.level _ (rw c.in-Ok.is at c.send-sent.ensures))
+    (sent_whole c.args.guards c.args.level c.args.ring_limit c.args.source.now c.read_and_simplify.new.source c.args.sink.now c.send-sent.new.sink c.in_ok-less.less c.in_ok-less.report c.in_ok-less.ensures.given c.simplified_text_is_utf8.ensures c.left_law.ensures c.share_stays.ensures c.topology_is_valid.ensures c.requires.level _ (rw c.in-Ok.is at c.send-sent.ensures))

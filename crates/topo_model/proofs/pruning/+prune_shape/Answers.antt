@@ -1,16 +1,19 @@
-use Rattle.std.proofs.Common.{◌≡◌, ◌+◌, ◌++◌, true, false, map, get_or, append-nil, Some, None, if◌then◌else◌, refl, sym, ap, ◌∙◌}
+use Rattle.std.proofs.Common.{◌≡◌, ◌+◌, ◌++◌, ℤ, Bool, List, true, false, map, get_or, append-nil, Some, None, if◌then◌else◌, refl, sym, ap, ◌∙◌}
 use Rattle.std.proofs.lemmas.Result.{IfOk-weaker, on_ok_weaker}
 use Rattle.geometry.proofs.Moved.{refilled}
+use Rattle.geometry.specs.declared.shape.Geometry.{Geometry}
 use Rattle.geometry.specs.declared.shape.Geometry.TheVariants as v
 use Rattle.geometry.specs.DropCauses.{here, area_drop_causes, drop_causes}
 use Rattle.geometry.specs.Lists.{map_some, some_of, unless_empty}
 use Rattle.geometry.specs.Paths.{of_parts}
+use Rattle.geometry.specs.Points.{Point}
 use Rattle.geometry.specs.Pruning.{area_by, prune}
 use Rattle.geometry.specs.Addresses.{part_address}
+use Rattle.build_meaning.specs.InTurn.{paired, rings_paired}
 use Rattle.build_meaning.specs.OuterRings.{along, marked, rings_marked}
-use Rattle.build_meaning.specs.Protected.{cause_sparing, sparing}
+use Rattle.build_meaning.specs.Protected.{sparing}
 use Rattle.build_meaning.proofs.Marks.{left-point, left-points, left-line, left-lines, left-area, left-areas, left-group}
-use Rattle.topo_model.specs.Drops.{unkept_cause}
+use Rattle.topo_model.specs.Drops.{pair_sparing}
 use Rattle.topo_model.specs.Places.{dropped_at}
 use Rattle.topo_model.proofs.Drops as drops
 use Rattle.topo_model.proofs.Prefix.{InPrefix, if_none, starts, turns, ends, unvisited}
@@ -21,14 +24,14 @@ use Rattle.topo_model.proofs.pruning.+prune_shape.Goals as goal
 pub shapes-init : goal.shapes-init
 shapes-init g t c = record {
   unvisited = (refl, λ k d h. refl);
-  walked = starts marked (prune (g.K.Keeps.places c.args.keeps.now) (sparing (g.K.Keeps.keeps c.args.keeps.now))) (drop_causes (cause_sparing (unkept_cause (g.K.Keeps.keeps c.args.keeps.now)))) (map_some (λ w. w.now) c.args.way) c.args.place
+  walked = starts marked (prune (g.K.Keeps.places c.args.keeps.now) (sparing (g.K.Keeps.keeps c.args.keeps.now))) (λ s. drop_causes (pair_sparing (g.K.Keeps.goes c.args.keeps.now)) (paired s)) (map_some (λ w. w.now) c.args.way) c.args.place
       0 c.as_mut_slice-members.result.now c.args.dropped.now.items;
 }
 
 pub shapes-preserved : goal.shapes-preserved
 shapes-preserved g t c =
     let left = prune (g.K.Keeps.places c.args.keeps.now) (sparing (g.K.Keeps.keeps c.args.keeps.now)) in
-    let why = drop_causes (cause_sparing (unkept_cause (g.K.Keeps.keeps c.args.keeps.now))) in
+    let why = λ (s : Geometry Point (Bool × List ℤ) (Bool × List ℤ)). drop_causes (pair_sparing (g.K.Keeps.goes c.args.keeps.now)) (paired s) in
     let way = map_some (λ w. w.now) c.args.way in
     let part = map_some (λ w. w.now) c.into_part.result in
     let shape = get_or c.shapes.members c.shapes.i c.index-members-i.result in
@@ -51,7 +54,7 @@ returns-in-Point-clause-left g t c =
 
 pub returns-in-Point-clause-dropped : goal.returns-in-Point-clause-dropped
 returns-in-Point-clause-dropped g t c =
-    let why = unkept_cause (g.K.Keeps.keeps c.args.keeps.now) in
+    let why = pair_sparing (g.K.Keeps.goes c.args.keeps.now) in
     let way = map_some (λ w. w.now) c.args.way in
     sym (ap (λ os. c.args.dropped.now.items ++ dropped_at c.args.place os) (ap (drops.gone why way) c.in-Point.is ∙ drops.of_point why way c.in-Point.cell) ∙ append-nil c.args.dropped.now.items)
 
@@ -64,7 +67,7 @@ returns-in-MultiPoint-clause-left g t c =
 
 pub returns-in-MultiPoint-clause-dropped : goal.returns-in-MultiPoint-clause-dropped
 returns-in-MultiPoint-clause-dropped g t c =
-    let why = unkept_cause (g.K.Keeps.keeps c.args.keeps.now) in
+    let why = pair_sparing (g.K.Keeps.goes c.args.keeps.now) in
     let way = map_some (λ w. w.now) c.args.way in
     sym (ap (λ os. c.args.dropped.now.items ++ dropped_at c.args.place os) (ap (drops.gone why way) c.in-MultiPoint.is ∙ drops.of_points why way c.in-MultiPoint.cells) ∙ append-nil c.args.dropped.now.items)
 
@@ -73,14 +76,14 @@ returns-in_ok-add_here-in-Line-clause-left g t c =
     let k = g.K.Keeps.keeps c.args.keeps.now in
     rw (c.in-Line.is, v.outs-Line)
     (left-line (g.K.Keeps.places c.args.keeps.now) (sparing k) c.in-Line.refs (map_some (λ w. w.now) c.args.way)
-    ∙ ap (map_some v.Line) (ap (k false) (sym c.in-Line.refs-is) ∙ c.prune_line-cause.ensures.left ∙ if_none c.prune_line-cause.result c.prune_line-cause.new.refs c.is_none.result c.is_none.ensures)
-    ∙ if_made v.Line c.is_none.result c.prune_line-cause.new.refs)
+    ∙ ap (map_some v.Line) (ap (k false) (sym c.in-Line.refs-is) ∙ c.keep-cause.ensures.left ∙ if_none c.keep-cause.result c.keep-cause.new.refs c.is_none.result c.is_none.ensures)
+    ∙ if_made v.Line c.is_none.result c.keep-cause.new.refs)
 
 pub returns-in_ok-add_here-in-Line-clause-dropped : goal.returns-in_ok-add_here-in-Line-clause-dropped
 returns-in_ok-add_here-in-Line-clause-dropped g t c =
-    let why = unkept_cause (g.K.Keeps.keeps c.args.keeps.now) in
+    let why = pair_sparing (g.K.Keeps.goes c.args.keeps.now) in
     let way = map_some (λ w. w.now) c.args.way in
-    c.in_ok-add_here-in-Line.ensures ∙ ap (λ o. c.args.dropped.now.items ++ dropped_at c.args.place (here o)) (c.prune_line-cause.ensures.cause ∙ ap (why false) c.in-Line.refs-is)
+    c.in_ok-add_here-in-Line.ensures ∙ ap (λ o. c.args.dropped.now.items ++ dropped_at c.args.place (here o)) (c.keep-cause.ensures.cause ∙ ap (λ l. g.K.Keeps.goes c.args.keeps.now false (None, l)) c.in-Line.refs-is)
     ∙ ap (λ os. c.args.dropped.now.items ++ dropped_at c.args.place os) (sym (ap (drops.gone why way) c.in-Line.is ∙ drops.of_line why way c.in-Line.refs))
 
 pub returns-in_ok-prune_lines-in-Lines-clause-left : goal.returns-in_ok-prune_lines-in-Lines-clause-left
@@ -92,9 +95,9 @@ returns-in_ok-prune_lines-in-Lines-clause-left g t c =
 
 pub returns-in_ok-prune_lines-in-Lines-clause-dropped : goal.returns-in_ok-prune_lines-in-Lines-clause-dropped
 returns-in_ok-prune_lines-in-Lines-clause-dropped g t c =
-    let why = unkept_cause (g.K.Keeps.keeps c.args.keeps.now) in
+    let why = pair_sparing (g.K.Keeps.goes c.args.keeps.now) in
     let way = map_some (λ w. w.now) c.args.way in
-    c.in_ok-prune_lines-in-Lines.ensures.dropped ∙ ap (λ ls. c.args.dropped.now.items ++ dropped_at c.args.place (of_parts 0 (map (λ l. here (why false l)) ls))) c.in-Lines.lines-is
+    c.in_ok-prune_lines-in-Lines.ensures.dropped ∙ ap (λ ls. c.args.dropped.now.items ++ dropped_at c.args.place (of_parts 0 (map (λ l. here (g.K.Keeps.goes c.args.keeps.now false (None, l))) ls))) c.in-Lines.lines-is
     ∙ ap (λ os. c.args.dropped.now.items ++ dropped_at c.args.place os) (sym (ap (drops.gone why way) c.in-Lines.is ∙ drops.of_lines why way c.in-Lines.lines))
 
 pub returns-in-Area-clause-left : goal.returns-in-Area-clause-left
@@ -109,10 +112,10 @@ returns-in-Area-clause-left g t c =
 
 pub returns-in-Area-clause-dropped : goal.returns-in-Area-clause-dropped
 returns-in-Area-clause-dropped g t c =
-    let why = unkept_cause (g.K.Keeps.keeps c.args.keeps.now) in
+    let why = pair_sparing (g.K.Keeps.goes c.args.keeps.now) in
     let way = map_some (λ w. w.now) c.args.way in
     on_ok_weaker c.prune_rings.result
-    (λ h. h ∙ ap (λ rs. c.args.dropped.now.items ++ dropped_at c.args.place (area_drop_causes (cause_sparing why true) (rings_marked rs way))) c.in-Area.rings-is
+    (λ h. h ∙ ap (λ rs. c.args.dropped.now.items ++ dropped_at c.args.place (area_drop_causes (why true) (rings_paired (rings_marked rs way)))) c.in-Area.rings-is
     ∙ ap (λ os. c.args.dropped.now.items ++ dropped_at c.args.place os) (sym (ap (drops.gone why way) c.in-Area.is ∙ drops.of_area why way c.in-Area.rings))) c.prune_rings.ensures.dropped
 
 pub returns-in_ok-prune_areas-in-Areas-clause-left : goal.returns-in_ok-prune_areas-in-Areas-clause-left
@@ -126,10 +129,10 @@ returns-in_ok-prune_areas-in-Areas-clause-left g t c =
 
 pub returns-in_ok-prune_areas-in-Areas-clause-dropped : goal.returns-in_ok-prune_areas-in-Areas-clause-dropped
 returns-in_ok-prune_areas-in-Areas-clause-dropped g t c =
-    let why = unkept_cause (g.K.Keeps.keeps c.args.keeps.now) in
+    let why = pair_sparing (g.K.Keeps.goes c.args.keeps.now) in
     let way = map_some (λ w. w.now) c.args.way in
     c.in_ok-prune_areas-in-Areas.ensures.dropped
-    ∙ ap (λ rss. c.args.dropped.now.items ++ dropped_at c.args.place (of_parts 0 (map (area_drop_causes (cause_sparing why true)) (along rings_marked 0 rss way)))) c.in-Areas.areas-is
+    ∙ ap (λ rss. c.args.dropped.now.items ++ dropped_at c.args.place (of_parts 0 (map (λ rs. area_drop_causes (why true) (rings_paired rs)) (along rings_marked 0 rss way)))) c.in-Areas.areas-is
     ∙ ap (λ os. c.args.dropped.now.items ++ dropped_at c.args.place os) (sym (ap (drops.gone why way) c.in-Areas.is ∙ drops.of_areas why way c.in-Areas.areas))
 
 pub returns-after-shapes-clause-left : goal.returns-after-shapes-clause-left
@@ -137,7 +140,7 @@ returns-after-shapes-clause-left g t c =
     let k = g.K.Keeps.keeps c.args.keeps.now in
     let left = prune (g.K.Keeps.places c.args.keeps.now) (sparing k) in
     let way = map_some (λ w. w.now) c.args.way in
-    let walk = ends marked left (drop_causes (cause_sparing (unkept_cause k))) way c.args.place 0 c.as_mut_slice-members.result.now _ c.args.dropped.now.items c.shapes.i c.shapes.kept c.shapes.members c.shapes.dropped.items
+    let walk = ends marked left (λ s. drop_causes (pair_sparing (g.K.Keeps.goes c.args.keeps.now)) (paired s)) way c.args.place 0 c.as_mut_slice-members.result.now _ c.args.dropped.now.items c.shapes.i c.shapes.kept c.shapes.members c.shapes.dropped.items
     c.as_mut_slice-members.ensures.value c.shapes-test.false c.shapes.invariant.walked in
     rw (c.in-Group.is, v.outs-Group)
     (left-group (g.K.Keeps.places c.args.keeps.now) (sparing k) c.in-Group.shapes way
@@ -146,9 +149,10 @@ returns-after-shapes-clause-left g t c =
 pub returns-after-shapes-clause-dropped : goal.returns-after-shapes-clause-dropped
 returns-after-shapes-clause-dropped g t c =
     let k = g.K.Keeps.keeps c.args.keeps.now in
-    let why = drop_causes (cause_sparing (unkept_cause k)) in
+    let goes = pair_sparing (g.K.Keeps.goes c.args.keeps.now) in
+    let why = λ (s : Geometry Point (Bool × List ℤ) (Bool × List ℤ)). drop_causes goes (paired s) in
     let way = map_some (λ w. w.now) c.args.way in
     let walk = ends marked (prune (g.K.Keeps.places c.args.keeps.now) (sparing k)) why way c.args.place 0 c.as_mut_slice-members.result.now _ c.args.dropped.now.items c.shapes.i c.shapes.kept c.shapes.members c.shapes.dropped.items
     c.as_mut_slice-members.ensures.value c.shapes-test.false c.shapes.invariant.walked in
     walk.1 ∙ ap (λ ss. c.args.dropped.now.items ++ dropped_at c.args.place (of_parts 0 (map why (along marked 0 ss way)))) c.in-Group.shapes-is
-    ∙ ap (λ os. c.args.dropped.now.items ++ dropped_at c.args.place os) (sym (ap (drops.gone (unkept_cause k) way) c.in-Group.is ∙ drops.of_group (unkept_cause k) way c.in-Group.shapes))
+    ∙ ap (λ os. c.args.dropped.now.items ++ dropped_at c.args.place os) (sym (ap (drops.gone goes way) c.in-Group.is ∙ drops.of_group goes way c.in-Group.shapes))

@@ -1,4 +1,4 @@
-use Rattle.std.proofs.Common.{map, ap, ◌∙◌}
+use Rattle.std.proofs.Common.{None, map, ap, ◌∙◌}
 use Rattle.std.proofs.lemmas.Result.{IfOk-weaker}
 use Rattle.geometry.specs.Lists.{map_some}
 use Rattle.topojson_types.specs.Decoding.{placed_arcs}
@@ -33,7 +33,7 @@ returns c =
           (λ r h protects kept arcs are picks. h protects kept c.args.objects arcs
           (stands_for_itself protects kept c.args.objects c.into_inner.result.items arcs retained c.args.transform c.args.ring_limit ways are picks c.into_inner.ensures)) c.finish.ensures.topology;
       dropped = IfOk-weaker c.finish.result _ _
-          (λ r h protects kept arcs are picks. h ∙ ap (objects_drops (record { arcs = placed_arcs c.args.transform retained; limit = c.args.ring_limit }) 0 ways) c.into_inner.ensures
+          (λ r h protects kept arcs are picks. h ∙ ap (objects_drops (record { first = None; later = record { arcs = placed_arcs c.args.transform retained; limit = c.args.ring_limit } }) 0 ways) c.into_inner.ensures
           ∙ drops_are protects kept c.args.ring_limit (contents c.args.objects arcs c.args.transform) retained picks ways are c.requires.retained.valid.objects) c.finish.ensures.dropped;
       removed_count = IfOk-weaker c.finish.result _ _
           (λ r h protects kept arcs are picks. h protects kept c.args.objects arcs

@@ -1,0 +1,5 @@
+use Rattle.build_meaning.proofs.InTurn.{same_rings_at_first}
+use Rattle.build_meaning.proofs.in_turn_laws.same_rings_at_first.Goals as goal
+
+pub returns : goal.returns
+returns c = same_rings_at_first

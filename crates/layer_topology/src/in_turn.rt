@@ -1,0 +1,142 @@
+// What is left of a draft where small rings go first: what is small as it stands holds nothing while the rest is reduced.
+ghost use Rattle.std.specs.Prelude.{◌≡◌, ◌<◌, ◌≤◌, ◌^◌, IfOk, Option, length, map, true};
+ghost use Rattle.std.specs.List.{AllByRecursion};
+ghost use Rattle.build_meaning.specs.InTurn as meaning;
+ghost use Rattle.build_meaning.specs.Protected.{protected_rings as all_protected, protection};
+ghost use Rattle.geometry.specs.Lists.{map_some};
+ghost use Rattle.geometry.specs.Points.{IsPosition};
+ghost use Rattle.geometry.specs.Units.{threshold_limit};
+ghost use Rattle.build_meaning.specs.Simplified.{retained_arcs};
+ghost use Rattle.layer_topology.specs.InTurn.{draft_contents, indexes_for, IsLeftInTurn, threshold_in_turn};
+ghost use Rattle.layer_topology.specs.Levels.{chosen_for, is_simplifying_level};
+ghost use Rattle.topojson_types.specs.declared.transform.Transform.{Transform as TransformOf};
+ghost use Rattle.topo_model.specs.Ways.{ways_under};
+ghost use Rattle.topojson_types.specs.Decoding.{placed_arcs as all_placed};
+ghost use Rattle.topojson_types.specs.Validity.{IsTopology};
+
+use crate::at_once::kept_at_once;
+use crate::drafts::Protected;
+use crate::reduction::Reduction;
+use crate::renumbering::renumbered_rings;
+use crate::used::{retained_in_turn, used_lines};
+use build_meaning::{
+    Guards, in_turn_is_at_once, left_indexes_reach, protected_rings_can_stay, same_rings_stay,
+    without_small_is_valid,
+};
+use json_value::{Items, OwnText};
+use owned_values::Memory;
+use std::alloc::Global;
+use topo_model::{
+    Left, Rebuilding, Retained, finish, position_counts, protected_rings, used_at_first,
+};
+use topojson_types::{Cell, TopoObject, Transform};
+
+/// Whether lines and rings that are small as they stand go before arcs are reduced: where guards are asked for, and a ring may enclose too little.
+pub(crate) fn goes_first(asked: Reduction) -> bool
+    ensures { result ≡ meaning.goes_first asked.guards asked.ring_limit }
+{
+    (asked.guards.no_crossings || asked.guards.keep_shapes) && asked.ring_limit > 0
+}
+
+/// The protected rings of objects over arcs under guards.
+fn protected_under(
+    alloc: Global,
+    objects: &[(OwnText, TopoObject)],
+    placed: &[Items<Cell>],
+    guards: Guards,
+) -> Result<Protected, Memory>
+    requires { AllByRecursion (λ arc. AllByRecursion IsPosition arc) placed.now }
+    ensures ways { IfOk result (λ r. map (map_some (λ w. w.items)) r.ways.items ≡ ways_under guards.keep_shapes placed.now objects.now) }
+    ensures rings { IfOk result (λ r. r.rings.items ≡ all_protected (protection guards.keep_shapes placed.now) objects.now) }
+{
+    if guards.keep_shapes {
+        let (ways, rings) = protected_rings(alloc, objects, placed)?;
+        Ok(Protected { ways, rings })
+    } else {
+        Ok(Protected {
+            ways: Vec::new(alloc),
+            rings: Vec::new(alloc),
+        })
+    }
+}
+
+/// What stays of the arcs of a draft, whose positions are given, too: those that no line or ring uses that isn't small as it stands hold nothing,
+/// take no part in a share, and stay whole.
+fn retained_of_used(
+    alloc: Global,
+    objects: &[(OwnText, TopoObject)],
+    arcs: &[Items<Cell>],
+    placed: &[Items<Cell>],
+    first: &Rebuilding<'_>,
+    asked: Reduction,
+) -> Result<Retained, Memory>
+    requires first { meaning.goes_first asked.guards asked.ring_limit ≡ true }
+    requires level { is_simplifying_level asked.level ≡ true }
+    requires judged { first.now ≡ record { arcs = placed.now; limit = asked.ring_limit } }
+    requires valid { (transform : Option TransformOf) × IsTopology (draft_contents objects.now arcs.now transform) × (placed.now ≡ all_placed transform arcs.now) }
+    ensures arcs { IfOk result (λ r. (transform : Option TransformOf) → IsTopology (draft_contents objects.now arcs.now transform) → placed.now ≡ all_placed transform arcs.now
+        → r.arcs.items ≡ retained_arcs (indexes_for asked.guards asked.level asked.ring_limit (draft_contents objects.now arcs.now transform)) arcs.now) }
+    ensures counts { IfOk result (λ r. r.counts.items ≡ map length arcs.now) }
+    ensures ways { IfOk result (λ r. map (map_some (λ w. w.items)) r.ways.items ≡ ways_under asked.guards.keep_shapes placed.now objects.now) }
+    ensures chosen { IfOk result (λ r. (transform : Option TransformOf) → IsTopology (draft_contents objects.now arcs.now transform) → placed.now ≡ all_placed transform arcs.now
+        → r.chosen ≡ chosen_for asked.level (threshold_in_turn asked.guards asked.level asked.ring_limit (draft_contents objects.now arcs.now transform))) }
+{
+    in_turn_is_at_once();
+    same_rings_stay();
+    without_small_is_valid();
+    protected_rings_can_stay();
+    let Protected { ways, rings } = protected_under(alloc, objects, placed, asked.guards)?;
+    let used = used_at_first(alloc, objects, first, &ways, placed.len())?;
+    let rings = renumbered_rings(alloc, &used, rings)?;
+    let lines = used_lines(alloc, placed, &used)?;
+    let (numbers, chosen) = kept_at_once(
+        alloc,
+        &lines,
+        asked.guards.no_crossings,
+        &rings,
+        asked.level,
+    )?;
+    drop(lines);
+    let left = retained_in_turn(alloc, &used, numbers, arcs)?;
+    let counts = position_counts(alloc, arcs)?;
+    Ok(Retained {
+        arcs: left,
+        counts,
+        ways,
+        chosen,
+    })
+}
+
+/// What is left of a draft over these arcs, whose positions are given, too, where small rings go first.
+pub(crate) fn left_in_turn(
+    alloc: Global,
+    objects: Vec<(OwnText, TopoObject)>,
+    arcs: &[Items<Cell>],
+    placed: &[Items<Cell>],
+    transform: Option<Transform>,
+    asked: Reduction,
+) -> Result<Left, Memory>
+    requires first { meaning.goes_first asked.guards asked.ring_limit ≡ true }
+    requires level { is_simplifying_level asked.level ≡ true }
+    requires limit { asked.ring_limit ≤ threshold_limit }
+    requires valid { IsTopology (draft_contents objects.items arcs.now transform) }
+    requires placed { placed.now ≡ all_placed transform arcs.now }
+    ensures left { IfOk result
+        (λ r. IsLeftInTurn asked.guards asked.level asked.ring_limit objects.items (draft_contents objects.items arcs.now transform) r.topology r.dropped.items r.removed_count r.chosen) }
+    ensures few { IfOk result (λ r. length r.topology.arcs < 2 ^ 63) }
+{
+    in_turn_is_at_once();
+    without_small_is_valid();
+    left_indexes_reach();
+    let first = Rebuilding::of(alloc, placed, asked.ring_limit)?;
+    let retained = retained_of_used(alloc, &objects, arcs, placed, &first, asked)?;
+    let left = finish(
+        alloc,
+        objects,
+        retained,
+        transform,
+        Some(&first),
+        asked.ring_limit,
+    )?;
+    Ok(left)
+}

@@ -7,7 +7,7 @@
 N layers are made, of few polygons, lines and collections between few places. Each is built in full by the program. What that writes is simplified by
 the program, and here by the definition itself: of each feature the outer ring that encloses most is protected, of all corners under the threshold
 that may go the least goes, again and again, and each is looked at anew each time; then lines and rings are dropped that are small, unless they are
-protected. For a share they go so without a threshold, and the one that is chosen is found among their weights. The layer is also built with the same
+protected. Where an area of rings is given, those that are small as they stand go before that, with the arcs that nothing else uses. For a share they go so without a threshold, and the one that is chosen is found among their weights. The layer is also built with the same
 options, on the same grid: that is to write the same. It ends with status 1 where a topology, a report of what is dropped, a threshold or these two
 texts differ, or where a feature is lost that has a protected ring. The last line says how many were tried, and how often the option made a
 difference. With `--plain` no option is given, and no ring is protected.
@@ -113,16 +113,19 @@ def share_chosen(arcs, rings, no_crossings, part, whole):
 
 
 class Dropping:
-    """What is left of the objects over reduced arcs, and what is dropped."""
+    """What is left of the objects over reduced arcs, and what is dropped, beside what went before, with its causes."""
 
-    def __init__(self, arcs, limit):
-        self.arcs, self.limit, self.drops = arcs, limit, []
+    def __init__(self, arcs, limit, gone=None):
+        self.arcs, self.limit, self.gone, self.drops = arcs, limit, gone or {}, []
 
     def is_small(self, closed, refs):
         line = clean(along(self.arcs, refs))
         return len(line) < (4 if closed else 2) or closed and enclosed(line) < self.limit
 
     def line(self, refs, way):
+        if way in self.gone:
+            self.drops.append((way, self.gone[way]))
+            return None
         if self.is_small(False, refs):
             self.drops.append((way, "small"))
             return None
@@ -131,10 +134,12 @@ class Dropping:
     def polygon(self, rings, way, is_protected):
         if not rings:
             return None
-        gone = not is_protected and self.is_small(True, rings[0])
+        gone = way + (0,) in self.gone or not is_protected and self.is_small(True, rings[0])
         left = []
         for i, refs in enumerate(rings):
-            if i == 0 and is_protected:
+            if way + (i,) in self.gone:
+                self.drops.append((way + (i,), self.gone[way + (i,)]))
+            elif i == 0 and is_protected:
                 left.append(refs)
             elif self.is_small(True, refs):
                 self.drops.append((way + (i,), "small"))
@@ -225,15 +230,26 @@ def expected(topology, protects, no_crossings, area, share, ring_area):
             found = protected_ring(lines, feature) if protects and feature["type"] else None
             if found:
                 chosen[name, number] = found
-    rings = [refs for _, refs in chosen.values()]
-    threshold = share_chosen(lines, rings, no_crossings, *share) if share else unit * area
-    kept = reduced(lines, rings, no_crossings, threshold)
+    gone, in_use = {}, range(len(lines))
+    if ring_area > 0 and (protects or no_crossings):
+        stay = []
+        for name, thing in topology["objects"].items():
+            for number, feature in enumerate(features_of(thing)):
+                first = Dropping(lines, unit * ring_area)
+                stay.append(first.shape(feature, (), chosen.get((name, number), (None,))[0]))
+                gone[name, number] = dict(first.drops)
+        in_use = sorted({ref for shape in stay if shape for ref in all_refs(shape)})
+    place = {k: i for i, k in enumerate(in_use)}
+    some, rings = [lines[k] for k in in_use], [renumbered(refs, place) for _, refs in chosen.values()]
+    threshold = share_chosen(some, rings, no_crossings, *share) if share else unit * area
+    left = reduced(some, rings, no_crossings, threshold)
+    kept = [left[place[k]] if k in place else range(len(line)) for k, line in enumerate(lines)]
     arcs = [[line[i] for i in indexes] for line, indexes in zip(lines, kept)]
     drops, objects = [], {}
     for layer, (name, thing) in enumerate(topology["objects"].items()):
         left = []
         for number, feature in enumerate(features_of(thing)):
-            dropping = Dropping(arcs, unit * ring_area)
+            dropping = Dropping(arcs, unit * ring_area, gone.get((name, number)))
             way = chosen.get((name, number), (None,))[0]
             shape = dropping.shape(feature, (), way)
             if shape is None:

@@ -1,7 +1,7 @@
 -- Worked rows of what is assembled of layers over reduced arcs, computed from the definitions. The fold of a shape is opened by its
 -- kind.
-use Rattle.std.proofs.Common.{◌≡◌, ℕ, ℤ, pos, Bool, true, false, List, [], ◌∷◌, ◌++◌, map, Option, None, Some, refl, ap, ◌∙◌}
-use Rattle.build_meaning.proofs.Names.{prune-line, prune-area, lines_and_rings-line, drop_causes-area, drop_causes-line, cross, twice_area, shoelace, number_of, Point, prune, same, Small, Outer, Featured, Shape, Stroke, placed_lines_and_rings_at, linework, objects_lines_and_rings, is_before, reduced, all_arcs, kept_refs, objects_by, trimmed, assembled, assembled_dropped, retained_arcs, large_refs, objects_pruned, simplified_by, Named, layers_of}
+use Rattle.std.proofs.Common.{◌≡◌, ℕ, ℤ, pos, true, false, List, [], ◌∷◌, ◌++◌, map, Option, None, Some, refl, ap, ◌∙◌}
+use Rattle.build_meaning.proofs.Names.{prune-line, prune-area, lines_and_rings-area, lines_and_rings-line, drop_causes-area, drop_causes-line, cross, twice_area, shoelace, number_of, Point, prune, same, Small, Outer, Featured, Shape, Stroke, linework, objects_lines_and_rings, is_before, reduced, cleaned, all_arcs, kept_refs, objects_by, trimmed, assembled, assembled_dropped, retained_arcs, large_refs, objects_pruned, simplified_by, Named, layers_of}
 use Rattle.build_meaning.proofs.Assembled.{contents}
 use Rattle.build_meaning.proofs.SimplifiedRows.{at, square, triangle, bent, two}
 use Rattle.geometry.specs.declared.shape.Geometry.TheVariants as g
@@ -26,15 +26,12 @@ fewer = (at 2 2 ∷ (at 2 2 ∷ [])) ∷ (square ∷ (bent ∷ []))
 
 -- ---- the lines and their arcs
 
-abbrev stroke : ℕ → List ℕ → Bool → List Point → Stroke
-stroke feature path closed ps = record { address = record { layer = 0; feature = feature; path = path }; closed = closed; positions = ps }
-
 abbrev lines : List Stroke
-lines = stroke 0 (0 ∷ []) true triangle ∷ (stroke 0 (1 ∷ []) true square ∷ (stroke 1 [] false bent ∷ []))
+lines = cleaned true triangle ∷ (cleaned true square ∷ (cleaned false bent ∷ []))
 
 lines_are : linework (layers_of layers) ≡ lines
 unfolding linework same
-lines_are = simp ((placed_lines_and_rings_at Point (List Point)).area, (placed_lines_and_rings_at Point (List Point)).line)
+lines_are = simp (lines_and_rings-area, lines_and_rings-line)
 
 arcs_are : all_arcs lines ≡ triangle ∷ (square ∷ (bent ∷ []))
 unfolding same

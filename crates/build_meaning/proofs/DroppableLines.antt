@@ -2,6 +2,7 @@
 use Rattle.std.proofs.Common.{◌≡◌, Bool, true, false, List, [], ◌∷◌, ◌++◌, map, Option, None, Some, refl, sym, ap, ◌∙◌, arith}
 use Rattle.build_meaning.proofs.Names.{map-append, AllByRecursion, AtKinds, at_kinds, prune-point, prune-points, prune-line, prune-lines, prune-area, prune-areas, prune-group, lines_and_rings-point, lines_and_rings-points, lines_and_rings-line, lines_and_rings-lines, lines_and_rings-area, lines_and_rings-areas, lines_and_rings-group, by_kinds, map_some, with_some, some_of, unless_empty, joined, area_by, prune, lines_and_rings, option_lines_and_rings, Cause, Geometry, DroppableLine, free, hole, area_droppable_lines, droppable_lines_step, droppable_lines, if_kept}
 use Rattle.geometry.specs.declared.shape.Geometry.TheVariants as g
+pub use Rattle.build_meaning.proofs.Names.{map-map as map_map}
 
 -- ---- by kind
 
@@ -11,10 +12,6 @@ module _ (P L : Type 0) (why : L → Option Cause) where
   droppable_lines_at = at_kinds (droppable_lines_step why)
 
 -- ---- lists
-
-pub map_map : {A B C : Type 0} (g : B → C) (f : A → B) (xs : List A) → map g (map f xs) ≡ map (λ x. g (f x)) xs
-map_map g f [] = refl
-map_map g f (x ∷ xs) = ap (λ ys. g (f x) ∷ ys) (map_map g f xs)
 
 with_append : {A : Type 0} (o : Option A) (xs ys : List A) → with_some o xs ++ ys ≡ with_some o (xs ++ ys)
 with_append o xs ys = grind arith

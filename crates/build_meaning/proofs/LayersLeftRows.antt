@@ -1,7 +1,7 @@
 -- Worked rows of what is left of layers in which of each feature the ring that encloses most is protected, computed from the definitions. The
 -- fold of a shape is opened by its kind.
 use Rattle.std.proofs.Common.{◌≡◌, ℕ, pos, Bool, true, false, List, [], ◌∷◌, map, Option, None, Some, refl, ap, ◌∙◌}
-use Rattle.build_meaning.proofs.Names.{drop_causes-areas, shoelace, area_drop_causes, drop_causes, dropped_of_layers, map_some, with_some, Placed, of_parts, Point, same, Cause, Collapsed, Small, Outer, Shape, Stroke, placed_lines_and_rings_at, linework, all_arcs, marked, drafted_refs, greatest_of_layers, layers_rings, unprotected_cause, unprotected_cause_by, retained_arcs, Named, layers_of, assembled_by}
+use Rattle.build_meaning.proofs.Names.{drop_causes-areas, lines_and_rings-areas, shoelace, area_drop_causes, drop_causes, dropped_of_layers, map_some, with_some, Placed, of_parts, Point, same, Cause, Collapsed, Small, Outer, Shape, Stroke, linework, cleaned, all_arcs, marked, drafted_refs, greatest_of_layers, layers_rings, unprotected_cause, unprotected_cause_by, retained_arcs, Named, layers_of, assembled_by}
 use Rattle.geometry.specs.declared.address.Dropped.{Dropped}
 use Rattle.build_meaning.proofs.Marks.{outer_rings_at, marked-areas}
 use Rattle.build_meaning.proofs.ProtectedRows.{triangle}
@@ -22,15 +22,12 @@ islands = g.Areas ((point ∷ (hole ∷ [])) ∷ ((triangle 20 20 1 ∷ []) ∷ 
 abbrev layers : Named
 layers = ((97 ∷ []), record { features = record { id = None; properties = None; shape = Some islands } ∷ [] }) ∷ []
 
-abbrev stroke : List ℕ → List Point → Stroke
-stroke path ps = record { address = record { layer = 0; feature = 0; path = path }; closed = true; positions = ps }
-
 abbrev lines : List Stroke
-lines = stroke (0 ∷ (1 ∷ [])) hole ∷ (stroke (1 ∷ (0 ∷ [])) (triangle 20 20 1) ∷ (stroke (2 ∷ (0 ∷ [])) (triangle 10 10 2) ∷ []))
+lines = cleaned true hole ∷ (cleaned true (triangle 20 20 1) ∷ (cleaned true (triangle 10 10 2) ∷ []))
 
 lines_are : linework (layers_of layers) ≡ lines
 unfolding linework same
-lines_are = simp ((placed_lines_and_rings_at Point (List Point)).areas)
+lines_are = simp (lines_and_rings-areas)
 
 -- the third is protected, at its place in the layer
 third_protected : greatest_of_layers layers islands ≡ Some (record { path = 2 ∷ []; part = triangle 10 10 2 })

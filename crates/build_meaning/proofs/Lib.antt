@@ -1,4 +1,3 @@
-pub mod Addresses
 pub mod DroppableLines
 pub mod Decoding
 pub mod Linework

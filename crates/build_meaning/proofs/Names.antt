@@ -4,7 +4,7 @@ pub use Rattle.std.proofs.lemmas.Bool.{and_from, and_parts}
 pub use Rattle.std.proofs.lemmas.Bool.Decides.{nat_tests}
 pub use Rattle.std.proofs.lemmas.List.{length-map, map-append, reverse-append, reverse-reverse}
 pub use Rattle.std.proofs.lemmas.Simd.{map-map}
-pub use Rattle.std.specs.List.{AllByRecursion, filter, flat_map, list_all, list_any}
+pub use Rattle.std.specs.List.{AllByRecursion, filter, list_all, list_any}
 pub use Rattle.std.specs.Prelude.{codes, sum}
 pub use Rattle.owned_values.proofs.Elements.{all_append, all_drop, all_left, all_made, all_map, all_of, all_of_map, all_parts, all_right, all_take, all_two, all_weaker, each_of}
 pub use Rattle.owned_values.proofs.Lists.{map_agree}
@@ -27,7 +27,6 @@ pub use Rattle.geometry.specs.Points.{IsPosition, Point}
 pub use Rattle.geometry.specs.Pruning.{area_by, option_lines_and_rings}
 unfoldable pub use Rattle.geometry.specs.Pruning.{lines_and_rings, prune}
 unfoldable pub use Rattle.geometry.specs.Rings.{same}
-pub use Rattle.geometry.specs.declared.address.Address.{Address}
 pub use Rattle.geometry.specs.declared.address.Cause.{Cause}
 pub use Rattle.geometry.specs.declared.address.Cause.TheVariants.{Collapsed, Outer, Small}
 pub use Rattle.geometry.specs.declared.shape.Geometry.{Geometry}
@@ -53,13 +52,11 @@ pub use Rattle.grid_snap.specs.Axes.{Axes, IsAxis, IsGrid, cell, covers, grid_ov
 unfoldable pub use Rattle.grid_snap.specs.Axes.{number}
 pub use Rattle.grid_snap.specs.Laws.{Settles}
 pub use Rattle.grid_snap.specs.declared.axis.Axis.{Axis}
-pub use Rattle.linework.proofs.Placing.{placed_lines_and_rings_at, reported}
 pub use Rattle.linework.specs.Laws.{layers_points}
-pub use Rattle.linework.specs.Linework.{line_or_ring_at, lines_and_rings_of_layer, lines_and_rings_of_layers}
 unfoldable pub use Rattle.linework.specs.Linework.{linework}
-pub use Rattle.linework.specs.Outlines.{Outline, outline}
-pub use Rattle.cutter.proofs.CleanStarts.{clean_starts}
-pub use Rattle.cutter.proofs.Joins.{line_or_ring_split, same_times, turned_length}
+pub use Rattle.linework.specs.Outlines.{is_short_outline, linework_of}
+pub use Rattle.cutter.proofs.CleanStarts.{clean_start}
+pub use Rattle.cutter.proofs.Joins.{line_or_ring_split, same_times, start_length}
 pub use Rattle.cutter.proofs.OpenPieces.{in_flat}
 pub use Rattle.cutter.proofs.Structured.{clean_in, from_flat, structured}
 pub use Rattle.cutter.specs.Pieces.{from_start, pieces, pieces_from, pieces_of, split_at, start_in, turned}
@@ -82,7 +79,7 @@ pub use Rattle.topojson_types.specs.declared.transform.Transform.{Transform}
 pub use Rattle.arc_table.proofs.Alike.{arc_is_piece, arcs_unlike, piece_has_alike}
 pub use Rattle.arc_table.proofs.Indexes.{index_is, named_all, named_is}
 pub use Rattle.arc_table.proofs.Stitching.{pieces_meet, rings_close, same_stitched}
-pub use Rattle.arc_table.specs.Arcs.{ArcsAndIndexes, arcs_of, index_in}
+pub use Rattle.arc_table.specs.Arcs.{arcs_of, index_in}
 pub use Rattle.elimination_meaning.proofs.Steps.{eliminate_sub, numbered_points}
 pub use Rattle.elimination_meaning.proofs.Sublists.{sub_all}
 pub use Rattle.elimination_meaning.specs.Elimination.{Vertex, numbered, remaining}
@@ -100,7 +97,7 @@ pub use Rattle.build_meaning.specs.Assembled.{arc_indexes, arcs_of_layers, assem
 unfoldable pub use Rattle.build_meaning.specs.Assembled.{assembled, assembled_dropped, assembled_removed_count}
 pub use Rattle.build_meaning.specs.Built.{all_arcs, kept_refs, positions_of, untrimmed}
 unfoldable pub use Rattle.build_meaning.specs.Built.{built, removed_count}
-pub use Rattle.build_meaning.specs.BuiltLaws.{AddressesDoNotMatter, AreSound, DecodesBack, EachSegmentOnce, IsRingIfClosed, IsSound, IsValid, LosesNothing, whole_line}
+pub use Rattle.build_meaning.specs.BuiltLaws.{AreSound, DecodesBack, EachSegmentOnce, IsRingIfClosed, IsSound, IsValid, LosesNothing, whole_line}
 pub use Rattle.build_meaning.specs.Celled.{EachCell, IsOnGrid, LiesBack, feature_celled, object_celled, objects_celled}
 unfoldable pub use Rattle.build_meaning.specs.Celled.{celled}
 pub use Rattle.build_meaning.specs.DroppableLines.{DroppableLine, area_droppable_lines, droppable_lines_step, free, hole, if_kept}

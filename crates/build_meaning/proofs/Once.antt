@@ -1,14 +1,11 @@
 -- Each segment of the lines lies once, in exactly one arc.
-use Rattle.std.proofs.Common.{◌≡◌, ◌<◌, List, [], ◌∷◌, ◌++◌, map, refl, ap, sym, ◌∙◌, subst}
-use Rattle.build_meaning.proofs.Names.{flat_map, AllClean, Stroke, same_times, structured, line_segments, piece_segments, times, arcs_of, pieces_of, pieces, split_of, all_pieces, EachSegmentOnce, layers_of, linework}
+use Rattle.std.proofs.Common.{◌≡◌, ◌<◌, List, ap, sym, ◌∙◌, subst}
+use Rattle.build_meaning.proofs.Names.{AllClean, Stroke, same_times, structured, line_segments, piece_segments, times, arcs_of, pieces, EachSegmentOnce, layers_of, linework}
+pub use Rattle.cutter.proofs.Known.{flat_split as same_pieces}
 use Rattle.cutter.proofs.Words.{sharers, segments_once}
 use Rattle.arc_table.proofs.Once.{once_in_arcs}
 use Rattle.arc_table.specs.Laws.{AreOnceIn}
 use Rattle.build_meaning.proofs.Linework.{all_clean}
-
-pub same_pieces : (ls ms : List Stroke) → all_pieces (map (split_of ls) ms) ≡ flat_map (pieces_of ls) ms
-same_pieces ls [] = refl
-same_pieces ls (s ∷ ms) = ap (λ xs. pieces_of ls s ++ xs) (same_pieces ls ms)
 
 once_in_lines : (lines : List Stroke) → AllClean lines → AreOnceIn (arcs_of (pieces lines)) (line_segments lines)
 once_in_lines lines clean a b h =

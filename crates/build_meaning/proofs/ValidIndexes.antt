@@ -1,15 +1,9 @@
 -- The arcs of lines, and the indexes of one of the lines: they are in range, their arcs meet, and those of a ring close.
 use Rattle.std.proofs.Common.{◌≡◌, ◌<◌, ◌≤◌, true, List, [], ◌∷◌, map, length, ap, sym, ◌∙◌, subst, inl, inr, ℤ}
-use Rattle.build_meaning.proofs.Names.{AllByRecursion, all_of, all_made, in_append, number_of, arc_at, Meet, Closes, Point, IsClean, AllClean, is_cut, Stroke, clean_starts, line_or_ring_split, in_flat, structured, clean_in, segments, arcs_unlike, arc_is_piece, piece_has_alike, index_is, named_is, named_all, pieces_meet, rings_close, arcs_of, index_in, pieces_of, pieces, IsSplit, started, split_of, In}
-use Rattle.cutter.specs.Slices.{lines_and_rings}
+use Rattle.build_meaning.proofs.Names.{AllByRecursion, all_of, all_made, in_append, number_of, arc_at, Meet, Closes, Point, IsClean, AllClean, is_cut, Stroke, clean_start, line_or_ring_split, in_flat, structured, clean_in, segments, arcs_unlike, arc_is_piece, piece_has_alike, index_is, named_is, named_all, pieces_meet, rings_close, arcs_of, index_in, pieces_of, pieces, IsSplit, started, split_of, In}
 use Rattle.cutter.specs.Structure.{PiecesAreLong}
 use Rattle.arc_table.proofs.Growth.{map_same}
 use Rattle.arc_table.specs.Growth.{first_alike}
-
-started_clean : (lines : List Stroke) (s : Stroke) (ms : List Stroke) → AllClean (lines_and_rings (map (split_of lines) ms)) → In s ms → IsClean (started (is_cut lines) s)
-started_clean lines s [] h k = elim k [ ]
-started_clean lines s (m ∷ ms) h (inl e) = subst (λ z. IsClean (started (is_cut lines) z)) (sym e) h.0
-started_clean lines s (m ∷ ms) h (inr k) = started_clean lines s ms h.1 k
 
 module _ (lines : List Stroke) (clean : AllClean lines) where
   abbrev arcs : List (List Point)
@@ -36,7 +30,7 @@ module _ (lines : List Stroke) (clean : AllClean lines) where
     split = line_or_ring_split lines s k (clean_in s lines clean k)
 
     begun : IsClean (started (is_cut lines) s)
-    begun = started_clean lines s lines (clean_starts lines clean) k
+    begun = clean_start lines s.closed s.positions k (clean_in s lines clean k)
 
     named : map (arc_at arcs) (map index (pieces_of lines s)) ≡ pieces_of lines s
     named =

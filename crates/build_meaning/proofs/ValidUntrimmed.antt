@@ -1,9 +1,9 @@
 -- The layers over all arcs, with those that no kept line uses, are a valid topology.
 use Rattle.std.proofs.Common.{◌≡◌, ℕ, ◌≤◌, ℤ, Bool, true, false, List, [], ◌∷◌, map, length, Option, None, Some, refl, sym, ap, subst, if◌then◌else◌, arith}
-use Rattle.build_meaning.proofs.Names.{length-map, AllByRecursion, all_weaker, all_two, all_map, arc_at, then_some, Point, IsPosition, prune, option_lines_and_rings, Collapsed, Small, Shape, Featured, is_some_list, is_proper_option, option_points, clean, is_short, AllClean, is_cut, Stroke, linework, In, is_full_option, option_places, IsFeature, IsObject, AreDistinct, AreInRange, IsJoined, IsClosed, IsArc, IsTopology, TopoObject, index_in, reduced, EndsStay, NoneIsNew, all_arcs, kept_refs, unless, own_pieces, is_small, IsSound, AreSound, Named, names_of, layers_of, named_lines_and_rings, Kept, features_by, objects_by, split_at, start_in, turned, pieces_of, sub_all, objects_lines_and_rings, Many, feature_by, object_features, untrimmed, TopoFeature, Layer, features_lines_and_rings}
+use Rattle.build_meaning.proofs.Names.{length-map, AllByRecursion, all_weaker, all_two, all_map, arc_at, then_some, Point, IsPosition, prune, option_lines_and_rings, Collapsed, Small, Shape, Featured, is_some_list, is_proper_option, option_points, clean, is_short, AllClean, Stroke, linework, In, is_full_option, option_places, IsFeature, IsObject, AreDistinct, AreInRange, IsJoined, IsClosed, IsArc, IsTopology, TopoObject, index_in, reduced, EndsStay, NoneIsNew, all_arcs, kept_refs, unless, cleaned, own_pieces, is_small, IsSound, AreSound, Named, names_of, layers_of, named_lines_and_rings, Kept, features_by, objects_by, pieces_of, sub_all, objects_lines_and_rings, Many, feature_by, object_features, untrimmed, TopoFeature, Layer, features_lines_and_rings}
 use Rattle.cutter.specs.Pieces.{stitched}
 use Rattle.build_meaning.proofs.LinesAndRings.{option_left}
-use Rattle.build_meaning.proofs.Linework.{StandsIn, plain, clean_line, all_clean, each_stands}
+use Rattle.build_meaning.proofs.Linework.{StandsIn, all_clean, each_stands}
 use Rattle.build_meaning.proofs.Reshaped.{over}
 use Rattle.build_meaning.proofs.ValidEnds.{SameEnds, ends_kept, named_ends, meet_as, close_as}
 use Rattle.build_meaning.proofs.ValidIndexes.{arcs_long, ranged, met, closed}
@@ -66,31 +66,25 @@ module _ (lines : List Stroke) (t limit : ℕ) where
       on false [] false h = cc
       on b (x ∷ xs) false h = some (is_small limit b (stitched (map (reduced t) (x ∷ xs)))) (index_in (all_arcs lines) x) (map (index_in (all_arcs lines)) xs) h
 
-  module _ (stay : EndsStay) (cleaned : AllClean lines) where
+  module _ (stay : EndsStay) (are_clean : AllClean lines) where
     abbrev arcs : List (List Point)
     arcs = all_arcs lines
 
     abbrev fewer : List (List Point)
     fewer = map (reduced t) (all_arcs lines)
 
-    abbrev plain_pieces : Bool × List Point → List (List Point)
-    plain_pieces b = split_at (is_cut lines) (if b.0 then turned (start_in (is_cut lines) b.1) b.1 else b.1)
-
     same_ends : (r : ℤ) → SameEnds (arc_at fewer r) (arc_at arcs r)
-    same_ends = named_ends (reduced t) arcs (all_weaker (λ x. 2 ≤ length x) (λ x. SameEnds (reduced t x) x) (λ x h. (ends_kept stay t x h).0) arcs (arcs_long lines cleaned))
+    same_ends = named_ends (reduced t) arcs (all_weaker (λ x. 2 ≤ length x) (λ x. SameEnds (reduced t x) x) (λ x h. (ends_kept stay t x h).0) arcs (arcs_long lines are_clean))
 
     line_or_ring_fine : (s : Stroke) → In s lines → IsFine fewer (s.closed, map (index_in arcs) (pieces_of lines s))
     line_or_ring_fine s k = (
-      subst (λ n. AreInRange n (map (index_in arcs) (pieces_of lines s))) (sym (length-map arcs (reduced t))) (ranged lines cleaned s k),
-      meet_as (arc_at fewer) (arc_at arcs) same_ends (map (index_in arcs) (pieces_of lines s)) (met lines cleaned s k),
-      λ c. close_as (arc_at fewer) (arc_at arcs) same_ends (map (index_in arcs) (pieces_of lines s)) (closed lines cleaned s k c),
+      subst (λ n. AreInRange n (map (index_in arcs) (pieces_of lines s))) (sym (length-map arcs (reduced t))) (ranged lines are_clean s k),
+      meet_as (arc_at fewer) (arc_at arcs) same_ends (map (index_in arcs) (pieces_of lines s)) (met lines are_clean s k),
+      λ c. close_as (arc_at fewer) (arc_at arcs) same_ends (map (index_in arcs) (pieces_of lines s)) (closed lines are_clean s k c),
     )
 
-    line_fine : (b : Bool × List Point) → (s : Stroke) × In s lines × (plain s ≡ clean_line b) → IsFine fewer (b.0, map (index_in arcs) (own_pieces lines b.0 b.1))
-    line_fine b r = subst (λ x. IsFine fewer (x.0, map (index_in arcs) (plain_pieces x))) r.2 (line_or_ring_fine r.0 r.1)
-
     kept_fine : (b : Bool × List Point) → StandsIn lines b → (m : List ℤ) → kept_refs lines t limit b.0 b.1 ≡ Some m → IsFine fewer (b.0, m)
-    kept_fine b stands m e = grind (arith, line_fine b)
+    kept_fine b stands m e = grind (arith, line_or_ring_fine (cleaned b.0 b.1))
 
 -- ---- topologies
 

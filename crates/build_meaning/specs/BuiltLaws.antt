@@ -1,11 +1,9 @@
 -- What is true of the topology that is built of layers.
-use Rattle.std.specs.Prelude.{◌≡◌, ℕ, Bool, true, List, Option, None, Some, map, if◌then◌else◌}
+use Rattle.std.specs.Prelude.{◌≡◌, ℕ, Bool, true, List, Option, None, Some, if◌then◌else◌}
 use Rattle.std.specs.List.{AllByRecursion}
-use Rattle.arc_table.specs.Arcs.{table_of}
 use Rattle.arc_table.specs.Laws.{AreOnceIn}
 use Rattle.cutter.specs.Pieces.{from_start}
 use Rattle.cutter.specs.Segments.{line_segments}
-use Rattle.cutter.specs.Slices.{split_of}
 use Rattle.geojson_types.specs.declared.layer.FeatureSet.TheVariants as set
 use Rattle.geojson_types.specs.Features.{Featured, is_proper_option}
 use Rattle.geojson_types.specs.Places.{option_points}
@@ -13,9 +11,7 @@ use Rattle.geometry.specs.Points.{Point, IsPosition}
 use Rattle.geometry.specs.Pruning.{option_lines_and_rings}
 use Rattle.junctions.specs.Cleaning.{clean, is_short}
 use Rattle.junctions.specs.Cuts.{is_cut}
-use Rattle.junctions.specs.declared.stroke.Stroke.{Stroke}
 use Rattle.linework.specs.Linework.{linework}
-use Rattle.linework.specs.Outlines.{outline}
 pub use Rattle.linework.specs.Outlines.{IsRingIfClosed}
 use Rattle.topojson_types.specs.Decoding.{decoded}
 use Rattle.topojson_types.specs.Validity.{AreDistinct, IsTopology}
@@ -58,7 +54,3 @@ whole_line ls closed ps = if is_short closed (clean ps) then None else Some (fro
 abbrev pub LosesNothing : Type 0
 LosesNothing = (ls : Named) → AreSound ls
     → AllByRecursion (λ b. kept_line (linework (layers_of ls)) 0 0 b.0 b.1 ≡ whole_line ls b.0 b.1) (named_lines_and_rings ls)
-
--- the arcs of lines and rings, and the indexes of these, don't depend on where they stand
-abbrev pub AddressesDoNotMatter : Type 0
-AddressesDoNotMatter = (ls ms : List Stroke) → map outline ls ≡ map outline ms → table_of (map (split_of ls) ls) ≡ table_of (map (split_of ms) ms)

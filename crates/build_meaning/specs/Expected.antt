@@ -15,14 +15,11 @@ use Rattle.geometry.specs.Points.{Point}
 use Rattle.geometry.specs.Pruning.{prune}
 use Rattle.junctions.specs.Cleaning.{clean, is_short}
 use Rattle.linework.specs.Linework.{linework}
+pub use Rattle.linework.specs.Outlines.{cleaned}
 use Rattle.junctions.specs.declared.stroke.Stroke.{Stroke}
 use Rattle.build_meaning.specs.Layers.{Named, layers_of}
 
 -- ---- lines
-
--- the line or ring with equal neighbours as one position; where it stands doesn't matter here
-abbrev pub cleaned : Bool → List Point → Stroke
-cleaned closed ps = record { address = record { layer = 0; feature = 0; path = [] }; closed = closed; positions = clean ps }
 
 -- the pieces of a line or ring, cut at the cut positions of all lines
 abbrev pub own_pieces : List Stroke → Bool → List Point → List (List Point)

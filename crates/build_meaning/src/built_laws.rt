@@ -1,5 +1,5 @@
 // Laws of the definitions. A function here changes nothing: its contract is the law.
-ghost use Rattle.build_meaning.specs.BuiltLaws.{AddressesDoNotMatter, DecodesBack, EachSegmentOnce, IsValid, LosesNothing};
+ghost use Rattle.build_meaning.specs.BuiltLaws.{DecodesBack, EachSegmentOnce, IsValid, LosesNothing};
 
 use elimination_meaning::{direction_law, ends_stay, nothing_is_new, zero_law};
 
@@ -33,9 +33,3 @@ pub fn zero_loses_nothing()
 {
     zero_law();
 }
-
-/// Lines and rings with the same positions have the same arcs and arc indexes, wherever they stand in the layers.
-#[tactic(auto, using(crate::proofs::Addresses::do_not_matter))]
-pub fn addresses_do_not_matter()
-    ensures { AddressesDoNotMatter }
-{}

@@ -4,9 +4,9 @@
 //! that are reduced at once, on `grid_snap`, whose grids have cells, and on `topojson_types`, which says what a topology decodes to and where a
 //! cell lies by a transform. The layers above use the definitions and the laws: what is built, reduced or put on a grid is valid, decodes to
 //! the features that are expected of the layers, and names no arc that isn't there; each segment of the lines lies once, in exactly one arc;
-//! arcs don't depend on where the lines stand; and what is left of layers at a threshold is what is left of what is built of them at zero, with
-//! a grid and without, and without a guard what is built of them at the threshold. `specs/Left.antt` says what is left of a topology, and
-//! `specs/LeftOfLayers.antt` what is left of layers.
+//! and what is left of layers at a threshold is what is left of what is built of them at zero, with a grid and without, and without a guard
+//! what is built of them at the threshold. `specs/Left.antt` says what is left of a topology, and `specs/LeftOfLayers.antt` what is left of
+//! layers.
 #![tactic(auto)]
 
 mod built_laws;
@@ -19,10 +19,7 @@ mod ring_laws;
 mod simplified_laws;
 mod transform_laws;
 
-pub use built_laws::{
-    addresses_do_not_matter, built_decodes_back, built_is_valid, each_segment_once,
-    zero_loses_nothing,
-};
+pub use built_laws::{built_decodes_back, built_is_valid, each_segment_once, zero_loses_nothing};
 pub use grid_laws::{
     built_cells_are_on, built_decodes_quantized, built_is_valid_quantized, quantized_decodes,
     quantized_is_valid, quantized_keeps, snapped_are_on, snapped_keep,

@@ -1,5 +1,5 @@
 -- Two tests that agree on the positions of a line give the same start and the same pieces of it.
-use Rattle.cutter.proofs.Names.{filter, all_drop, all_of, all_take, each_of, in_append, is_least, Point, Address, last, Stroke, joined, pieces_from, split_at, first_at, start_in, turned, from_start, In, SplitLine, split_by, EndsPass}
+use Rattle.cutter.proofs.Names.{filter, all_drop, all_of, all_take, each_of, in_append, is_least, Point, last, Stroke, joined, pieces_from, split_at, first_at, start_in, turned, from_start, In, SplitLine, split_by, EndsPass}
 use Rattle.std.proofs.Common.{◌≡◌, ℕ, ◌+◌, Bool, cond, List, [], ◌∷◌, take, drop, refl, ap, sym, ◌∙◌, subst, inl, inr, arith}
 use Rattle.cutter.proofs.Starts.{line}
 
@@ -13,16 +13,16 @@ in_turned : (k : ℕ) (x : Point) (ps : List Point) → In x (turned k ps) → I
 in_turned k x ps h = elim (in_append x (drop k ps) (drop 1 (take (k + 1) ps)) h) [ inl i ↦ in_drop k x ps i | inr i ↦ in_take (k + 1) x ps (in_drop 1 x (take (k + 1) ps) i) ]
 
 -- a line from its start has the positions of the line
-pub in_start : (f : Point → Bool) (at : Address) (c : Bool) (ps : List Point) (x : Point) → In x (from_start f (line at c ps)) → In x ps
-in_start f at c ps x h = grind (arith, in_turned)
+pub in_start : (f : Point → Bool) (c : Bool) (ps : List Point) (x : Point) → In x (from_start f (line c ps)) → In x ps
+in_start f c ps x h = grind (arith, in_turned)
 
 pub last_in : (p : Point) (ps : List Point) → In (last p ps) (p ∷ ps)
 last_in p [] = inl refl
 last_in p (q ∷ ps) = inr (last_in q ps)
 
 -- a split line of its parts
-abbrev pub split : Address → Bool → List Point → List (List Point) → SplitLine
-split at c ps xs = record { stroke = line at c ps; pieces = xs }
+abbrev pub split : Bool → List Point → List (List Point) → SplitLine
+split c ps xs = record { stroke = line c ps; pieces = xs }
 
 module _ (f g : Point → Bool) where
   filter_agree : (ps : List Point) → ((x : Point) → In x ps → f x ≡ g x) → filter f ps ≡ filter g ps
@@ -40,15 +40,15 @@ module _ (f g : Point → Bool) where
   pub start_agree : (ps : List Point) → ((x : Point) → In x ps → f x ≡ g x) → start_in f ps ≡ start_in g ps
   start_agree ps h = ap (λ fs. first_at (λ p. is_least p fs) ps) (filter_agree ps h)
 
-  from_agree : (at : Address) (c : Bool) (ps : List Point) → ((x : Point) → In x ps → f x ≡ g x) → from_start f (line at c ps) ≡ from_start g (line at c ps)
-  from_agree at c ps h = grind (arith, start_agree)
+  from_agree : (c : Bool) (ps : List Point) → ((x : Point) → In x ps → f x ≡ g x) → from_start f (line c ps) ≡ from_start g (line c ps)
+  from_agree c ps h = grind (arith, start_agree)
 
   -- a line is split into one list of pieces by both tests
   pub by_agree : (s : Stroke) → ((x : Point) → In x s.positions → f x ≡ g x) → split_by f s ≡ split_by g s
   by_agree s h =
-      let e = from_agree s.address s.closed s.positions h in
-      ap (λ l. split s.address s.closed l (split_at f l)) e
-      ∙ ap (λ l. split s.address s.closed (from_start g s) l) (split_agree (from_start g s) (λ x k. h x (in_start g s.address s.closed s.positions x k)))
+      let e = from_agree s.closed s.positions h in
+      ap (λ l. split s.closed l (split_at f l)) e
+      ∙ ap (λ l. split s.closed (from_start g s) l) (split_agree (from_start g s) (λ x k. h x (in_start g s.closed s.positions x k)))
 
   ends_agree_of : (ps : List Point) → ((x : Point) → In x ps → f x ≡ g x) → EndsPass g ps → EndsPass f ps
   ends_agree_of [] h k = tt
@@ -56,4 +56,4 @@ module _ (f g : Point → Bool) where
 
   -- the ends pass both
   pub ends_agree : (s : Stroke) → ((x : Point) → In x s.positions → f x ≡ g x) → EndsPass g (from_start g s) → EndsPass f (from_start f s)
-  ends_agree s h k = ends_agree_of (from_start f s) (λ x m. h x (in_start f s.address s.closed s.positions x m)) (subst (λ l. EndsPass g l) (sym (from_agree s.address s.closed s.positions h)) k)
+  ends_agree s h k = ends_agree_of (from_start f s) (λ x m. h x (in_start f s.closed s.positions x m)) (subst (λ l. EndsPass g l) (sym (from_agree s.closed s.positions h)) k)

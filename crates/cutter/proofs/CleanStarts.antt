@@ -1,10 +1,12 @@
 -- A line from its start is clean, as the line is.
-use Rattle.std.proofs.Common.{◌≡◌, ℕ, ◌<◌, ◌≤◌, Bool, true, false, List, [], ◌∷◌, ◌++◌, length, map, refl, ap, sym, ◌∙◌, arith, inl, inr}
-use Rattle.cutter.proofs.Names.{Point, Address, Moves, IsCleanList, IsClean, AllClean, is_cut, last, Stroke, start_in, turned, In, started, split_of, lines_and_rings}
+use Rattle.std.proofs.Common.{◌≡◌, ℕ, ◌<◌, ◌≤◌, Bool, true, false, List, [], ◌∷◌, ◌++◌, length, map, refl, ap, sym, ◌∙◌, arith}
+use Rattle.owned_values.proofs.Elements.{all_made, all_map}
+use Rattle.cutter.proofs.Structured.{clean_in}
+use Rattle.cutter.proofs.Names.{Point, Moves, IsCleanList, IsClean, AllClean, is_cut, last, Stroke, start_in, turned, In, started, split_of, lines_and_rings}
 use Rattle.geometry.specs.Lists.{all_but_last_of}
 use Rattle.cutter.proofs.Joins.{turned_length}
 use Rattle.cutter.proofs.RingPieces.{moves_more, all_but_last_last, all_but_last_length, turned_is}
-use Rattle.cutter.proofs.Starts.{ring_cut, start_cut, line}
+use Rattle.cutter.proofs.Starts.{ring_start, line}
 use Rattle.cutter.proofs.TurnedRings.{Goes, Good, turned_good}
 
 -- any three positions are a passage here, so that only moves count
@@ -32,18 +34,14 @@ clean_turned ls p q ps e m k n =
     clean_of (turned k (p ∷ (q ∷ ps))) _ t.0 t.1 t.2 (omega (arith, turned_length k (p ∷ (q ∷ ps)) n))
     (turned_good Any k p q ps (all_but_last_of p (q ∷ ps)) ended (omega (arith, n, all_but_last_length p (q ∷ ps))) good)
 
-clean_start : (ls : List Stroke) (at : Address) (c : Bool) (ps : List Point) → In (line at c ps) ls → IsClean (line at c ps) → IsClean (started (is_cut ls) (line at c ps))
-clean_start ls at c [] k h = elim h [ ]
-clean_start ls at c (p ∷ []) k h = elim h [ ]
-clean_start ls at false (p ∷ (q ∷ ps)) k h = h
-clean_start ls at true (p ∷ (q ∷ ps)) k h =
-    let c = ring_cut ls at p (q ∷ ps) k in
-    clean_turned ls p q ps (h.1 refl) h.0 (start_in (is_cut ls) (p ∷ (q ∷ ps))) (start_cut (is_cut ls) c.0 p (p ∷ (q ∷ ps)) c.1 c.2).0
-
-starts_from : (ls ms : List Stroke) → ((s : Stroke) → In s ms → In s ls) → AllClean ms → AllClean (lines_and_rings (map (split_of ls) ms))
-starts_from ls [] f h = tt
-starts_from ls (s ∷ ms) f h = (clean_start ls s.address s.closed s.positions (f s (inl refl)) h.0, starts_from ls ms (λ t k. f t (inr k)) h.1)
+-- a line from its start is clean
+pub clean_start : (ls : List Stroke) (c : Bool) (ps : List Point) → In (line c ps) ls → IsClean (line c ps) → IsClean (started (is_cut ls) (line c ps))
+clean_start ls c [] k h = elim h [ ]
+clean_start ls c (p ∷ []) k h = elim h [ ]
+clean_start ls false (p ∷ (q ∷ ps)) k h = h
+clean_start ls true (p ∷ (q ∷ ps)) k h =
+    clean_turned ls p q ps (h.1 refl) h.0 (start_in (is_cut ls) (p ∷ (q ∷ ps))) (ring_start ls p (q ∷ ps) k).0
 
 -- the lines that are left of clean ones, each turned to its start, are clean
 pub clean_starts : (ls : List Stroke) → AllClean ls → AllClean (lines_and_rings (map (split_of ls) ls))
-clean_starts ls h = starts_from ls ls (λ s k. k) h
+clean_starts ls h = all_map IsClean (λ s. s.stroke) (map (split_of ls) ls) (all_made (λ r. IsClean r.stroke) (split_of ls) ls (λ s k. clean_start ls s.closed s.positions k (clean_in s ls h k)))

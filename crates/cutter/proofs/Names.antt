@@ -1,7 +1,7 @@
 -- The names that several proofs of this crate cite, passed on from one place.
 pub use Rattle.std.proofs.Math.Bool.{or-true}
 pub use Rattle.std.proofs.lemmas.Bool.{or_parts, and_parts, cases_lt}
-pub use Rattle.std.proofs.lemmas.List.{drop-append-le, drop_all, drop_at, length-append, length-reverse, length-take-le, reverse-append, reverse-reverse, take_all, take_at, length-drop, get_or-append_right, get_or-drop, length-map, map-append, take-append-le, take_more, drop-drop, length-take}
+pub use Rattle.std.proofs.lemmas.List.{drop-append-le, length-append, length-take-le, reverse-append, take_all, length-drop, get_or-append_right, get_or-drop, length-map, map-append, take-append-le, take_more, drop-drop, length-take}
 pub use Rattle.std.proofs.lemmas.List.Sums.{sum_by-append, sum_by-cons}
 pub use Rattle.std.specs.List.{flat_map, list_any, slice_range, filter, count_by, list_all, AllByRecursion}
 pub use Rattle.owned_values.proofs.Elements.{each_of, all_made, all_drop, all_of, all_take}
@@ -11,7 +11,6 @@ pub use Rattle.geometry.proofs.Points.{same_self, same_is}
 pub use Rattle.geometry.specs.Order.{is_before, least_of, is_least}
 pub use Rattle.geometry.specs.Points.{Point}
 unfoldable pub use Rattle.geometry.specs.Rings.{same}
-pub use Rattle.geometry.specs.declared.address.Address.{Address}
 pub use Rattle.junctions.proofs.Members.{in_filter, none_of, from_filter, get_in, in_flat}
 pub use Rattle.junctions.specs.Answers.{Answers, is_member, AnswersFor}
 pub use Rattle.junctions.specs.Cleaning.{Moves, IsClean, AllClean, IsCleanList}

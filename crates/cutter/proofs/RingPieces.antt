@@ -1,11 +1,11 @@
 -- The pieces of a ring.
 use Rattle.std.proofs.Common.{drop-cons, ◌≡◌, ◌≢◌, ℕ, zero, suc, ◌<◌, ◌≤◌, true, List, [], ◌∷◌, ◌++◌, take, drop, length, get_or, append-nil, refl, ap, sym, ◌∙◌, subst, arith, inl, inr}
-use Rattle.cutter.proofs.Names.{Point, Address, in_flat, Moves, is_cut, Visit, visits, visits_from, all_visits, last, Stroke, pieces_of, split_at, turned, start_in}
+use Rattle.cutter.proofs.Names.{Point, in_flat, Moves, is_cut, Visit, visits, visits_from, all_visits, last, Stroke, pieces_of, split_at, turned, start_in}
 use Rattle.geometry.specs.Lists.{all_but_last_of}
 use Rattle.cutter.proofs.Junctions.{In, visit, Via}
 use Rattle.cutter.proofs.Splits.{Steps, AllWalks, all_walks}
 use Rattle.cutter.proofs.TurnedRings.{Goes, Good, turned_good}
-use Rattle.cutter.proofs.Starts.{start_cut, ring_cut, line}
+use Rattle.cutter.proofs.Starts.{ring_start, line}
 
 steps_from : (ls : List Stroke) (p q : Point) (ps : List Point) → Goes (Via ls) p q ps → Steps (is_cut ls) (Via ls) p q ps
 steps_from ls p q [] h = tt
@@ -52,14 +52,13 @@ pub turned_is : (d p q : Point) (ps : List Point) → last q ps ≡ p → (k : �
 turned_is d p q ps e zero l = (q ∷ ps, append-nil (p ∷ (q ∷ ps)), e)
 turned_is d p q ps e (suc j) l = grind (arith, drop-cons (p ∷ (q ∷ ps)) (suc j) d l, last_append (get_or (q ∷ ps) j d) (drop j ps) q (take j ps), last_take q d j ps (omega arith))
 
-pub ring_pieces : (ls : List Stroke) (at : Address) (p q : Point) (ps : List Point) → In (line at true (p ∷ (q ∷ ps))) ls → last q ps ≡ p → Moves p (q ∷ ps) →
-    AllWalks (is_cut ls) (Via ls) (pieces_of ls (line at true (p ∷ (q ∷ ps))))
-ring_pieces ls at p q ps k e m =
-    let c = ring_cut ls at p (q ∷ ps) k in
-    let s = start_cut (is_cut ls) c.0 p (p ∷ (q ∷ ps)) c.1 c.2 in
+pub ring_pieces : (ls : List Stroke) (p q : Point) (ps : List Point) → In (line true (p ∷ (q ∷ ps))) ls → last q ps ≡ p → Moves p (q ∷ ps) →
+    AllWalks (is_cut ls) (Via ls) (pieces_of ls (line true (p ∷ (q ∷ ps))))
+ring_pieces ls p q ps k e m =
+    let s = ring_start ls p (q ∷ ps) k in
     let t = turned_is p p q ps e (start_in (is_cut ls) (p ∷ (q ∷ ps))) s.0 in
     let more : Moves p (q ∷ (ps ++ (q ∷ []))) = moves_more ls p (q ∷ ps) q m (λ z. m.0 (sym e ∙ z)) in
-    let good : Good (Via ls) ((p ∷ (q ∷ ps)) ++ (q ∷ [])) = goes_from ls p q (ps ++ (q ∷ [])) (λ v h. in_flat visits (line at true (p ∷ (q ∷ ps))) v ls k h) more in
+    let good : Good (Via ls) ((p ∷ (q ∷ ps)) ++ (q ∷ [])) = goes_from ls p q (ps ++ (q ∷ [])) (λ v h. in_flat visits (line true (p ∷ (q ∷ ps))) v ls k h) more in
     let ended : p ∷ (q ∷ ps) ≡ all_but_last_of p (q ∷ ps) ++ (p ∷ []) = all_but_last_last p (q ∷ ps) ∙ ap (λ z. all_but_last_of p (q ∷ ps) ++ (z ∷ [])) e in
     split_good ls (turned (start_in (is_cut ls) (p ∷ (q ∷ ps))) (p ∷ (q ∷ ps))) (get_or (p ∷ (q ∷ ps)) (start_in (is_cut ls) (p ∷ (q ∷ ps))) p) t.0 t.1
     (turned_good (Via ls) (start_in (is_cut ls) (p ∷ (q ∷ ps))) p q ps (all_but_last_of p (q ∷ ps)) ended (omega (arith, s.0, all_but_last_length p (q ∷ ps))) good)

@@ -6,7 +6,7 @@ abbrev p : ℕ → ℕ → Point
 p x y = record { x = pos x; y = pos y }
 
 abbrev stroke : Bool → List Point → Stroke
-stroke closed ps = record { address = record { layer = 0; feature = 0; path = [] }; closed = closed; positions = ps }
+stroke closed ps = record { closed = closed; positions = ps }
 
 abbrev ring : List Point → Stroke
 ring ps = stroke true ps

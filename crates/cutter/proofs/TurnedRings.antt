@@ -1,6 +1,6 @@
 -- A ring that is turned to another start has the same passages.
 use Rattle.cutter.proofs.Names.{drop-append-le, Point, turned}
-use Rattle.std.proofs.Common.{◌≡◌, ◌≢◌, ℕ, zero, suc, ◌+◌, ◌-◌, ◌≤◌, List, [], ◌∷◌, ◌++◌, take, drop, length, append_assoc, append-nil, ap, sym, ◌∙◌, subst, arith}
+use Rattle.std.proofs.Common.{◌≡◌, ◌≢◌, ℕ, zero, suc, ◌+◌, ◌≤◌, List, [], ◌∷◌, ◌++◌, take, drop, length, append_assoc, append-nil, ap, sym, ◌∙◌, subst, arith}
 
 module _ (Via : Point → Point → Point → Type 0) where
   -- a walk on from p to q: each two in a row differ, and each three in a row are a passage

@@ -4,7 +4,7 @@ use Rattle.std.proofs.lemmas.List.Elements.{filter-append}
 use Rattle.owned_values.proofs.Elements.{all_reverse}
 use Rattle.owned_values.proofs.Members.{in_left, in_right}
 use Rattle.junctions.proofs.Members.{from_map, from_flat}
-use Rattle.cutter.proofs.Names.{length-append, length-map, take_all, take_more, Replaced, ends, started, map-append, in_append, all_of, each_of, or-true, same_self, Point, same, Address, IsClean, AllClean, is_cut, Visit, visits, visits_from, all_visits, visits_at, last, is_end, filter, Stroke, joined, pieces_from, split_at, pieces_of, from_start, In, SplitLine, split_of, Answers, AnswersFor, is_member, EndsPass, indexes, slices, stitched}
+use Rattle.cutter.proofs.Names.{length-append, length-map, take_all, take_more, Replaced, ends, started, map-append, in_append, all_of, each_of, or-true, same_self, Point, same, IsClean, AllClean, is_cut, Visit, visits, visits_from, all_visits, visits_at, last, is_end, filter, Stroke, joined, pieces_from, split_at, pieces_of, from_start, In, SplitLine, split_of, Answers, AnswersFor, is_member, EndsPass, indexes, slices, stitched}
 use Rattle.cutter.proofs.Agreement.{in_start, last_in}
 use Rattle.cutter.proofs.Joins.{line_or_ring_split}
 use Rattle.cutter.proofs.Known.{cuts_known, ready, split_known, split_view}
@@ -32,16 +32,16 @@ visited_between q a b [] k n = grind arith
 visited_between q a b (c ∷ ps) k n = grind (arith, same_self, visited_between q b c ps)
 
 -- a line visits each of its positions at which it isn't cut
-visited : (ls : List Stroke) (at : Address) (c : Bool) (ps : List Point) (q : Point) → In (line at c ps) ls → IsClean (line at c ps) → is_cut ls q ≡ false → In q ps → 1 ≤ times_at q (visits (line at c ps))
-visited ls at c [] q m h f k = elim h [ ]
-visited ls at c (p ∷ []) q m h f k = elim h [ ]
-visited ls at false (p ∷ (r ∷ ps)) q m h f k =
-    let no : is_end q (p ∷ (r ∷ ps)) ≡ true → ⊥ = λ e. (let bad : true ≡ false = sym (end_cut ls (line at false (p ∷ (r ∷ ps))) q m e) ∙ f in cc) in
+visited : (ls : List Stroke) (c : Bool) (ps : List Point) (q : Point) → In (line c ps) ls → IsClean (line c ps) → is_cut ls q ≡ false → In q ps → 1 ≤ times_at q (visits (line c ps))
+visited ls c [] q m h f k = elim h [ ]
+visited ls c (p ∷ []) q m h f k = elim h [ ]
+visited ls false (p ∷ (r ∷ ps)) q m h f k =
+    let no : is_end q (p ∷ (r ∷ ps)) ≡ true → ⊥ = λ e. (let bad : true ≡ false = sym (end_cut ls (line false (p ∷ (r ∷ ps))) q m e) ∙ f in cc) in
     subst (λ l. 1 ≤ times_at q (visits_from p r l)) (sym (append-nil ps))
     (visited_between q p r ps
     (elim k [ inl e ↦ absurd (no (grind (arith, same_self, e))) | inr i ↦ i ])
     (λ e. no (grind (arith, same_self, or-true, e))))
-visited ls at true (p ∷ (r ∷ ps)) q m h f k =
+visited ls true (p ∷ (r ∷ ps)) q m h f k =
     visited_on q p r ps r (elim k [ inl e ↦ subst (λ x. In x (r ∷ ps)) (h.1 refl ∙ sym e) (last_in r ps) | inr i ↦ i ])
 
 -- pieces have no other positions than what is split
@@ -59,8 +59,8 @@ in_split cut (p ∷ ps) x z m k = in_pieces cut p ps x z m k
 -- a line visits each position of its pieces at which it isn't cut
 has_visit : (ls : List Stroke) → AllClean ls → (q : Point) → is_cut ls q ≡ false → (s : Stroke) (x : List Point) → In s ls → In x (pieces_of ls s) → In q x → 1 ≤ times_at q (visits s)
 has_visit ls clean q free s x m i k =
-    visited ls s.address s.closed s.positions q m (clean_in s ls clean m) free
-    (in_start (is_cut ls) s.address s.closed s.positions q (in_split (is_cut ls) (from_start (is_cut ls) s) x q i k))
+    visited ls s.closed s.positions q m (clean_in s ls clean m) free
+    (in_start (is_cut ls) s.closed s.positions q (in_split (is_cut ls) (from_start (is_cut ls) s) x q i k))
 
 -- ---- two lines visit it twice
 
@@ -205,7 +205,7 @@ second_marks ls v known clean s t m st n goes x i =
     let is_all : x ≡ t.positions = elim (subst (In x) whole i) [ inl e ↦ e | inr j ↦ elim j [ ] ] in
     subst (IsMarked ls) (sym is_all)
     (on t.positions n goes (subst (EndsPass cut) (sym (ap (λ z. z.positions) st)) pass)
-    (λ q j. cuts_known ls v known s m q (in_start (is_cut ls) s.address s.closed s.positions q (subst (In q) from j))))
+    (λ q j. cuts_known ls v known s m q (in_start (is_cut ls) s.closed s.positions q (subst (In q) from j))))
   where
     on : (ps : List Point) → length (indexes (is_member v.cuts) 0 ps) ≡ 2 → GoesOnceThroughSecond v.once ps → EndsPass (is_member v.cuts) ps → ((q : Point) → In q ps → is_member v.cuts q ≡ is_cut ls q) → IsMarked ls ps
     on [] n g h same = elim g [ ]

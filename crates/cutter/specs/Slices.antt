@@ -33,7 +33,7 @@ pub record SplitLine : Type 0 where
 
 -- the line, a ring from its start
 abbrev pub started : (Point → Bool) → Stroke → Stroke
-started cut s = record { address = s.address; closed = s.closed; positions = from_start cut s }
+started cut s = record { closed = s.closed; positions = from_start cut s }
 
 -- the line, split at the positions that pass
 abbrev pub split_by : (Point → Bool) → Stroke → SplitLine

@@ -30,7 +30,7 @@ impl<'a> Model for CutLine<'a> {
 }
 
 impl<'a> CutLine<'a> {
-    /// The line, cut at these indexes. Its address is not kept.
+    /// The line, cut at these indexes.
     pub fn of(line: Stroke, cuts: &'a [usize]) -> CutLine<'a>
         requires rising { IsRising (length line.positions) cuts.now }
         requires joined { stitched (slices line.positions cuts.now) ≡ line.positions }

@@ -3,7 +3,7 @@ pub use Rattle.std.proofs.Math.Bool.{and-false, or-false, or-true, or_assoc}
 pub use Rattle.std.proofs.lemmas.Bool.{or_parts, and_parts}
 pub use Rattle.std.proofs.lemmas.Bool.Decides.{nat_tests}
 pub use Rattle.std.proofs.lemmas.Grind.{flat_map-append}
-pub use Rattle.std.proofs.lemmas.List.{take_all, take_more, map-append, drop_more, length-append, length-drop, length-take-le}
+pub use Rattle.std.proofs.lemmas.List.{take_all, take_more, map-append, length-append, length-drop, length-take-le}
 pub use Rattle.std.proofs.lemmas.List.Folds.{list_any-append, list_any_more}
 pub use Rattle.std.proofs.lemmas.Option.{slice_get-get_or, slice_get_within, get_or_from_slice_get, slice_get_read}
 pub use Rattle.std.specs.List.{filter, flat_map, list_any, list_all, AllByRecursion, position_or_len, position}

@@ -26,8 +26,8 @@ use crate::reduction::Reduction;
 use crate::topology::on_grid;
 use arc_table::Table;
 use build_meaning::{
-    addresses_do_not_matter, built_cells_are_on, first_of_built, layers_indexes_reach,
-    layers_left_are_on, left_on_grid, snapped_are_on, without_small_keeps, without_small_on_grid,
+    built_cells_are_on, first_of_built, layers_indexes_reach, layers_left_are_on, left_on_grid,
+    snapped_are_on, without_small_keeps, without_small_on_grid,
 };
 use cutter::{Pieces, cut};
 use effective_area::Reducer;
@@ -67,7 +67,6 @@ fn shared_arcs(alloc: Global, seed: u64, outlines: Outlines) -> Result<(Table, V
         → r.0 ≡ table_of (map (split_of (linework (layers_of ls))) (linework (layers_of ls)))) }
     ensures short { IfOk result (λ r. r.1.items ≡ map is_short_outline outlines) }
 {
-    addresses_do_not_matter();
     let (lines, short) = lines_of_outlines(alloc, outlines)?;
     let pieces = cut_lines(alloc, seed, lines)?;
     let table = Table::build_by_seed(alloc, seed, pieces)?;

@@ -1,7 +1,9 @@
 -- Lines gathered part by part, feature by feature and layer by layer.
 use Rattle.owned_values.proofs.Lists.{take_here}
-use Rattle.std.proofs.Common.{◌≡◌, ℕ, suc, ◌+◌, ◌<◌, ◌≤◌, Bool, true, not, List, [], ◌∷◌, ◌++◌, map, filter, take, length, get_or, append_assoc, append-nil, refl, ap, sym, ◌∙◌, arith}
+use Rattle.std.proofs.Common.{◌≡◌, ℕ, suc, ◌+◌, ◌<◌, ◌≤◌, Bool, true, List, [], ◌∷◌, ◌++◌, map, take, length, get_or, append_assoc, append-nil, refl, ap, sym, ◌∙◌, arith}
 use Rattle.std.proofs.lemmas.List.{take_all, length-map, length-take-le, map-append}
+use Rattle.std.proofs.lemmas.List.Elements.{filter-append}
+use Rattle.std.proofs.lemmas.Simd.{map-map}
 use Rattle.geometry.specs.Points.{Point}
 use Rattle.geojson_types.specs.Features.{Featured}
 use Rattle.geometry.specs.Paths.{Placed, alone, inside_part, of_parts}
@@ -9,17 +11,19 @@ use Rattle.geometry.specs.declared.address.Address.{Address}
 use Rattle.geojson_types.specs.declared.layer.Layer.{Layer}
 use Rattle.junctions.specs.declared.stroke.Stroke.{Stroke}
 use Rattle.junctions.specs.Cleaning.{clean}
-use Rattle.linework.specs.Linework.{line_or_ring_at, feature_lines_and_rings, lines_and_rings_of_layer, lines_and_rings_of_layers, is_collapsed, collapse, linework, collapsed}
+use Rattle.linework.specs.Linework.{line_or_ring_at, feature_lines_and_rings, lines_and_rings_of_layer, lines_and_rings_of_layers, linework, collapsed}
+use Rattle.linework.specs.Outlines.{Outline, cleaned, features_lines_and_rings}
+use Rattle.linework.proofs.Outlined.{long_cleaned}
+use Rattle.linework.proofs.Placing.{reported}
 use Rattle.geometry.specs.Addresses.{part_address}
-use Rattle.junctions.specs.Gathering.{Gathered, nothing_gathered, with_line_or_ring, with_lines_and_rings}
+use Rattle.geometry.specs.Lists.{joined}
+use Rattle.junctions.specs.Gathering.{Gathered, Standing, nothing_gathered, with_lines_and_rings}
 
-pub with_append : (g : Gathered) (ss ts : List Stroke) → with_lines_and_rings (with_lines_and_rings g ss) ts ≡ with_lines_and_rings g (ss ++ ts)
-unfolding with_lines_and_rings
-with_append g [] ts = refl
-with_append g (s ∷ ss) ts = with_append (with_line_or_ring g s) ss ts
+pub with_append : (g : Gathered) (ss ts : List Standing) → with_lines_and_rings (with_lines_and_rings g ss) ts ≡ with_lines_and_rings g (ss ++ ts)
+with_append g ss ts = unfold with_lines_and_rings in grind (arith, append_assoc, filter-append, map-append)
 
 pub with_none : (g : Gathered) → with_lines_and_rings g [] ≡ g
-with_none g = unfold with_lines_and_rings in refl
+with_none g = unfold with_lines_and_rings in grind (arith, append-nil)
 
 abbrev pub Lines : Type 0
 Lines = List (Placed (Bool × List Point))
@@ -33,8 +37,9 @@ abbrev pub rings : List (List Point) → Lines
 rings rs = of_parts 0 (map (single true) rs)
 
 -- one line alone
-pub with_alone : (g : Gathered) (a : Address) (closed : Bool) (ps qs : List Point) → qs ≡ clean ps → with_line_or_ring g (record { address = a; closed = closed; positions = qs }) ≡ with_lines_and_rings g (map (line_or_ring_at a) (single closed ps))
-with_alone g a closed ps qs e = unfold with_lines_and_rings in grind (arith, append-nil)
+pub with_alone : (g : Gathered) (a : Address) (closed : Bool) (ps qs : List Point) → qs ≡ clean ps →
+    with_lines_and_rings g (record { address = a; line_or_ring = record { closed = closed; positions = qs } } ∷ []) ≡ with_lines_and_rings g (map (line_or_ring_at a) (single closed ps))
+with_alone g a closed ps qs e = grind (arith, append-nil)
 
 inside_at : (a : Address) (i : ℕ) (xs : Lines) → map (line_or_ring_at a) (inside_part i xs) ≡ map (line_or_ring_at (part_address a i)) xs
 inside_at a i [] = refl
@@ -60,7 +65,7 @@ parts_turn f a g now new xs i x part ys l e h pe ye k =
     ∙ sym (map-append (line_or_ring_at a) (of_parts 0 (map f (take i xs))) (inside_part i (f x))) ∙ ap (map (line_or_ring_at a)) (sym m))
 
 -- one element more of a list that is numbered from zero, be it of features or of layers
-module _ {X : Type 0} (of : ℕ → X → List Stroke) (all : ℕ → List X → List Stroke) (none : (i : ℕ) → all i [] ≡ [])
+module _ {X : Type 0} (of : ℕ → X → List Standing) (all : ℕ → List X → List Standing) (none : (i : ℕ) → all i [] ≡ [])
     (some : (i : ℕ) (x : X) (xs : List X) → all i (x ∷ xs) ≡ of i x ++ all (suc i) xs) where
   all_more : (i : ℕ) (xs : List X) (x : X) → all i (xs ++ (x ∷ [])) ≡ all i xs ++ of (i + length xs) x
   all_more i [] x = grind (arith, append-nil)
@@ -79,19 +84,27 @@ pub layers_turn : (g now new : Gathered) (ls : List Layer) (i : ℕ) (l : Layer)
     now ≡ with_lines_and_rings g (lines_and_rings_of_layers 0 (take i ls)) → new ≡ with_lines_and_rings now (lines_and_rings_of_layer i 0 l.features) → new ≡ with_lines_and_rings g (lines_and_rings_of_layers 0 (take (i + 1) ls))
 layers_turn = all_turn (λ i l. lines_and_rings_of_layer i 0 l.features) lines_and_rings_of_layers (λ i. refl) (λ i x xs. refl)
 
+-- without their addresses, they are the lines and rings by themselves
+abbrev clean_each : List Outline → List Stroke
+clean_each bs = map (λ b. cleaned b.0 b.1) bs
+
+abbrev strokes_of : List Standing → List Stroke
+strokes_of xs = map (λ x. x.line_or_ring) xs
+
+placed_strokes : (a : Address) (xs : Lines) → strokes_of (map (line_or_ring_at a) xs) ≡ clean_each (map (λ x. x.part) xs)
+placed_strokes a xs = map-map (λ x. x.line_or_ring) (line_or_ring_at a) xs ∙ sym (map-map (λ (b : Outline). cleaned b.0 b.1) (λ x. x.part) xs)
+
+features_strokes : (i j : ℕ) (fs : List Featured) → strokes_of (lines_and_rings_of_layer i j fs) ≡ clean_each (features_lines_and_rings fs)
+features_strokes i j [] = refl
+features_strokes i j (f ∷ fs) = grind (arith, map-append, placed_strokes, reported, features_strokes i (suc j) fs)
+
+layers_strokes : (i : ℕ) (ls : List Layer) → strokes_of (lines_and_rings_of_layers i ls) ≡ clean_each (joined (map (λ l. features_lines_and_rings l.features) ls))
+layers_strokes i [] = refl
+layers_strokes i (l ∷ ls) = grind (arith, map-append, features_strokes, layers_strokes (suc i) ls)
+
 -- gathered from nothing, they are the two lists of the definition
-gathered_lines_and_rings : (g : Gathered) (ss : List Stroke) → (with_lines_and_rings g ss).lines_and_rings ≡ g.lines_and_rings ++ filter (λ s. not (is_collapsed s)) ss
-unfolding with_lines_and_rings
-gathered_lines_and_rings g [] = sym (append-nil g.lines_and_rings)
-gathered_lines_and_rings g (s ∷ ss) = grind (arith, append_assoc, gathered_lines_and_rings (with_line_or_ring g s) ss)
-
-gathered_dropped : (g : Gathered) (ss : List Stroke) → (with_lines_and_rings g ss).dropped ≡ g.dropped ++ map collapse (filter is_collapsed ss)
-unfolding with_lines_and_rings
-gathered_dropped g [] = sym (append-nil g.dropped)
-gathered_dropped g (s ∷ ss) = grind (arith, append_assoc, gathered_dropped (with_line_or_ring g s) ss)
-
 pub linework_is : (g : Gathered) (ls : List Layer) (i : ℕ) → length ls ≤ i → g ≡ with_lines_and_rings nothing_gathered (lines_and_rings_of_layers 0 (take i ls)) → g.lines_and_rings ≡ linework ls
-linework_is g ls i l h = unfold linework in grind (arith, gathered_lines_and_rings, take_all)
+linework_is g ls i l h = unfold linework with_lines_and_rings in grind (arith, layers_strokes 0 ls, long_cleaned, take_all)
 
 pub collapsed_is : (g : Gathered) (ls : List Layer) (i : ℕ) → length ls ≤ i → g ≡ with_lines_and_rings nothing_gathered (lines_and_rings_of_layers 0 (take i ls)) → g.dropped ≡ collapsed ls
-collapsed_is g ls i l h = unfold collapsed in grind (arith, gathered_dropped, take_all)
+collapsed_is g ls i l h = unfold collapsed with_lines_and_rings in grind (arith, take_all)

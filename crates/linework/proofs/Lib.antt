@@ -1,5 +1,5 @@
 mod Deduped
-mod Outlined
+pub mod Outlined
 pub mod Gathered
 pub mod Placing
 pub mod Positions

@@ -1,6 +1,7 @@
 -- The lines of a shape with their ways, at each kind of shape. They are the lines of the shape.
 use Rattle.std.proofs.Common.{◌≡◌, ℕ, suc, Bool, true, false, List, [], ◌∷◌, map, refl, sym, ap, ◌∙◌, arith}
 use Rattle.std.proofs.lemmas.List.{map-append}
+use Rattle.std.proofs.lemmas.Simd.{map-map}
 use Rattle.std.specs.List.{AllByRecursion}
 use Rattle.geometry.specs.declared.shape.Geometry.{Geometry}
 use Rattle.geometry.specs.Lists.{joined}
@@ -19,8 +20,7 @@ abbrev pub parts_of : {A : Type 0} → List (Placed A) → List A
 parts_of xs = map (λ x. x.part) xs
 
 inside_parts : {A : Type 0} (i : ℕ) (xs : List (Placed A)) → parts_of (inside_part i xs) ≡ parts_of xs
-inside_parts i [] = refl
-inside_parts i (x ∷ xs) = ap (λ l. x.part ∷ l) (inside_parts i xs)
+inside_parts {A = A} i xs = map-map (λ (x : Placed A). x.part) (λ x. record { path = i ∷ x.path; part = x.part }) xs
 
 joined_parts : {A : Type 0} (i : ℕ) (xss : List (List (Placed A))) → parts_of (of_parts i xss) ≡ joined (map parts_of xss)
 joined_parts i [] = refl

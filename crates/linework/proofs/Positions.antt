@@ -1,16 +1,14 @@
 -- The positions of lines are those of their shapes, and so the positions of the linework are those of the layers.
 use Rattle.owned_values.proofs.Lists.{joined_append}
-use Rattle.std.proofs.Common.{◌≡◌, ℕ, suc, Bool, true, false, not, List, [], ◌∷◌, ◌++◌, map, Option, None, Some, inl, inr, refl, sym, subst, arith}
+use Rattle.std.proofs.Common.{◌≡◌, Bool, true, false, not, List, [], ◌∷◌, ◌++◌, map, Option, None, Some, inl, inr, refl, sym, subst, arith}
 use Rattle.std.specs.List.{AllByRecursion}
-use Rattle.geometry.specs.declared.address.Address.{Address}
 use Rattle.geometry.specs.declared.shape.Geometry.TheVariants as g
 use Rattle.geojson_types.specs.declared.layer.Layer.{Layer}
 use Rattle.geojson_types.specs.Features.{Shape, Featured}
 use Rattle.geometry.specs.Lists.{joined}
-use Rattle.geometry.specs.Paths.{placed_lines_and_rings}
 use Rattle.geojson_types.specs.Places.{shape_points, option_points, features_points}
 use Rattle.geometry.specs.Points.{Point}
-use Rattle.geometry.specs.Pruning.{lines_and_rings}
+use Rattle.geometry.specs.Pruning.{lines_and_rings, option_lines_and_rings}
 use Rattle.geometry.proofs.Cases.{lines_and_rings-point, lines_and_rings-points, lines_and_rings-line, lines_and_rings-lines, lines_and_rings-area, lines_and_rings-areas, lines_and_rings-group}
 use Rattle.geometry.proofs.Induction.{by_kinds}
 use Rattle.geometry.proofs.ByKind.{points_at}
@@ -18,10 +16,10 @@ use Rattle.junctions.specs.declared.stroke.Stroke.{Stroke}
 use Rattle.junctions.specs.Among.{In}
 use Rattle.junctions.specs.Cleaning.{clean, clean_from}
 use Rattle.linework.specs.Laws.{layers_points}
-use Rattle.geometry.specs.Addresses.{feature_address}
-use Rattle.linework.specs.Linework.{line_or_ring_at, option_placed, lines_and_rings_of_layer, lines_and_rings_of_layers, is_collapsed, linework}
-use Rattle.junctions.proofs.Members.{in_map, from_map, from_filter}
-use Rattle.linework.proofs.Placing.{reported}
+use Rattle.linework.specs.Linework.{linework}
+use Rattle.linework.specs.Outlines.{cleaned, features_lines_and_rings, is_short_outline, long_outlines}
+use Rattle.junctions.proofs.Members.{from_map, from_filter}
+use Rattle.owned_values.proofs.Elements.{all_of}
 use Rattle.owned_values.proofs.Members.{in_left, in_right, in_append}
 
 -- elements of lists that are joined
@@ -58,11 +56,11 @@ areas_in : (rss : List (List (List Point))) → AreIn (joined (map (map (λ r. (
 areas_in [] b p k m = elim k [ ]
 areas_in (rs ∷ rss) b p k m = grind (arith, areas_in rss b p, in_append b, joined_left p rs (joined rss), lines_in true rs b p, joined_right p rs (joined rss))
 
-members_in : (ss : List Shape) → AllByRecursion Holds ss → AreIn (joined (map lines_and_rings ss)) (joined (map shape_points ss))
-members_in [] all b p k m = elim k [ ]
-members_in (s ∷ ss) all b p k m = elim (in_append b (lines_and_rings s) (joined (map lines_and_rings ss)) k) [
-  | inl n ↦ in_left p (shape_points s) (joined (map shape_points ss)) (all.0 b p n m)
-  | inr n ↦ in_right p (shape_points s) (joined (map shape_points ss)) (members_in ss all.1 b p n m)
+each_in : {X : Type 0} (f : X → List Line) (g : X → List Point) (xs : List X) → AllByRecursion (λ x. AreIn (f x) (g x)) xs → AreIn (joined (map f xs)) (joined (map g xs))
+each_in f g [] all b p k m = elim k [ ]
+each_in f g (x ∷ xs) all b p k m = elim (in_append b (f x) (joined (map f xs)) k) [
+  | inl n ↦ in_left p (g x) (joined (map g xs)) (all.0 b p n m)
+  | inr n ↦ in_right p (g x) (joined (map g xs)) (each_in f g xs all.1 b p n m)
 ]
 
 by_both : (s : Shape) (ls : List Line) (ps : List Point) → lines_and_rings s ≡ ls → shape_points s ≡ ps → AreIn ls ps → Holds s
@@ -76,34 +74,26 @@ lines_are_in = by_kinds Holds (record {
   lines = λ ls. by_both (g.Lines ls) (map (λ l. (false, l)) ls) (joined ls) (lines_and_rings-lines Point (List Point) ls) (points_at.lines ls) (lines_in false ls);
   area = λ rs. by_both (g.Area rs) (map (λ r. (true, r)) rs) (joined rs) (lines_and_rings-area Point (List Point) rs) (points_at.area rs) (lines_in true rs);
   areas = λ rss. by_both (g.Areas rss) (joined (map (map (λ r. (true, r))) rss)) (joined (joined rss)) (lines_and_rings-areas Point (List Point) rss) (points_at.areas rss) (areas_in rss);
-  group = λ ss all. by_both (g.Group ss) (joined (map lines_and_rings ss)) (joined (map shape_points ss)) (lines_and_rings-group Point (List Point) ss) (points_at.group ss) (members_in ss all);
+  group = λ ss all. by_both (g.Group ss) (joined (map lines_and_rings ss)) (joined (map shape_points ss)) (lines_and_rings-group Point (List Point) ss) (points_at.group ss) (each_in lines_and_rings shape_points ss all);
 })
 
 -- those of features and of layers
+option_in : (o : Option Shape) → AreIn (option_lines_and_rings o) (option_points o)
+option_in None b p k m = elim k [ ]
+option_in (Some s) b p k m = lines_are_in s b p k m
+
+features_in : (fs : List Featured) → AreIn (features_lines_and_rings fs) (features_points fs)
+features_in fs = each_in (λ (f : Featured). option_lines_and_rings f.shape) (λ f. option_points f.shape) fs (all_of _ fs (λ f k. option_in f.shape))
+
+layers_in : (ls : List Layer) → AreIn (joined (map (λ l. features_lines_and_rings l.features) ls)) (layers_points ls)
+layers_in ls = each_in (λ (l : Layer). features_lines_and_rings l.features) (λ l. features_points l.features) ls (all_of _ ls (λ l k. features_in l.features))
+
 clean_list_in : (p : Point) (ps : List Point) → In p (clean ps) → In p ps
 clean_list_in p ps h = grind (arith, clean_in)
 
-shape_in : (a : Address) (o : Option Shape) (s : Stroke) (p : Point) → In s (map (line_or_ring_at a) (option_placed o)) → In p s.positions → In p (option_points o)
-shape_in a None s p k m = elim k [ ]
-shape_in a (Some h) s p k m =
-    let x = from_map (line_or_ring_at a) s (placed_lines_and_rings h) k in
-    let n : In p x.0.part.1 = clean_list_in p x.0.part.1 (subst (λ (z : Stroke). In p z.positions) x.2 m) in
-    lines_are_in h x.0.part p (subst (In x.0.part) (reported h) (in_map (λ z. z.part) x.0 (placed_lines_and_rings h) x.1)) n
-
-features_in : (i j : ℕ) (fs : List Featured) (s : Stroke) (p : Point) → In s (lines_and_rings_of_layer i j fs) → In p s.positions → In p (features_points fs)
-features_in i j [] s p k m = elim k [ ]
-features_in i j (f ∷ fs) s p k m = elim (in_append s (map (line_or_ring_at (feature_address i j)) (option_placed f.shape)) (lines_and_rings_of_layer i (suc j) fs) k) [
-  | inl n ↦ in_left p (option_points f.shape) (features_points fs) (shape_in (feature_address i j) f.shape s p n m)
-  | inr n ↦ in_right p (option_points f.shape) (features_points fs) (features_in i (suc j) fs s p n m)
-]
-
-layers_in : (i : ℕ) (ls : List Layer) (s : Stroke) (p : Point) → In s (lines_and_rings_of_layers i ls) → In p s.positions → In p (layers_points ls)
-layers_in i [] s p k m = elim k [ ]
-layers_in i (l ∷ ls) s p k m = elim (in_append s (lines_and_rings_of_layer i 0 l.features) (lines_and_rings_of_layers (suc i) ls) k) [
-  | inl n ↦ in_left p (features_points l.features) (layers_points ls) (features_in i 0 l.features s p n m)
-  | inr n ↦ in_right p (features_points l.features) (layers_points ls) (layers_in (suc i) ls s p n m)
-]
-
 pub none_is_new : (layers : List Layer) (s : Stroke) (p : Point) → In s (linework layers) → In p s.positions → In p (layers_points layers)
 unfolding linework
-none_is_new layers s p k m = layers_in 0 layers s p (from_filter (λ s. not (is_collapsed s)) s (lines_and_rings_of_layers 0 layers) k).0 m
+none_is_new layers s p k m =
+    let all : List Line = joined (map (λ l. features_lines_and_rings l.features) layers) in
+    let x = from_map (λ (b : Line). cleaned b.0 b.1) s (long_outlines all) k in
+    layers_in layers x.0 p (from_filter (λ b. not (is_short_outline b)) x.0 all x.1).0 (clean_list_in p x.0.1 (subst (λ (z : Stroke). In p z.positions) x.2 m))

@@ -6,6 +6,7 @@ use Rattle.geometry.specs.declared.shape.Geometry.TheVariants as g
 use Rattle.geojson_types.specs.declared.layer.Layer.{Layer}
 use Rattle.geojson_types.specs.Features.{Shape, Featured}
 use Rattle.geometry.specs.Points.{Point}
+use Rattle.geometry.proofs.Cases.{lines_and_rings-line}
 use Rattle.geometry.specs.Rings.{same}
 use Rattle.junctions.specs.declared.stroke.Stroke.{Stroke}
 use Rattle.junctions.specs.Cleaning.{clean}
@@ -18,7 +19,7 @@ abbrev at : ℕ → ℕ → Point
 at x y = record { x = pos x; y = pos y }
 
 abbrev stroke : Bool → List Point → Stroke
-stroke closed ps = record { address = record { layer = 0; feature = 0; path = [] }; closed = closed; positions = ps }
+stroke closed ps = record { closed = closed; positions = ps }
 
 -- two unit squares that share a side
 abbrev squares : List Stroke
@@ -96,7 +97,7 @@ abbrev one_collapses : List Layer
 one_collapses = layer (g.Line (at 0 5 ∷ (at 10 5 ∷ [])) ∷ (g.Line (at 0 5 ∷ (at 0 5 ∷ [])) ∷ [])) ∷ []
 
 pub one_stays : linework one_collapses ≡ stroke false (at 0 5 ∷ (at 10 5 ∷ [])) ∷ []
-one_stays = unfold linework same in simp ((placed_lines_and_rings_at Point (List Point)).line)
+one_stays = unfold linework same in simp (lines_and_rings-line)
 
 pub one_is_dropped : collapsed one_collapses ≡ record { address = record { layer = 0; feature = 1; path = [] }; cause = Collapsed } ∷ []
 one_is_dropped = unfold collapsed same in simp ((placed_lines_and_rings_at Point (List Point)).line)

@@ -1,4 +1,4 @@
--- Lines and rings without the places where they stand.
+-- Lines and rings by themselves, and the linework of these.
 use Rattle.std.specs.Prelude.{◌≡◌, Bool, true, not, List, map}
 use Rattle.std.specs.List.{filter}
 use Rattle.geojson_types.specs.Features.{Featured}
@@ -17,7 +17,7 @@ Outline = Bool × List Point
 abbrev pub features_lines_and_rings : List Featured → List Outline
 features_lines_and_rings fs = joined (map (λ f. option_lines_and_rings f.shape) fs)
 
--- that of a line or ring
+-- that of a line or ring of the linework
 abbrev pub outline : Stroke → Outline
 outline s = (s.closed, s.positions)
 
@@ -33,10 +33,14 @@ is_short_outline b = is_short b.0 (clean b.1)
 abbrev pub long_outlines : List Outline → List Outline
 long_outlines bs = filter (λ b. not (is_short_outline b)) bs
 
--- with equal neighbours as one position
-abbrev pub clean_outline : Outline → Outline
-clean_outline b = (b.0, clean b.1)
+-- the line or ring with equal neighbours as one position
+abbrev pub cleaned : Bool → List Point → Stroke
+cleaned closed ps = record { closed = closed; positions = clean ps }
+
+-- those that have enough positions, with equal neighbours as one
+abbrev pub linework_of : List Outline → List Stroke
+linework_of bs = map (λ b. cleaned b.0 b.1) (long_outlines bs)
 
 -- the line or ring with what is made of its positions
 abbrev pub over_positions : (List Point → List Point) → Stroke → Stroke
-over_positions f s = record { address = s.address; closed = s.closed; positions = f s.positions }
+over_positions f s = record { closed = s.closed; positions = f s.positions }

@@ -1,4 +1,4 @@
-// The walk over layers that gathers their lines and rings, each with its address.
+// The walk over layers that gathers their lines and rings, and the addresses of those that collapsed.
 ghost use Rattle.std.specs.Prelude.{◌≡◌, OnOk, true, false, map};
 ghost use Rattle.geometry.specs.Rings.{is_ring};
 ghost use Rattle.geometry.specs.Paths.{alone, of_parts, placed_lines_and_rings};
@@ -8,7 +8,7 @@ ghost use Rattle.junctions.specs.Gathering.{with_lines_and_rings};
 use crate::cleaning::cleaned;
 use geojson_types::Feature;
 use geometry::{Address, Position, Ring, Shape};
-use junctions::{Lines, Stroke, Whereabouts};
+use junctions::{Lines, Stroke};
 use owned_values::{Items, Memory};
 use std::alloc::Global;
 
@@ -139,10 +139,5 @@ fn add_line_or_ring(
     ensures { OnOk result (lines.new ≡ with_lines_and_rings lines.old (map (line_or_ring_at address) (alone (closed, positions.now)))) }
 {
     let positions = Items::of(cleaned(alloc, positions)?);
-    let address = Whereabouts::of(alloc, address)?;
-    lines.add(Stroke {
-        address,
-        closed,
-        positions,
-    })
+    lines.add(address, Stroke { closed, positions })
 }

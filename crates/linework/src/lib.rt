@@ -1,7 +1,7 @@
 //! The linework of layers: their lines and rings in reading order, with equal neighbours as one position. It stands on
 //! `geojson_types`, whose layers it walks, and on `junctions`, which it passes on. The layers above use the contracts of `Lines::of` (of the
 //! trait `OfLayers`), which copies the positions and gives the linework of `specs/Linework.antt`, and of `lines_of_outlines`, which is given
-//! lines and rings by value, without their addresses, and cleans them where they stand (`specs/Outlines.antt`).
+//! lines and rings by value and cleans them where they stand (`specs/Outlines.antt`).
 #![tactic(auto)]
 
 mod cleaning;

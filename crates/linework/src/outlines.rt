@@ -1,19 +1,19 @@
 // Lines and rings by themselves, and the linework of those that no layer holds any more.
-ghost use Rattle.std.specs.Prelude.{◌≡◌, ◌<◌, ◌++◌, [], ◌∷◌, IfOk, OnOk, Some, length, map, not, slice_get};
-ghost use Rattle.std.specs.List.{AllByRecursion, filter};
+ghost use Rattle.std.specs.Prelude.{◌≡◌, ◌<◌, ◌++◌, [], ◌∷◌, IfOk, OnOk, Some, length, map, slice_get};
+ghost use Rattle.std.specs.List.{AllByRecursion};
 ghost use Rattle.junctions.specs.Cleaning.{clean};
 ghost use Rattle.junctions.specs.Gathering as spec;
-ghost use Rattle.linework.specs.Outlines.{IsRingIfClosed, clean_outline, is_short_outline, long_outlines, outline, over_positions};
+ghost use Rattle.linework.specs.Outlines.{IsRingIfClosed, is_short_outline, linework_of, over_positions};
 
 use crate::cleaning::without_repeats;
 use geometry::{Moves, Position, move_positions};
-use junctions::{Lines, Stroke, Whereabouts, is_collapsed};
+use junctions::{Lines, Stroke, is_collapsed};
 use owned_values::{Items, Memory};
 use std::alloc::Global;
 use std::marker::Model;
 use std::mem;
 
-/// Lines and rings by themselves, in one list. Whose they are isn't known here, and nothing is said of their addresses.
+/// Lines and rings by themselves, in one list. Whose they are isn't known here.
 #[derive(Debug, Drop)]
 pub struct Outlines {
     strokes: Vec<Stroke>,
@@ -43,11 +43,7 @@ impl Outlines {
     pub fn push(&mut self, closed: bool, positions: Items<Position>) -> Result<(), Memory>
         ensures { OnOk result (self.new ≡ self.old ++ (closed, positions) ∷ []) }
     {
-        self.strokes.push(Stroke {
-            address: Whereabouts::unknown(),
-            closed,
-            positions,
-        })?;
+        self.strokes.push(Stroke { closed, positions })?;
         Ok(())
     }
 
@@ -107,10 +103,11 @@ fn move_strokes<M: Moves>(moves: &M, strokes: &mut [Stroke])
 }
 
 /// The lines and rings that have enough positions with equal neighbours as one, and for each that is given whether it has too few. They are
-/// cleaned where they stand. Whose they were isn't known here, and nothing is said of their addresses.
+/// cleaned where they stand.
+#[tactic(auto, using(geometry::proofs::Moved::refilled, crate::proofs::Outlined::long_strokes, crate::proofs::Outlined::short_cleaned, crate::proofs::Outlined::long_clean, crate::proofs::Outlined::long_enough))]
 pub fn lines_of_outlines(alloc: Global, outlines: Outlines) -> Result<(Lines, Vec<bool>), Memory>
     requires { AllByRecursion IsRingIfClosed outlines }
-    ensures lines { IfOk result (λ r. map outline r.0.lines_and_rings ≡ map clean_outline (long_outlines outlines)) }
+    ensures lines { IfOk result (λ r. r.0.lines_and_rings ≡ linework_of outlines) }
     ensures short { IfOk result (λ r. r.1.items ≡ map is_short_outline outlines) }
 {
     let Outlines { strokes } = outlines;
@@ -144,7 +141,7 @@ fn clean_stroke(alloc: Global, stroke: &mut Stroke)
 
 /// Leaves out the lines and rings that have too few positions.
 fn leave_out_collapsed(strokes: &mut Vec<Stroke>)
-    ensures { strokes.new.items ≡ filter (λ s. not (spec.is_collapsed s)) strokes.old.items }
+    ensures { strokes.new.items ≡ spec.without_collapsed strokes.old.items }
 {
     strokes.retain(|stroke| !is_collapsed(stroke));
 }

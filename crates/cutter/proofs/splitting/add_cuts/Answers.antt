@@ -1,6 +1,5 @@
 use Rattle.std.proofs.Common.{[], ◌∷◌, ◌++◌, cond, take, append_assoc, refl, ap, ◌∙◌}
 use Rattle.cutter.proofs.Names.{is_member, indexes}
-use Rattle.cutter.proofs.Known.{known_at}
 use Rattle.cutter.proofs.SliceLaws.{indexes_step}
 use Rattle.cutter.proofs.splitting.add_cuts.Goals as goal
 

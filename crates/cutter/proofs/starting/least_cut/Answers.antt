@@ -1,7 +1,6 @@
 use Rattle.std.proofs.Common.{arith, ◌∙◌}
 use Rattle.junctions.specs.Answers.{is_member}
 use Rattle.cutter.proofs.Alone.{at_most_one, count_step}
-use Rattle.cutter.proofs.Known.{known_at}
 use Rattle.cutter.proofs.SliceLaws.{least_step}
 use Rattle.cutter.proofs.starting.least_cut.Goals as goal
 

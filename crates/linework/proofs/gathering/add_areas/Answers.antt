@@ -1,5 +1,5 @@
-use Rattle.std.proofs.Common.{sym, ap}
-use Rattle.linework.proofs.Gathered.{with_none, parts_turn, rings}
+use Rattle.std.proofs.Common.{ap}
+use Rattle.linework.proofs.Gathered.{parts_turn, rings}
 use Rattle.linework.proofs.gathering.add_areas.Goals as goal
 
 pub loop-number-preserved : goal.loop-number-preserved

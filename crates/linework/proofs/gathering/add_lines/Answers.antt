@@ -1,5 +1,5 @@
-use Rattle.std.proofs.Common.{sym, ap, false}
-use Rattle.linework.proofs.Gathered.{with_none, parts_turn, single}
+use Rattle.std.proofs.Common.{ap, false}
+use Rattle.linework.proofs.Gathered.{parts_turn, single}
 use Rattle.linework.proofs.gathering.add_lines.Goals as goal
 
 pub loop-number-preserved : goal.loop-number-preserved

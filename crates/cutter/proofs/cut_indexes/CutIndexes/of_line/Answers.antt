@@ -1,5 +1,4 @@
-use Rattle.std.proofs.Common.{◌<◌, ◌∙◌, length, Some, ap, sym, arith, rules}
-use Rattle.cutter.proofs.SharedCuts.{has_own, own_read}
+use Rattle.cutter.proofs.SharedCuts.{own_read}
 use Rattle.cutter.proofs.cut_indexes.CutIndexes.of_line.Goals as goal
 
 pub between-requires-clause-order : goal.between-requires-clause-order

@@ -1,7 +1,7 @@
-use Rattle.std.proofs.Common.{ap, sym, ◌∙◌}
+use Rattle.std.proofs.Common.{ap, ◌∙◌}
 use Rattle.linework.specs.Linework.{lines_and_rings_of_layer}
 use Rattle.junctions.specs.Gathering.{nothing_gathered, with_lines_and_rings}
-use Rattle.linework.proofs.Gathered.{with_none, layers_turn, linework_is, collapsed_is}
+use Rattle.linework.proofs.Gathered.{layers_turn}
 use Rattle.linework.proofs.layers.LinesOfLayers.of.Goals as goal
 
 pub loop-number-preserved : goal.loop-number-preserved

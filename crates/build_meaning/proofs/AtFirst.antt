@@ -5,7 +5,7 @@ use Rattle.guarded_meaning.proofs.Weights.{kept_at_zero}
 use Rattle.guarded_meaning.specs.Elimination.{Guard}
 use Rattle.guarded_meaning.specs.Laws.{KeptByWeight}
 use Rattle.guarded_meaning.specs.Weights.{passing, weight}
-use Rattle.build_meaning.proofs.Names.{fun_ext, map-map, AllByRecursion, all_weaker, filter, Point, numbered, Transform, placed_arcs, place_on, Contents, IsTopology, IsArc, reduce_arcs, LeftCrossingsNeverRise, LeftIsValid, LeftKeeps, LeftOnGrid, untrimmed, built, is_used, keep_from, trimmed, EachCell, Guards, left_indexes, left_of, guard_of, protection_of, all_indexes, quantized, spared_by, IsOn, retained_arcs, EachFromFirstToLast, arc_positions, crossings_of, labels, first_whole, goes_first, without_small, FirstIsLeftAtZero, FirstOfBuilt, WithoutSmallCrossesNoMore, WithoutSmallIsValid, WithoutSmallKeeps, WithoutSmallOnGrid}
+use Rattle.build_meaning.proofs.Names.{fun_ext, map-map, AllByRecursion, all_weaker, filter, Point, numbered, Transform, placed_arcs, place_on, Contents, IsTopology, IsArc, reduce_arcs, LeftCrossingsNeverRise, LeftIsValid, LeftKeeps, LeftOnGrid, untrimmed, built, is_used, keep_from, trimmed, EachCell, Guards, left_indexes, left_of, guard_of, protection_of, all_indexes, quantized, spared_by, IsOn, retained_arcs, EachFromFirstToLast, arc_positions, crossings_of, labels, goes_first, left_at_first, without_small, FirstIsLeftAtZero, FirstOfBuilt, WithoutSmallCrossesNoMore, WithoutSmallIsValid, WithoutSmallKeeps, WithoutSmallOnGrid}
 use Rattle.build_meaning.proofs.Left.{spared_cells}
 use Rattle.build_meaning.proofs.ValidSimplified.{valid_whole}
 use Rattle.build_meaning.proofs.Spread.{all_retained, all_through}
@@ -69,15 +69,16 @@ first_of_built guards limit ls sound =
 first_or : FirstIsLeftAtZero → (X : Contents → Type 0) (guards : Guards) (limit : ℕ) (y : Contents) → X (left_of guards 0 limit y).contents → X y → X (without_small guards limit y)
 first_or law X guards limit y h k = on (goes_first guards limit)
   where
-    on : (b : Bool) → X (cond b (trimmed (first_whole guards limit y)) y)
+    on : (b : Bool) → X (cond b (left_at_first guards limit y) y)
     on true = subst X (sym (law guards limit y)) h
     on false = k
 
 pub first_is_valid : FirstIsLeftAtZero → LeftIsValid → WithoutSmallIsValid
-first_is_valid law valid guards limit y h = (
-  valid_whole (protection_of guards y) (map all_indexes y.arcs) limit y h (all_reach y h),
-  first_or law IsTopology guards limit y (valid guards 0 limit y h) h,
-)
+first_is_valid law valid guards limit y h = record {
+  whole = valid_whole (protection_of guards y) (map all_indexes y.arcs) limit y h (all_reach y h);
+  at_first = subst IsTopology (sym (law guards limit y)) (valid guards 0 limit y h);
+  without_small = first_or law IsTopology guards limit y (valid guards 0 limit y h) h;
+}
 
 pub first_keeps : FirstIsLeftAtZero → LeftKeeps → WithoutSmallKeeps
 first_keeps law keeps guards limit y = first_or law (λ z. (labels z ≡ labels y) × (z.transform ≡ y.transform)) guards limit y (keeps guards 0 limit y) (refl, refl)
@@ -89,7 +90,7 @@ first_on_grid law on_grid guards g limit y grid bare on = (
   first_or law (EachCell (IsOn g)) guards limit y (spared_cells (IsOn g) (protection_of guards y) (left_indexes guards 0 y) limit y on) on,
 )
   where
-    alike : (b : Bool) → cond b (trimmed (first_whole guards limit (quantized g y))) (quantized g y) ≡ quantized g (cond b (trimmed (first_whole guards limit y)) y)
+    alike : (b : Bool) → cond b (left_at_first guards limit (quantized g y)) (quantized g y) ≡ quantized g (cond b (left_at_first guards limit y) y)
     alike true = law guards limit (quantized g y) ∙ (on_grid guards g 0 limit y grid bare on).contents ∙ ap (quantized g) (sym (law guards limit y))
     alike false = refl
 

@@ -1,10 +1,9 @@
 -- What is left where small rings go first is left at once; the same rings are protected without what goes first, and they stay.
 use Rattle.std.proofs.Common.{◌≡◌, ℕ, ℤ, Bool, true, false, cond, List, map, Option, None, Some, refl, sym, ap, ◌∙◌, subst}
-use Rattle.build_meaning.proofs.Names.{fun_ext, Left, arc_at, dropped_in_turn, feature_spared, all_weaker, map_some, then_some, Point, Cause, placed_arcs, Contents, IsTopology, TopoFeature, EachTo, ArcsRise, RingsStay, unless, is_used, keep_from, renumbered, trimmed, all_features, Guards, left_indexes, left_arcs, left_of, guard_of, protection_of, rings_to_stay, all_indexes, spread, Protection, protection, greatest_ring, protected_of, spared_removed_count, sparing, objects_spared, spared_by, large_refs, small_cause, retained_arcs, EachFromFirstToLast, arc_positions, HasRing, cause_in_turn, first_whole, goes_first, indexes_in_turn, left_in_turn, InTurnIsAtOnce, IsLeftAtOnce, SameRingsAtFirst, SameRingsStay, ShapesStayInTurn, refs_in_turn}
+use Rattle.build_meaning.proofs.Names.{fun_ext, Left, arc_at, dropped_in_turn, feature_spared, all_weaker, map_some, then_some, Point, Cause, placed_arcs, Contents, IsTopology, TopoFeature, EachTo, ArcsRise, RingsStay, unless, is_used, keep_from, renumbered, trimmed, all_features, Guards, left_indexes, left_arcs, left_of, guard_of, protection_of, rings_to_stay, all_indexes, Protection, protection, greatest_ring, protected_of, sparing, objects_spared, spared_by, large_refs, small_cause, retained_arcs, EachFromFirstToLast, arc_positions, HasRing, cause_in_turn, first_whole, goes_first, indexes_from_first, indexes_in_turn, left_at_first, left_in_turn, InTurnIsAtOnce, IsLeftAtOnce, SameRingsAtFirst, SameRingsStay, ShapesStayInTurn, refs_in_turn}
 use Rattle.build_meaning.proofs.AtFirst.{all_reach, each_retained}
 use Rattle.build_meaning.proofs.Greatest.{same_some}
-use Rattle.build_meaning.proofs.LeftOf.{IsUsedBy, each_used, each_left, feature_left, indexes_reach, refs_left, shapes_stay}
-use Rattle.build_meaning.proofs.LayersKept.{each_joined}
+use Rattle.build_meaning.proofs.LeftOf.{IsUsedBy, each_joined, each_used, each_left, feature_left, indexes_reach, refs_left, shapes_stay}
 use Rattle.build_meaning.proofs.ProtectedRings.{of_protected}
 use Rattle.build_meaning.proofs.Reduced.{retained_are_reduced, placed_retained}
 use Rattle.build_meaning.proofs.RingsAlike.{ring_alike, rings_each}
@@ -12,7 +11,7 @@ use Rattle.build_meaning.proofs.Spared.{spared_shape}
 use Rattle.build_meaning.proofs.Trimmed.{AllUsed, all_renumbered, kept_placed}
 use Rattle.build_meaning.proofs.ValidSimplified.{spared_is_valid}
 use Rattle.build_meaning.proofs.Spread.{spread_left}
-use Rattle.build_meaning.proofs.SparedAlike.{positions_alike, trimmed_first}
+use Rattle.build_meaning.proofs.SparedAlike.{contents_same, positions_alike, removed_same}
 use Rattle.build_meaning.proofs.SparedTwice.{same_ring, spared_twice}
 
 -- ---- at once
@@ -37,7 +36,7 @@ module _ (guards : Guards) (t limit : ℕ) (y : Contents) where
   whole = first_whole guards limit y
 
   abbrev few : Contents
-  few = trimmed whole
+  few = left_at_first guards limit y
 
   -- its arcs are those of the topology
   whole_is : whole ≡ record { objects = objects_spared (protection_of guards y) (sparing (large_refs limit (arc_positions y))) y.objects; arcs = y.arcs; transform = y.transform }
@@ -50,34 +49,25 @@ module _ (guards : Guards) (t limit : ℕ) (y : Contents) where
       ∙ sym (spared_twice guards.keep_shapes (arc_positions y) (large_refs limit (arc_positions y)) (unchanged limit (arc_positions y) true) (large_refs limit arcs) y.objects)
       ∙ sym (ap (λ z. objects_spared (protection_of guards z) (sparing (large_refs limit arcs)) z.objects) whole_is)
 
-  -- which topology is reduced, and which of the positions of all arcs stay, where small rings go first (true) or not
-  abbrev reduced : Bool → Contents
-  reduced b = cond b few y
+  abbrev used_at_first : ℕ → Bool
+  used_at_first = is_used whole.objects
 
-  abbrev indexes : Bool → List (List ℕ)
-  indexes b = cond b (spread (is_used whole.objects) 0 (left_indexes guards t (reduced b)) y.arcs) (left_indexes guards t y)
+  abbrev kept : List (List ℕ)
+  kept = left_indexes guards t few
 
-  abbrev Reach : Bool → Type 0
-  Reach b = EachFromFirstToLast (left_indexes guards t (reduced b)) (reduced b).arcs
-
-  contents_once : Reach true → (left_of guards t limit few).contents ≡ spared_by (protection_of guards whole) (indexes true) limit whole
-  unfolding left_of
-  contents_once h =
-      (trimmed_first guards.keep_shapes (left_indexes guards t few) limit whole h).contents
-      ∙ ap (λ arcs. spared_by (protection_of guards whole) (spread (is_used whole.objects) 0 (left_indexes guards t few) arcs) limit whole) (each_retained y.arcs)
-
-  removed_once : Reach true → (left_of guards t limit few).removed_count ≡ spared_removed_count (protection_of guards whole) (indexes true) limit whole
-  unfolding left_of
-  removed_once h =
-      (trimmed_first guards.keep_shapes (left_indexes guards t few) limit whole h).removed_count
-      ∙ ap (λ arcs. spared_removed_count (protection_of guards whole) (spread (is_used whole.objects) 0 (left_indexes guards t few) arcs) limit whole) (each_retained y.arcs)
+  -- of the arcs that lines use then the same stays
+  same : EachFromFirstToLast kept few.arcs → keep_from used_at_first 0 (retained_arcs (indexes_from_first guards t limit y) whole.arcs) ≡ retained_arcs kept (keep_from used_at_first 0 whole.arcs)
+  unfolding trimmed
+  same = subst (λ arcs. EachFromFirstToLast kept (keep_from used_at_first 0 arcs) → keep_from used_at_first 0 (retained_arcs (indexes_from_first guards t limit y) arcs) ≡ retained_arcs kept (keep_from used_at_first 0 arcs))
+      (sym (each_retained y.arcs)) (spread_left used_at_first 0 kept y.arcs)
 
   pub is_at_once : IsLeftAtOnce guards t limit y
+  unfolding left_of
   is_at_once = record {
     objects = objects_once;
     arcs = each_retained y.arcs;
-    contents = λ e. subst (λ b. Reach b → (left_of guards t limit (reduced b)).contents ≡ spared_by (protection_of guards whole) (indexes b) limit whole) (sym e) contents_once;
-    removed_count = λ e. subst (λ b. Reach b → (left_of guards t limit (reduced b)).removed_count ≡ spared_removed_count (protection_of guards whole) (indexes b) limit whole) (sym e) removed_once;
+    contents = λ h. contents_same guards.keep_shapes limit whole kept (indexes_from_first guards t limit y) (same h);
+    removed_count = λ h. removed_same guards.keep_shapes limit whole kept (indexes_from_first guards t limit y) (same h);
   }
 
 pub in_turn_at_once : InTurnIsAtOnce
@@ -96,7 +86,7 @@ module _ (guards : Guards) (limit : ℕ) (y : Contents) where
   used = is_used (first_whole guards limit y).objects
 
   abbrev after_first : Contents
-  after_first = trimmed (first_whole guards limit y)
+  after_first = left_at_first guards limit y
 
   positions_after : arc_positions after_first ≡ keep_from used 0 (arc_positions y)
   positions_after = positions_alike (first_whole guards limit y) ∙ ap (λ arcs. keep_from used 0 (placed_arcs y.transform arcs)) (each_retained y.arcs)
@@ -160,26 +150,27 @@ module _ (rise : ArcsRise) (stay : RingsStay) (no_crossings : Bool) (t limit : �
   abbrev Keeps : List (List Point) → List (List Point) → TopoFeature → TopoFeature → Type 0
   Keeps arcs left after before = (refs : List ℤ) → ring_in before ≡ Some refs → HasRing arcs left refs after
 
-  -- what is left, where small rings go first (true) or not
+  -- which positions stay and what is left, where small rings go first (true) or not
+  abbrev indexes : Bool → List (List ℕ)
+  indexes b = cond b (indexes_from_first asked t limit y) (left_indexes asked t y)
+
   abbrev result : Bool → Left
   result b = cond b (record {
-    contents = (left_of asked t limit (reduced asked t limit y b)).contents;
+    contents = (left_of asked t limit (cond b few_of y)).contents;
     dropped = dropped_in_turn asked t limit y;
-    removed_count = (left_of asked t limit (reduced asked t limit y b)).removed_count;
+    removed_count = (left_of asked t limit (cond b few_of y)).removed_count;
   }) (left_of asked t limit y)
 
   abbrev AllKeep : Bool → Type 0
-  AllKeep b = EachTo (Keeps (placed_arcs y.transform (retained_arcs (indexes asked t limit y b) y.arcs)) (arc_positions (result b).contents)) (all_features (result b).contents) (all_features y)
+  AllKeep b = EachTo (Keeps (placed_arcs y.transform (retained_arcs (indexes b) y.arcs)) (arc_positions (result b).contents)) (all_features (result b).contents) (all_features y)
 
   -- the reduced arcs of what doesn't go first are those of all arcs that lines use
-  arcs_same : IsTopology few_of → keep_from passes 0 (placed_arcs y.transform (retained_arcs (indexes asked t limit y true) y.arcs)) ≡ left_arcs asked t few_of
+  arcs_same : IsTopology few_of → keep_from passes 0 (placed_arcs y.transform (retained_arcs (indexes true) y.arcs)) ≡ left_arcs asked t few_of
   unfolding trimmed
   arcs_same valid =
-      let kept : List (List ℕ) = left_indexes asked t few_of in
-      let all : List (List Point) = retained_arcs (indexes asked t limit y true) y.arcs in
-      let through : EachFromFirstToLast kept (keep_from passes 0 y.arcs) = subst (λ arcs. EachFromFirstToLast kept (keep_from passes 0 arcs)) (each_retained y.arcs) (indexes_reach rise asked t few_of valid) in
-      sym (kept_placed y.transform passes all) ∙ ap (placed_arcs y.transform) (spread_left passes 0 kept y.arcs through ∙ sym (ap (λ arcs. retained_arcs kept (keep_from passes 0 arcs)) (each_retained y.arcs)))
-      ∙ placed_retained y.transform kept few_of.arcs ∙ retained_are_reduced (guard_of asked few_of) t (arc_positions few_of)
+      sym (kept_placed y.transform passes (retained_arcs (indexes true) y.arcs))
+      ∙ ap (placed_arcs y.transform) (sym (ap (λ arcs. keep_from passes 0 (retained_arcs (indexes true) arcs)) (each_retained y.arcs)) ∙ same asked t limit y (indexes_reach rise asked t few_of valid))
+      ∙ placed_retained y.transform (left_indexes asked t few_of) few_of.arcs ∙ retained_are_reduced (guard_of asked few_of) t (arc_positions few_of)
 
   -- the protected ring that is left at first, by its new indexes
   abbrev Stays : TopoFeature → TopoFeature → Type 0
@@ -195,7 +186,7 @@ module _ (rise : ArcsRise) (stay : RingsStay) (no_crossings : Bool) (t limit : �
   keep_few : IsTopology few_of → AllKeep true
   keep_few valid =
       let left : Contents = (left_of asked t limit few_of).contents in
-      let more : List (List Point) = placed_arcs y.transform (retained_arcs (indexes asked t limit y true) y.arcs) in
+      let more : List (List Point) = placed_arcs y.transform (retained_arcs (indexes true) y.arcs) in
       each_joined (λ after before. (refs : List ℤ) → protected_of (greatest_ring (arc_positions few_of)) before ≡ Some refs → HasRing (left_arcs asked t few_of) (arc_positions left) refs after) Stays (Keeps more (arc_positions left))
       (λ after between before h k refs e. of_same (left_arcs asked t few_of) more (arc_positions left) (map (renumbered passes) refs) refs after
       (ap (λ arcs. map (arc_at arcs) (map (renumbered passes) refs)) (sym (arcs_same valid)) ∙ all_renumbered passes more refs (k.1 refs e))

@@ -130,6 +130,16 @@ pub each_to_made : {A B : Type 0} (R : B → A → Type 0) (g : A → B) (xs : L
 each_to_made R g [] h = tt
 each_to_made R g (x ∷ xs) h = (h.0, each_to_made R g xs h.1)
 
+-- one relation after another
+pub each_joined : {A B C : Type 0} (R : C → B → Type 0) (S : B → A → Type 0) (Q : C → A → Type 0) → ((c : C) (b : B) (a : A) → R c b → S b a → Q c a) → (zs : List C) (ys : List B) (xs : List A)
+    → EachTo R zs ys → EachTo S ys xs → EachTo Q zs xs
+each_joined R S Q f [] [] [] h k = tt
+each_joined R S Q f [] [] (x ∷ xs) h k = absurd k
+each_joined R S Q f [] (y ∷ ys) xs h k = absurd h
+each_joined R S Q f (z ∷ zs) [] xs h k = absurd h
+each_joined R S Q f (z ∷ zs) (y ∷ ys) [] h k = absurd k
+each_joined R S Q f (z ∷ zs) (y ∷ ys) (x ∷ xs) h k = (f z y x h.0 k.0, each_joined R S Q f zs ys xs h.1 k.1)
+
 -- ---- features of objects
 
 module _ (X : Bool × List ℤ → Type 0) where

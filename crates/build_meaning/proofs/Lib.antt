@@ -46,10 +46,9 @@ pub mod ValidCelled
 pub mod ValidRetained
 pub mod ValidPruned
 pub mod GreatestLeft
-pub mod LayersKept
 pub mod MarkedRing
 pub mod MarksLeft
-pub mod LayersLeft
+pub mod UnguardedBuilt
 mod LayersLeftRows
 pub mod RingsAlike
 pub mod ShapesLeft

@@ -93,7 +93,7 @@ unfoldable pub use Rattle.guarded_meaning.specs.Guards.{is_free, keeps_rings}
 pub use Rattle.guarded_meaning.specs.Laws.{ArcsRise, CrossingsNeverRise, FewerArcsLaw, NoneStaysNone, RingsStay, UnguardedIndexLaw}
 pub use Rattle.guarded_meaning.specs.Lists.{EachTo, IsThinned}
 pub use Rattle.build_meaning.specs.ArcPositions.{arc_positions, crossings_of}
-pub use Rattle.build_meaning.specs.Assembled.{arc_indexes, arcs_of_layers, assembled_cause, layers_caused, option_caused, own_refs}
+pub use Rattle.build_meaning.specs.Assembled.{arc_indexes, arcs_of_layers, assembled_cause, layers_caused, option_caused}
 unfoldable pub use Rattle.build_meaning.specs.Assembled.{assembled, assembled_dropped, assembled_removed_count}
 pub use Rattle.build_meaning.specs.Built.{all_arcs, kept_refs, positions_of, untrimmed}
 unfoldable pub use Rattle.build_meaning.specs.Built.{built, removed_count}
@@ -106,22 +106,21 @@ pub use Rattle.build_meaning.specs.Expected.{cleaned, expected_feature, is_small
 unfoldable pub use Rattle.build_meaning.specs.Expected.{expected, expected_dropped}
 pub use Rattle.build_meaning.specs.GridLaws.{BuiltCellsAreOn, BuiltDecodesQuantized, BuiltIsValidQuantized, EachFeature, IsSnapped, Keeps, QuantizedDecodes, QuantizedIsValid, QuantizedKeeps, SnappedAreOn, SnappedKeep, all_features}
 unfoldable pub use Rattle.build_meaning.specs.GridTransforms.{transform_of}
-pub use Rattle.build_meaning.specs.InTurn.{cause_in_turn, first_whole, goes_first, indexes_in_turn, left_in_turn, without_small}
-unfoldable pub use Rattle.build_meaning.specs.InTurn.{dropped_in_turn}
+pub use Rattle.build_meaning.specs.InTurn.{all_indexes, cause_in_turn, drops_in_turn, first_whole, goes_first, indexes_from_first, indexes_in_turn, judged, left_at_first, left_in_turn, paired_step, rings_paired, spread, without_small}
+unfoldable pub use Rattle.build_meaning.specs.InTurn.{dropped_in_turn, layers_dropped_in_turn, paired}
 pub use Rattle.build_meaning.specs.InTurnLaws.{FirstIsLeftAtZero, FirstOfBuilt, InTurnIsAtOnce, IsLeftAtOnce, SameRingsAtFirst, SameRingsStay, ShapesStayInTurn, WithoutSmallCrossesNoMore, WithoutSmallIsValid, WithoutSmallKeeps, WithoutSmallOnGrid, refs_in_turn}
 pub use Rattle.build_meaning.specs.Layers.{Named, features_lines_and_rings, layers_of, named_lines_and_rings, names_of}
+pub use Rattle.build_meaning.specs.LayersMarked.{unprotected_cause}
+unfoldable pub use Rattle.build_meaning.specs.LayersMarked.{greatest_of_layers}
 pub use Rattle.build_meaning.specs.Left.{Left, guard_of, left_arcs, left_indexes, no_guards, protection_of, rings_to_stay}
 unfoldable pub use Rattle.build_meaning.specs.Left.{left_of}
-pub use Rattle.build_meaning.specs.LeftLaws.{ArcsRetainedAreReduced, CrossingsNeverRise as LeftCrossingsNeverRise, GreatestRingIsGreatest, HasRing, IsAlikeOnGrid, KeepsRings, LeftArcsAreReduced, LeftIndexesReach, LeftIsValid, LeftKeeps, LeftOnGrid, NoneIsGreatest, NoneStaysNone as LeftNoneStaysNone, ShapesStay, SparedCellsAreOn, SparedIsValid, SparedKeeps, SparedNestsNoDeeper, UnguardedIsSimplified, UnprotectedIsSimplified}
-pub use Rattle.build_meaning.specs.LeftOfLayers.{all_indexes, drafted_refs, feature_assembled, layer_protection, layer_shape_marked, layers_indexes, layers_rings, left_of_layers, option_unspared, ring_refs, spread, unprotected_cause, unprotected_cause_by, unprotected_refs}
-unfoldable pub use Rattle.build_meaning.specs.LeftOfLayers.{assembled_by, greatest_of_layers}
-pub use Rattle.build_meaning.specs.LeftOfLayersLaws.{AssembledByIsValid, AssembledIsOfLines, BuiltFeaturesHaveRings, BuiltRingsAreOfLayers, LayersAreLeftOfBuilt, LayersIndexesReach, LayersLeftAreOn, LayersShapesStay, TrimmedFirstIsAlike, UnguardedIsBuilt, UnprotectedIsAssembled}
+pub use Rattle.build_meaning.specs.LeftLaws.{ArcsRetainedAreReduced, CrossingsNeverRise as LeftCrossingsNeverRise, GreatestRingIsGreatest, HasRing, IsAlikeOnGrid, KeepsRings, LeftArcsAreReduced, LeftIndexesReach, LeftIsValid, LeftKeeps, LeftOnGrid, NoneIsGreatest, NoneStaysNone as LeftNoneStaysNone, ShapesStay, SparedCellsAreOn, SparedIsValid, SparedKeeps, SparedNestsNoDeeper, UnguardedIsBuilt, UnguardedIsSimplified, UnprotectedIsSimplified}
 pub use Rattle.build_meaning.specs.Objects.{Kept, feature_by, features_by, objects_by}
 pub use Rattle.build_meaning.specs.OuterRings.{along, ends_here, into_part, marked_step, outer_ring, outer_rings_step, rings_marked, unmarked}
 unfoldable pub use Rattle.build_meaning.specs.OuterRings.{marked, outer_rings}
 pub use Rattle.build_meaning.specs.Protected.{MarkedRefs, Protection, cause_sparing, enclosed, feature_spared, greater, greatest, no_protection, object_spared, objects_spared, option_unprotected, protected_of, protected_rings, protection, shape_marked, spared_whole, sparing}
 unfoldable pub use Rattle.build_meaning.specs.Protected.{greatest_ring, spared_by, spared_dropped, spared_removed_count}
-pub use Rattle.build_meaning.specs.Quantized.{AreInputs, AreOn, IsCount, IsOn, named_grid, named_points, quantized, snapped_named}
+pub use Rattle.build_meaning.specs.Quantized.{AreInputs, IsCount, IsOn, named_grid, named_points, quantized, snapped_named}
 pub use Rattle.build_meaning.specs.Simplified.{EachFromFirstToLast, FromFirstToLast, Refs, feature_pruned, large_refs, objects_pruned, option_small, retained, retained_arcs, retained_whole, small_cause}
 unfoldable pub use Rattle.build_meaning.specs.Simplified.{dropped_by, removed_count_by, simplified_by}
 pub use Rattle.build_meaning.specs.SimplifiedLaws.{ArcIndexesReach, AssemblesToBuilt, AssemblingDropsExpected, AssemblingRemoves, BuiltDecodesOnGrid, BuiltIsValidOnGrid, CelledDecodes, CelledIsValid, DecodesBackOnGrid, IndexesReach, RetainedIsReduced, SimplifiedKeeps, labels}

@@ -12,23 +12,23 @@ use Rattle.geometry.specs.declared.shape.Geometry.TheVariants as g
 abbrev pub triangle : ℕ → ℕ → ℕ → List Point
 triangle x y side = at x y ∷ (at (x + side) y ∷ (at x (y + side) ∷ (at x y ∷ [])))
 
-abbrev feature : TopoShape → TopoFeature
+abbrev pub feature : TopoShape → TopoFeature
 feature s = record { id = None; properties = None; shape = Some s }
 
 -- where shapes stay
-abbrev keeping_shapes : Guards
+abbrev pub keeping_shapes : Guards
 keeping_shapes = record { no_crossings = false; keep_shapes = true }
 
-abbrev ring : ℕ → List ℤ
+abbrev pub ring : ℕ → List ℤ
 ring k = pos k ∷ []
 
 abbrev polygon : ℕ → TopoShape
 polygon k = g.Area (ring k ∷ [])
 
-abbrev polygons : ℕ → ℕ → TopoShape
+abbrev pub polygons : ℕ → ℕ → TopoShape
 polygons k l = g.Areas ((ring k ∷ []) ∷ ((ring l ∷ []) ∷ []))
 
-abbrev ring_at : List ℕ → ℕ → Placed (List ℤ)
+abbrev pub ring_at : List ℕ → ℕ → Placed (List ℤ)
 ring_at way k = record { path = way; part = ring k }
 
 -- ---- a polygon keeps its ring, and of two polygons the greater one stays, which is the second
@@ -39,7 +39,7 @@ islands = contents (layer (feature (polygon 0) ∷ (feature (polygons 1 2) ∷ [
 rings_of_polygon : (k : ℕ) → outer_rings (polygon k) ≡ ring_at [] k ∷ []
 rings_of_polygon k = (outer_rings_at Point (List ℤ)).area (ring k ∷ [])
 
-rings_of_polygons : (k l : ℕ) → outer_rings (polygons k l) ≡ ring_at (0 ∷ []) k ∷ (ring_at (1 ∷ []) l ∷ [])
+pub rings_of_polygons : (k l : ℕ) → outer_rings (polygons k l) ≡ ring_at (0 ∷ []) k ∷ (ring_at (1 ∷ []) l ∷ [])
 rings_of_polygons k l = (outer_rings_at Point (List ℤ)).areas ((ring k ∷ []) ∷ ((ring l ∷ []) ∷ []))
 
 first_island : greatest_ring islands.arcs (polygon 0) ≡ Some (ring_at [] 0)

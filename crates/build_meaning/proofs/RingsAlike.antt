@@ -123,10 +123,6 @@ module _ (keep_shapes : Bool) (cell : Point → Point) (arcs : List (List Point)
   abbrev as_before : List ℤ → List ℤ
   as_before refs = refs
 
-  pub ring_celled : (s : Option TopoShape) → map_some (λ x. x.part) (then_some (protection keep_shapes arcs) (then_some (prune cell (λ closed refs. Some refs)) s)) ≡ map_some (λ x. x.part) (then_some (protection keep_shapes arcs) s)
-  ring_celled s =
-      ring_alike keep_shapes cell as_before arcs arcs Any (λ b h. refl) s (all_hold Any (λ b. tt) (option_lines_and_rings s)) ∙ as_it_is (map_some (λ x. x.part) (then_some (protection keep_shapes arcs) s))
-
   pub rings_celled : (os : Objects) → protected_rings (protection keep_shapes arcs) (objects_celled cell os) ≡ protected_rings (protection keep_shapes arcs) os
   rings_celled os = rings_alike keep_shapes cell as_before arcs arcs Any (λ b h. refl) os (all_hold Any (λ b. tt) (objects_lines_and_rings os)) ∙ map-id (protected_rings (protection keep_shapes arcs) os)
 

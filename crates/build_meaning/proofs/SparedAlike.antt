@@ -1,10 +1,9 @@
 -- What is left of a topology where rings are protected, before the arcs that no line uses are left out and after, and on a grid.
 use Rattle.std.proofs.Common.{◌≡◌, ◌==◌, ℕ, ◌-◌, ℤ, Bool, true, false, cond, List, map, Option, None, Some, refl, sym, ap, ◌∙◌, subst}
-use Rattle.build_meaning.proofs.Names.{AllByRecursion, list_any, all_weaker, number_of, Point, Cause, Axes, cell, placed_arcs, Contents, objects_lines_and_rings, place_on, TopoObject, Transform, reduce_arcs, guarded_by, positions_of, unless, is_used, keep_from, line_renumbered, renumbered, trimmed, objects_celled, celled, LiesBack, transform_of, arc_positions, spread, Protection, protected_rings, sparing, objects_spared, spared_whole, spared_by, spared_removed_count, IsAlikeOnGrid, IsOn, small_cause, large_refs, retained_arcs, objects_pruned, sum, then_some, Guards, LeftOnGrid, TrimmedFirstIsAlike, guard_of, left_indexes, left_of, protection, protection_of, rings_to_stay}
+use Rattle.build_meaning.proofs.Names.{AllByRecursion, list_any, all_weaker, number_of, Point, Cause, Axes, cell, placed_arcs, Contents, objects_lines_and_rings, place_on, TopoObject, Transform, reduce_arcs, guarded_by, positions_of, unless, is_used, keep_from, line_renumbered, renumbered, trimmed, objects_celled, celled, LiesBack, transform_of, arc_positions, Protection, protected_rings, sparing, objects_spared, spared_whole, spared_by, spared_removed_count, IsAlikeOnGrid, IsOn, small_cause, large_refs, retained_arcs, objects_pruned, sum, then_some, Guards, LeftOnGrid, guard_of, left_indexes, left_of, protection, protection_of, rings_to_stay}
 use Rattle.build_meaning.proofs.Again.{trimmed_again}
 use Rattle.build_meaning.proofs.Celled.{arcs_map, all_lie_back, retained_lie, objects_lines, trimmed_celled}
 use Rattle.build_meaning.proofs.Greatest.{same_some}
-use Rattle.build_meaning.proofs.Spread.{spread_left}
 use Rattle.build_meaning.proofs.OnGrid.{lengths_stay, all_lie}
 use Rattle.build_meaning.proofs.RingsAlike.{objects_turned, rings_celled, objects_celled_alike}
 use Rattle.build_meaning.proofs.Simplified.{refs_same}
@@ -90,13 +89,6 @@ module _ (keep_shapes : Bool) (limit : ℕ) (y : Contents) where
     removed_same =
         ap (λ arcs. positions_of arcs - positions_of (spared_by after kept limit (trimmed y)).arcs) arcs_same
         ∙ ap (λ z. positions_of (keep_from (is_used left) 0 y.arcs) - positions_of z.arcs) contents_same
-
-pub trimmed_first : TrimmedFirstIsAlike
-unfolding trimmed
-trimmed_first keep_shapes kept limit y h =
-    let more : List (List ℕ) = spread (is_used y.objects) 0 kept y.arcs in
-    let same = spread_left (is_used y.objects) 0 kept y.arcs h in
-    record { contents = contents_same keep_shapes limit y kept more same; removed_count = removed_same keep_shapes limit y kept more same }
 
 -- ---- on a grid
 

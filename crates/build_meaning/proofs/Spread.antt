@@ -1,12 +1,7 @@
--- Lists of numbers that are spread over all arcs of layers, and the arcs of what is built of them at zero.
-use Rattle.std.proofs.Common.{◌≡◌, ℕ, suc, ◌+◌, ◌≤◌, Bool, true, false, cond, List, [], ◌∷◌, map, length, Some, refl, sym, ap, ◌∙◌, subst, arith}
-use Rattle.build_meaning.proofs.Names.{AllByRecursion, or_empty, first_of, last_of, tail, Point, linework, sub_all, numbered, ZeroLaw, reduce_arcs, ArcsRise, untrimmed, built, AreSound, is_used, keep_from, trimmed, arcs_of_layers, all_indexes, spread, arc_positions, retained, retained_arcs, FromFirstToLast, EachFromFirstToLast, numbered_points, Named, layers_of}
-use Rattle.guarded_meaning.specs.Elimination.{Guard}
-use Rattle.build_meaning.proofs.Reduced.{each_through, sub_left}
-use Rattle.build_meaning.proofs.Linework.{all_clean}
-use Rattle.build_meaning.proofs.ValidIndexes.{arcs_long}
+-- Lists of numbers that are spread over arcs of which only some pass.
+use Rattle.std.proofs.Common.{◌≡◌, ℕ, suc, ◌+◌, ◌≤◌, Bool, true, false, cond, List, [], ◌∷◌, map, length, Some, refl, ap, ◌∙◌, arith}
+use Rattle.build_meaning.proofs.Names.{AllByRecursion, or_empty, first_of, last_of, tail, Point, numbered, keep_from, all_indexes, spread, retained, retained_arcs, FromFirstToLast, EachFromFirstToLast, numbered_points}
 use Rattle.build_meaning.proofs.ValidRetained.{all_stand, points_retained}
-use Rattle.build_meaning.proofs.Whole.{each_stays}
 
 -- ---- all numbers
 
@@ -56,32 +51,3 @@ module _ (passes : ℕ → Bool) where
       on true [] h f = absurd h
       on true (is ∷ kept) h f = (h.0, f kept h.1)
       on false kept h f = (all_through ps long.0, f kept h)
-
--- ---- what is built of layers
-
-module _ (ls : Named) where
-  abbrev IsLong : List Point → Type 0
-  IsLong ps = 2 ≤ length ps
-
-  abbrev used : ℕ → Bool
-  used = is_used (untrimmed 0 0 ls).objects
-
-  pub layers_long : AreSound ls → AllByRecursion IsLong (arcs_of_layers ls)
-  layers_long sound = arcs_long (linework (layers_of ls)) (all_clean ls sound)
-
-  -- at zero nothing is removed of its arcs
-  pub built_arcs : ZeroLaw → (built 0 0 ls).arcs ≡ keep_from used 0 (arcs_of_layers ls)
-  unfolding built trimmed
-  built_arcs zero = ap (keep_from used 0) (each_stays zero (arcs_of_layers ls))
-
-  pub built_positions : arc_positions (built 0 0 ls) ≡ (built 0 0 ls).arcs
-  unfolding built trimmed
-  built_positions = refl
-
-  -- whatever holds corners
-  pub built_through : ZeroLaw → ArcsRise → (guard : Guard) (t : ℕ) → AreSound ls → EachFromFirstToLast (reduce_arcs guard t (arc_positions (built 0 0 ls))) (keep_from used 0 (arcs_of_layers ls))
-  built_through zero rise guard t sound =
-      let kept : List (List ℕ) = reduce_arcs guard t (arc_positions (built 0 0 ls)) in
-      subst (λ arcs. EachFromFirstToLast kept arcs) (built_positions ∙ built_arcs zero)
-      (each_through kept (arc_positions (built 0 0 ls)) (rise guard t (arc_positions (built 0 0 ls)))
-      (subst (λ arcs. AllByRecursion IsLong arcs) (sym (built_positions ∙ built_arcs zero)) (sub_all IsLong (sub_left used 0 (arcs_of_layers ls)) (layers_long sound))))

@@ -1,7 +1,8 @@
 -- What is left of a topology where small rings go first: where guards are asked for and rings may enclose too little, what is small as it stands is
 -- left out before arcs are reduced, with the arcs that no other line uses, so that it holds nothing and is no part of a share. What is small then,
 -- of the rest, is left out as ever.
-use Rattle.std.specs.Prelude.{ℕ, ◌&&◌, nat_lt, Bool, true, List, [], ◌∷◌, Option, None, Some, map, if◌then◌else◌}
+use Rattle.std.specs.Prelude.{ℕ, suc, ◌&&◌, nat_lt, Bool, true, List, [], ◌∷◌, Option, None, Some, map, if◌then◌else◌}
+use Rattle.elimination_meaning.specs.Elimination.{numbered}
 use Rattle.geojson_types.specs.Features.{Shape}
 use Rattle.geometry.specs.declared.address.Cause.{Cause}
 use Rattle.geometry.specs.declared.address.Cause.TheVariants.{Collapsed, Small, Outer}
@@ -10,6 +11,8 @@ use Rattle.geometry.specs.declared.shape.Geometry.{Geometry, fold-Geometry}
 use Rattle.geometry.specs.declared.shape.Geometry.TheOpen.{Geometry-F}
 use Rattle.geometry.specs.declared.shape.Geometry.TheVariants as g
 use Rattle.geometry.specs.DropCauses.{drop_causes, dropped_of_layers}
+use Rattle.geometry.specs.Joins.{or_empty, first_of}
+use Rattle.geometry.specs.Lists.{tail}
 use Rattle.geometry.specs.Paths.{Placed}
 use Rattle.geometry.specs.Points.{Point}
 use Rattle.linework.specs.Linework.{linework}
@@ -17,14 +20,27 @@ use Rattle.topojson_types.specs.Decoding.{placed_arcs}
 use Rattle.topojson_types.specs.Topologies.{TopoShape, Contents, object_features}
 use Rattle.build_meaning.specs.ArcPositions.{arc_positions}
 use Rattle.build_meaning.specs.Assembled.{arcs_of_layers}
-use Rattle.build_meaning.specs.Built.{untrimmed, built}
+use Rattle.build_meaning.specs.Built.{untrimmed, built, removed_count}
+use Rattle.build_meaning.specs.Expected.{expected_dropped}
 use Rattle.build_meaning.specs.Layers.{Named, layers_of}
 use Rattle.build_meaning.specs.Left.{Left, is_at_once, protection_of, left_indexes, left_of}
-use Rattle.build_meaning.specs.LeftOfLayers.{all_indexes, layer_shape_marked, left_of_layers, spread, unprotected_cause}
+use Rattle.build_meaning.specs.LayersMarked.{layer_shape_marked, unprotected_cause}
 use Rattle.build_meaning.specs.Protected.{Protection, cause_sparing, shape_marked, spared_whole}
 use Rattle.build_meaning.specs.Simplified.{retained_arcs, small_cause}
 use Rattle.build_meaning.specs.Trimming.{is_used, trimmed}
 use Rattle.build_meaning.specs.declared.guards.Guards.{Guards}
+
+-- ---- arcs that go first and stay whole
+
+-- the numbers of all positions
+abbrev pub all_indexes : List Point → List ℕ
+all_indexes ps = map (λ v. v.index) (numbered 0 ps)
+
+-- for the arcs whose numbers pass these lists, one after another, and for the others all numbers, where the first arc has this number
+abbrev pub spread : (ℕ → Bool) → ℕ → List (List ℕ) → List (List Point) → List (List ℕ)
+spread passes i kept [] = []
+spread passes i kept (ps ∷ arcs) =
+    if passes i then or_empty (first_of kept) ∷ spread passes (suc i) (tail kept) arcs else all_indexes ps ∷ spread passes (suc i) kept arcs
 
 -- ---- what goes first
 
@@ -35,14 +51,21 @@ goes_first guards limit = is_at_once guards && nat_lt 0 limit
 abbrev pub first_whole : Guards → ℕ → Contents → Contents
 first_whole guards limit y = spared_whole (protection_of guards y) (map all_indexes y.arcs) limit y
 
--- the topology whose arcs are reduced: where small rings go first it without these, and without the arcs that no line uses then, and else it as it is
-abbrev pub without_small : Guards → ℕ → Contents → Contents
-without_small guards limit y = if goes_first guards limit then trimmed (first_whole guards limit y) else y
+-- and without the arcs that no line uses then
+abbrev pub left_at_first : Guards → ℕ → Contents → Contents
+left_at_first guards limit y = trimmed (first_whole guards limit y)
 
--- of each of its arcs the numbers of the cells that stay at a threshold; of the arcs that go first all do
+-- the topology whose arcs are reduced: where small rings go first what is left then, and else it as it is
+abbrev pub without_small : Guards → ℕ → Contents → Contents
+without_small guards limit y = if goes_first guards limit then left_at_first guards limit y else y
+
+-- of each of its arcs the numbers of the cells that stay at a threshold where what is left at first is reduced; of the arcs that go then all do
+abbrev pub indexes_from_first : Guards → ℕ → ℕ → Contents → List (List ℕ)
+indexes_from_first guards t limit y = spread (is_used (first_whole guards limit y).objects) 0 (left_indexes guards t (left_at_first guards limit y)) y.arcs
+
+-- and of the arcs of either
 abbrev pub indexes_in_turn : Guards → ℕ → ℕ → Contents → List (List ℕ)
-indexes_in_turn guards t limit y =
-    if goes_first guards limit then spread (is_used (first_whole guards limit y).objects) 0 (left_indexes guards t (without_small guards limit y)) y.arcs else left_indexes guards t y
+indexes_in_turn guards t limit y = if goes_first guards limit then indexes_from_first guards t limit y else left_indexes guards t y
 
 -- of each arc the positions that stay
 abbrev pub arcs_in_turn : Guards → ℕ → ℕ → Contents → List (List Point)
@@ -120,20 +143,30 @@ left_in_turn guards t limit y = if goes_first guards limit then record {
 
 -- ---- layers
 
+-- Of each arc of all lines of layers the positions that stay. What is reduced is built of the layers at zero, without what goes first. The arcs that
+-- aren't in it, since they go first or only holes of dropped rings have them, stay whole.
+abbrev pub layers_arcs_left : Guards → ℕ → ℕ → Named → List (List Point)
+layers_arcs_left guards t limit ls = retained_arcs (indexes_from_first guards t limit (untrimmed 0 0 ls)) (untrimmed 0 0 ls).arcs
+
+-- why a line or ring is dropped, where it is rebuilt of the arcs as they are and then as they are left
 abbrev pub option_caused_in_turn : Guards → ℕ → ℕ → Named → Option Shape → List (Placed Cause)
 option_caused_in_turn guards t limit ls None = []
 option_caused_in_turn guards t limit ls (Some s) =
-    drops_in_turn (unprotected_cause (linework (layers_of ls)) (arcs_of_layers ls) limit) (unprotected_cause (linework (layers_of ls)) (arcs_in_turn guards t limit (untrimmed 0 0 ls)) limit)
+    drops_in_turn (unprotected_cause (linework (layers_of ls)) (arcs_of_layers ls) limit) (unprotected_cause (linework (layers_of ls)) (layers_arcs_left guards t limit ls) limit)
     (layer_shape_marked guards.keep_shapes ls s)
 
 -- the lines and rings of layers that are dropped, in reading order
 unfoldable pub layers_dropped_in_turn : Guards → ℕ → ℕ → Named → List Dropped
 layers_dropped_in_turn guards t limit ls = dropped_of_layers 0 (map (λ l. map (λ f. option_caused_in_turn guards t limit ls f.shape) l.1.features) ls)
 
--- what is left of layers: of what is built of them at zero, with the lines and rings of the layers that are dropped
+-- where each arc is reduced by itself it is what is built of the layers at the threshold
+abbrev pub built_left : ℕ → ℕ → Named → Left
+built_left t limit ls = record { contents = built t limit ls; dropped = expected_dropped t limit ls; removed_count = removed_count t limit ls }
+
+-- What is left of layers: where guards are asked for, of what is built of them at zero, with the lines and rings of the layers that are dropped.
 abbrev pub layers_left_in_turn : Guards → ℕ → ℕ → Named → Left
-layers_left_in_turn guards t limit ls = if goes_first guards limit then record {
+layers_left_in_turn guards t limit ls = if is_at_once guards then record {
   contents = (left_in_turn guards t limit (built 0 0 ls)).contents;
   dropped = layers_dropped_in_turn guards t limit ls;
   removed_count = (left_in_turn guards t limit (built 0 0 ls)).removed_count;
-} else left_of_layers guards t limit ls
+} else built_left t limit ls

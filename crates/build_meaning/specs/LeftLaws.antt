@@ -14,12 +14,15 @@ use Rattle.topojson_types.specs.declared.feature.TopoFeature.{TopoFeature}
 use Rattle.topojson_types.specs.Topologies.{TopoShape, Contents}
 use Rattle.topojson_types.specs.Validity.{IsTopology}
 use Rattle.build_meaning.specs.ArcPositions.{arc_positions, crossings_of}
+use Rattle.build_meaning.specs.Built.{built, removed_count}
+use Rattle.build_meaning.specs.BuiltLaws.{AreSound}
 use Rattle.build_meaning.specs.Celled.{EachCell}
 use Rattle.build_meaning.specs.GridLaws.{all_features}
+use Rattle.build_meaning.specs.Layers.{Named}
 use Rattle.build_meaning.specs.Left.{no_guards, protection_of, rings_to_stay, left_indexes, left_arcs, left_of}
 use Rattle.build_meaning.specs.OuterRings.{outer_rings}
 use Rattle.build_meaning.specs.Protected.{Protection, no_protection, enclosed, greatest_ring, protected_of, spared_whole, spared_by, spared_dropped, spared_removed_count}
-use Rattle.build_meaning.specs.Quantized.{IsGridIfSome, IsOn, quantized}
+use Rattle.build_meaning.specs.Quantized.{AreOn, IsGridIfSome, IsOn, quantized}
 use Rattle.build_meaning.specs.Simplified.{EachFromFirstToLast, retained_arcs, simplified_by, dropped_by, removed_count_by}
 use Rattle.build_meaning.specs.SimplifiedLaws.{labels}
 use Rattle.build_meaning.specs.Thresholds.{reduced_indexes}
@@ -95,6 +98,15 @@ pub record IsSimplifiedEachByItself (t limit : ℕ) (y : Contents) : Type 0 wher
 
 abbrev pub UnguardedIsSimplified : Type 0
 UnguardedIsSimplified = (t limit : ℕ) (y : Contents) → IsSimplifiedEachByItself t limit y
+
+-- What is left of what is built of layers at a threshold and a limit of zero, put on the grid, is what is built of the layers, put on the grid; and as
+-- many positions are removed.
+pub record IsBuiltAtOnce (g : Option Axes) (t limit : ℕ) (ls : Named) : Type 0 where
+  pub contents : (left_of no_guards t limit (quantized g (built 0 0 ls))).contents ≡ quantized g (built t limit ls)
+  pub removed_count : (left_of no_guards t limit (quantized g (built 0 0 ls))).removed_count ≡ removed_count t limit ls
+
+abbrev pub UnguardedIsBuilt : Type 0
+UnguardedIsBuilt = (g : Option Axes) (t limit : ℕ) (ls : Named) → AreOn g ls → AreSound ls → IsBuiltAtOnce g t limit ls
 
 -- ---- which arcs are left
 

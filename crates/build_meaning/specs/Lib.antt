@@ -16,8 +16,7 @@ pub mod SimplifiedLaws
 pub mod OuterRings
 pub mod Protected
 pub mod LeftLaws
-pub mod LeftOfLayers
-pub mod LeftOfLayersLaws
+pub mod LayersMarked
 pub mod InTurn
 pub mod InTurnLaws
 pub mod ProtectedRings

@@ -1,6 +1,7 @@
 // Laws of the definitions. A function here changes nothing: its contract is the law.
-ghost use Rattle.build_meaning.specs.LeftLaws.{ArcsRetainedAreReduced, CrossingsNeverRise, GreatestRingIsGreatest, LeftArcsAreReduced, LeftIndexesReach, LeftIsValid, LeftKeeps, LeftOnGrid, NoneIsGreatest, NoneStaysNone, ShapesStay, SparedCellsAreOn, SparedIsValid, SparedKeeps, SparedNestsNoDeeper, UnguardedIsSimplified, UnprotectedIsSimplified};
+ghost use Rattle.build_meaning.specs.LeftLaws.{ArcsRetainedAreReduced, CrossingsNeverRise, GreatestRingIsGreatest, LeftArcsAreReduced, LeftIndexesReach, LeftIsValid, LeftKeeps, LeftOnGrid, NoneIsGreatest, NoneStaysNone, ShapesStay, SparedCellsAreOn, SparedIsValid, SparedKeeps, SparedNestsNoDeeper, UnguardedIsBuilt, UnguardedIsSimplified, UnprotectedIsSimplified};
 
+use elimination_meaning::{direction_law, nothing_is_new, zero_law};
 use guarded_meaning::{arcs_rise, fewer_arcs_law, rings_stay, unguarded_index_law};
 
 /// The protected ring is an outer ring of four positions or more, and of those the first that encloses most.
@@ -44,6 +45,16 @@ pub fn spared_nests_no_deeper()
 pub fn unguarded_is_simplified()
     ensures { UnguardedIsSimplified }
 {
+    unguarded_index_law();
+}
+
+/// What is left without a guard of what is built of layers at zero, on a grid too, is what is built of them at the threshold.
+pub fn unguarded_is_built()
+    ensures { UnguardedIsBuilt }
+{
+    direction_law();
+    nothing_is_new();
+    zero_law();
     unguarded_index_law();
 }
 

@@ -4,9 +4,8 @@
 //! that are reduced at once, on `grid_snap`, whose grids have cells, and on `topojson_types`, which says what a topology decodes to and where a
 //! cell lies by a transform. The layers above use the definitions and the laws: what is built, reduced or put on a grid is valid, decodes to
 //! the features that are expected of the layers, and names no arc that isn't there; each segment of the lines lies once, in exactly one arc;
-//! and what is left of layers at a threshold is what is left of what is built of them at zero, with a grid and without, and without a guard
-//! what is built of them at the threshold. `specs/Left.antt` says what is left of a topology, and `specs/LeftOfLayers.antt` what is left of
-//! layers.
+//! and without a guard what is left of what is built of layers at zero is what is built of them at the threshold, with a grid and without.
+//! `specs/Left.antt` says what is left of a topology at once, and `specs/InTurn.antt` what is left where small rings go first, and of layers.
 #![tactic(auto)]
 
 mod built_laws;
@@ -14,7 +13,6 @@ mod grid_laws;
 mod guards;
 mod in_turn_laws;
 mod left_laws;
-mod left_of_layers_laws;
 mod ring_laws;
 mod simplified_laws;
 mod transform_laws;
@@ -34,12 +32,8 @@ pub use left_laws::{
     arcs_retained_are_reduced, crossings_never_rise, greatest_ring_is_greatest,
     left_arcs_are_reduced, left_indexes_reach, left_is_valid, left_keeps, left_on_grid,
     none_is_greatest, none_stays_none, shapes_stay, spared_cells_are_on, spared_is_valid,
-    spared_keeps, spared_nests_no_deeper, unguarded_is_simplified, unprotected_is_simplified,
-};
-pub use left_of_layers_laws::{
-    assembled_by_is_valid, assembled_is_of_lines, built_features_have_rings,
-    built_rings_are_of_layers, layers_are_left_of_built, layers_indexes_reach, layers_left_are_on,
-    layers_shapes_stay, trimmed_first_is_alike, unguarded_is_built, unprotected_is_assembled,
+    spared_keeps, spared_nests_no_deeper, unguarded_is_built, unguarded_is_simplified,
+    unprotected_is_simplified,
 };
 pub use ring_laws::protected_rings_can_stay;
 pub use simplified_laws::{

@@ -4,23 +4,17 @@ use Rattle.std.specs.Prelude.{◌||◌}
 use Rattle.byte_ends.specs.Ends.{saturated}
 use Rattle.build_meaning.proofs.LeftOf.{no_rings}
 use Rattle.build_meaning.specs.ArcPositions.{arc_positions}
-use Rattle.build_meaning.specs.Assembled.{arc_indexes, arcs_of_layers}
-use Rattle.build_meaning.specs.Built.{built, untrimmed}
-use Rattle.build_meaning.specs.Layers.{Named}
-use Rattle.build_meaning.specs.Left.{guard_of, is_at_once, left_by, left_indexes, left_of, no_guards, rings_to_stay}
+use Rattle.build_meaning.specs.Left.{guard_of, is_at_once, left_by, left_of, no_guards, rings_to_stay}
 use Rattle.build_meaning.specs.LeftLaws.{UnguardedIsSimplified, UnprotectedIsSimplified}
-use Rattle.build_meaning.specs.LeftOfLayers.{layers_indexes, spread}
 use Rattle.build_meaning.specs.Protected.{no_protection, protected_rings, protection}
 use Rattle.build_meaning.specs.Thresholds.{reduced_indexes}
 use Rattle.build_meaning.specs.ProtectedRings.{CanStay, ProtectedRingsCanStay}
-use Rattle.build_meaning.specs.Trimming.{is_used}
 use Rattle.build_meaning.specs.declared.guards.Guards.{Guards}
 use Rattle.geometry.specs.declared.address.Dropped.{Dropped}
 use Rattle.geometry.specs.Lists.{joined}
 use Rattle.geometry.specs.Points.{Point}
-use Rattle.layer_topology.specs.Levels.{reduced_by, threshold_at, threshold_by, threshold_of, threshold_over}
+use Rattle.layer_topology.specs.Levels.{threshold_at, threshold_by, threshold_of, threshold_over}
 use Rattle.layer_topology.specs.Topologies.{IsLeft}
-use Rattle.layer_topology.specs.Written.{built_threshold}
 use Rattle.layer_topology.specs.declared.level.Level.{Level}
 use Rattle.topo_model.specs.Along.{AreWays, Ways}
 use Rattle.topo_model.specs.Ways.{ways_under}
@@ -34,21 +28,6 @@ module _ (guards : Guards) (level : Level) where
 
   pub over_apart : (y : Contents) (arcs : List (List Point)) → is_at_once guards ≡ false → threshold_over guards level y arcs ≡ threshold_at level arcs
   over_apart y arcs e = ap (λ b. cond b (threshold_by (guard_of guards y) level (arc_positions y)) (threshold_at level arcs)) e
-
-  module _ (ls : Named) where
-    abbrev indexes : ℕ → List (List ℕ)
-    indexes t = spread (is_used (untrimmed 0 0 ls).objects) 0 (left_indexes guards t (built 0 0 ls)) (arcs_of_layers ls)
-
-    pub indexes_once : is_at_once guards ≡ true → layers_indexes guards (built_threshold guards level ls) ls
-        ≡ spread (is_used (untrimmed 0 0 ls).objects) 0 (reduced_by (guard_of guards (built 0 0 ls)) level (arc_positions (built 0 0 ls))) (arcs_of_layers ls)
-    indexes_once e =
-        ap (λ b. cond b (indexes (built_threshold guards level ls)) (arc_indexes (built_threshold guards level ls) ls)) e
-        ∙ ap indexes (over_once (built 0 0 ls) (arcs_of_layers ls) e)
-
-    pub indexes_apart : is_at_once guards ≡ false → layers_indexes guards (built_threshold guards level ls) ls ≡ arc_indexes (threshold_at level (arcs_of_layers ls)) ls
-    indexes_apart e =
-        ap (λ b. cond b (indexes (built_threshold guards level ls)) (arc_indexes (built_threshold guards level ls) ls)) e
-        ∙ ap (λ t. arc_indexes t ls) (over_apart (built 0 0 ls) (arcs_of_layers ls) e)
 
 -- ---- the rings that have to stay
 
@@ -79,9 +58,6 @@ as_none guards e = on guards.no_crossings guards.keep_shapes e
     on false false h = refl
     on true s h = absurd cc
     on false true h = absurd cc
-
-pub neither : (guards : Guards) → guards.no_crossings ≡ false → guards.keep_shapes ≡ false → is_at_once guards ≡ false
-neither guards e f = ap (λ b. b || guards.keep_shapes) e ∙ f
 
 -- what is left is what is left where each arc is reduced by itself
 pub apart_is_left : (guards : Guards) (level : Level) (limit : ℕ) (y : Contents) → is_at_once guards ≡ false

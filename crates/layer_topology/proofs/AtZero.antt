@@ -30,7 +30,7 @@ plain_at : UnprotectedIsSimplified → (s : Bool) (kept : List (List ℕ)) (y : 
 plain_at plain true kept y whole = spared_alike kept y whole
 plain_at plain false kept y whole = (plain kept 0 y).contents
 
-left_at : KeptByWeight → UnprotectedIsSimplified → (guards : Guards) (y : Contents) → (left_of guards 0 0 y).contents ≡ (left_of no_guards 0 0 y).contents
+pub left_at : KeptByWeight → UnprotectedIsSimplified → (guards : Guards) (y : Contents) → (left_of guards 0 0 y).contents ≡ (left_of no_guards 0 0 y).contents
 unfolding left_of
 left_at by_weight plain guards y =
     plain_at plain guards.keep_shapes (left_indexes guards 0 y) y (nothing_goes by_weight (guard_of guards y) y)

@@ -1,19 +1,18 @@
--- What is left of a draft where small rings go first is what is left in turn of the topology for which it stands.
-use Rattle.std.proofs.Common.{◌≡◌, ◌≤◌, ℕ, ℤ, Bool, true, false, ◌&&◌, ◌||◌, cond, List, [], ◌∷◌, map, length, Option, None, Some, refl, sym, ap, ◌∙◌, subst}
+-- What is left of a draft where guards are asked for is what is left, of what is left at first, of the topology for which it stands.
+use Rattle.std.proofs.Common.{◌≡◌, ◌≤◌, ℕ, zero, suc, ℤ, Bool, true, false, ◌&&◌, List, [], map, length, Option, None, Some, refl, sym, ap, ◌∙◌, subst}
 use Rattle.std.proofs.lemmas.List.{length-map}
 use Rattle.std.specs.List.{AllByRecursion}
 use Rattle.std.specs.Prelude.{nat_lt}
 use Rattle.build_meaning.proofs.Spread.{spread_through}
 use Rattle.build_meaning.proofs.SparedAlike.{positions_alike}
 use Rattle.build_meaning.specs.ArcPositions.{arc_positions}
-use Rattle.build_meaning.specs.InTurn.{goes_first, first_whole, without_small, indexes_in_turn, arcs_in_turn}
+use Rattle.build_meaning.specs.InTurn.{first_whole, goes_first, indexes_from_first, left_at_first}
 use Rattle.build_meaning.specs.InTurnLaws.{refs_in_turn, InTurnIsAtOnce, SameRingsStay, WithoutSmallIsValid}
 use Rattle.build_meaning.specs.Left.{is_at_once, guard_of, left_by, left_indexes, left_of, protection_of, rings_to_stay}
 use Rattle.build_meaning.specs.LeftLaws.{LeftIndexesReach}
-use Rattle.build_meaning.specs.LeftOfLayers.{all_indexes, spread}
 use Rattle.build_meaning.specs.ProtectedRings.{CanStay, ProtectedRingsCanStay}
 use Rattle.build_meaning.specs.Protected.{objects_spared, protected_rings, protection, spared_by, spared_removed_count, sparing}
-use Rattle.build_meaning.specs.Simplified.{EachFromFirstToLast, large_refs, objects_pruned, retained_arcs}
+use Rattle.build_meaning.specs.Simplified.{EachFromFirstToLast, large_refs, retained_arcs}
 use Rattle.build_meaning.specs.Trimming.{is_used, keep_from, renumbered, trimmed}
 use Rattle.build_meaning.specs.declared.guards.Guards.{Guards}
 use Rattle.byte_ends.specs.Ends.{saturated}
@@ -22,18 +21,17 @@ use Rattle.geometry.specs.Joins.{AreInRange}
 use Rattle.geometry.specs.Points.{IsPosition, Point}
 use Rattle.guarded_meaning.specs.Guards.{guarded_by}
 use Rattle.layer_topology.proofs.Asked.{over_once, rings_can_stay, ways_lead}
-use Rattle.layer_topology.proofs.GuardedArcs.{answers_many}
-use Rattle.layer_topology.proofs.Drafted.{left_drafted, rings_drafted}
-use Rattle.layer_topology.specs.InTurn.{draft_contents, threshold_in_turn}
+use Rattle.topo_model.proofs.Drafted.{left_drafted, rings_drafted}
+use Rattle.layer_topology.specs.InTurn.{threshold_in_turn}
 use Rattle.layer_topology.specs.Levels.{chosen_for, reduced_by, threshold_by}
 use Rattle.layer_topology.specs.declared.level.Level.{Level}
 use Rattle.owned_values.proofs.Elements.{all_map, all_two, all_weaker}
 use Rattle.topo_model.proofs.Along.{objects_are}
 use Rattle.topo_model.proofs.Chosen.{chosen_as}
 use Rattle.topo_model.proofs.Result.{are_positions}
-use Rattle.topo_model.specs.Along.{objects_along, large_along, AreWays, Ways}
-use Rattle.topo_model.specs.DraftUses.{with_refs}
-use Rattle.topo_model.specs.Drops.{judged_refs, objects_drops}
+use Rattle.topo_model.specs.Along.{large_along, AreWays, Ways}
+use Rattle.topo_model.specs.DraftUses.{draft_contents}
+use Rattle.topo_model.specs.Drops.{objects_drops}
 use Rattle.topo_model.specs.Parts.{contents}
 use Rattle.topo_model.specs.Rebuilding.{Rebuilding}
 use Rattle.topo_model.specs.Retaining.{StandsFor, StandsForTopology}
@@ -72,9 +70,14 @@ pub placed_are : (transform : Option Transform) (arcs : List (List Point)) → A
 placed_are transform arcs h =
     all_two (λ a. 2 ≤ length a) (λ a. AllByRecursion IsPosition a) (IsArc None) (λ a l p. (l, p)) (placed_arcs transform arcs) (placed_long transform arcs h) (positions_are transform arcs h)
 
+-- as many answers as there are arcs
+answers_many : (passes : ℕ → Bool) (n count : ℕ) → length (answers passes n count) ≡ count
+answers_many passes n zero = refl
+answers_many passes n (suc count) = ap suc (answers_many passes (suc n) count)
+
 -- ---- a draft
 
-module _ (guards : Guards) (level : Level) (limit : ℕ) (os : List (List ℕ × TopoObject)) (arcs : List (List Point)) (transform : Option Transform) (first : goes_first guards limit ≡ true) where
+module _ (guards : Guards) (level : Level) (limit : ℕ) (os : List (List ℕ × TopoObject)) (arcs : List (List Point)) (transform : Option Transform) (once : is_at_once guards ≡ true) where
   abbrev y : Contents
   y = draft_contents os arcs transform
 
@@ -85,7 +88,7 @@ module _ (guards : Guards) (level : Level) (limit : ℕ) (os : List (List ℕ ×
   whole = first_whole guards limit y
 
   abbrev full : Contents
-  full = without_small guards limit y
+  full = left_at_first guards limit y
 
   abbrev t : ℕ
   t = threshold_in_turn guards level limit y
@@ -95,9 +98,6 @@ module _ (guards : Guards) (level : Level) (limit : ℕ) (os : List (List ℕ ×
 
   abbrev ways : Ways
   ways = ways_under guards.keep_shapes placed os
-
-  full_is : full ≡ trimmed whole
-  full_is = ap (λ b. cond b (trimmed whole) y) first
 
   ways_are : AreWays (protection guards.keep_shapes placed) ways os
   ways_are = ways_lead guards.keep_shapes placed os ways refl
@@ -165,12 +165,12 @@ module _ (guards : Guards) (level : Level) (limit : ℕ) (os : List (List ℕ ×
 
     -- the arcs that are reduced
     lines_are : keep_from used 0 placed ≡ arc_positions full
-    lines_are = ap (keep_from used 0) (sym whole_placed) ∙ sym (positions_alike whole) ∙ ap arc_positions (sym full_is)
+    lines_are = ap (keep_from used 0) (sym whole_placed) ∙ sym (positions_alike whole)
 
     -- the rings that have to stay
     rings_are : SameRingsStay → map (map (renumbered used)) (protected_rings (protection guards.keep_shapes placed) os) ≡ rings_to_stay guards full
     rings_are same =
-        ap (map (map (renumbered used))) (sym (rings_drafted guards.keep_shapes placed os)) ∙ sym (same guards limit y) ∙ ap (rings_to_stay guards) (sym full_is)
+        ap (map (map (renumbered used))) (sym (rings_drafted guards.keep_shapes placed os)) ∙ sym (same guards limit y)
 
     abbrev numbers : List (List ℕ)
     numbers = left_indexes guards t full
@@ -181,44 +181,39 @@ module _ (guards : Guards) (level : Level) (limit : ℕ) (os : List (List ℕ ×
     numbers_are same rings lines r l =
         ap (λ (rs : List (List ℤ)). reduced_by (guarded_by guards.no_crossings rs) level lines) (r ∙ rings_are same)
         ∙ ap (λ (xs : List (List Point)). reduced_by (guard_of guards full) level xs) (l ∙ lines_are)
-        ∙ ap (λ n. left_indexes guards n full) (sym (over_once guards level full (arc_positions full) (at_once_first guards limit first)))
+        ∙ ap (λ n. left_indexes guards n full) (sym (over_once guards level full (arc_positions full) once))
 
     pub chosen_are : SameRingsStay → (rings : List (List ℤ)) (lines : List (List Point)) → rings ≡ map (map (renumbered used)) (protected_rings (protection guards.keep_shapes placed) os) → lines ≡ keep_from used 0 placed
         → chosen_for level (threshold_by (guarded_by guards.no_crossings rings) level lines) ≡ chosen_for level t
     chosen_are same rings lines r l =
         ap (λ (rs : List (List ℤ)). chosen_for level (threshold_by (guarded_by guards.no_crossings rs) level lines)) (r ∙ rings_are same)
         ∙ ap (λ (xs : List (List Point)). chosen_for level (threshold_by (guard_of guards full) level xs)) (l ∙ lines_are)
-        ∙ ap (chosen_for level) (sym (over_once guards level full (arc_positions full) (at_once_first guards limit first)))
+        ∙ ap (chosen_for level) (sym (over_once guards level full (arc_positions full) once))
 
     pub can_stay : SameRingsStay → WithoutSmallIsValid → ProtectedRingsCanStay → IsTopology y → (rings : List (List ℤ)) (lines : List (List Point))
         → rings ≡ map (map (renumbered used)) (protected_rings (protection guards.keep_shapes placed) os) → lines ≡ keep_from used 0 placed → CanStay lines rings
     can_stay same valid can sound rings lines r l =
         subst (λ (xs : List (List Point)). CanStay xs rings) (sym (l ∙ lines_are))
-        (subst (CanStay (arc_positions full)) (sym (r ∙ rings_are same)) (rings_can_stay can guards full (valid guards limit y sound).1))
-
-    -- what stays of the arcs
-    pub retained_are : retained_arcs (spread used 0 (left_indexes guards t full) arcs) arcs ≡ retained_arcs (indexes_in_turn guards t limit y) arcs
-    retained_are = ap (λ b. retained_arcs (cond b (spread used 0 (left_indexes guards t full) arcs) (left_indexes guards t y)) arcs) (sym first)
+        (subst (CanStay (arc_positions full)) (sym (r ∙ rings_are same)) (rings_can_stay can guards full (valid guards limit y sound).at_first))
 
     module _ (reach : LeftIndexesReach) (valid : WithoutSmallIsValid) (sound : IsTopology y) where
       reached : EachFromFirstToLast (left_indexes guards t full) full.arcs
-      reached = reach guards t full (valid guards limit y sound).1
+      reached = reach guards t full (valid guards limit y sound).at_first
 
       trimmed_arcs : full.arcs ≡ keep_from used 0 arcs
       unfolding trimmed
-      trimmed_arcs = ap (λ z. z.arcs) full_is ∙ ap (keep_from used 0) whole_arcs
+      trimmed_arcs = ap (keep_from used 0) whole_arcs
 
-      through : EachFromFirstToLast (indexes_in_turn guards t limit y) arcs
+      through : EachFromFirstToLast (indexes_from_first guards t limit y) arcs
       through =
-          subst (λ b. EachFromFirstToLast (cond b (spread used 0 (left_indexes guards t full) arcs) (left_indexes guards t y)) arcs) (sym first)
-          (spread_through used 0 (left_indexes guards t full) arcs (all_weaker (IsArc transform) (λ a. 2 ≤ length a) (λ a h. h.0) arcs sound.arcs)
-          (subst (EachFromFirstToLast (left_indexes guards t full)) trimmed_arcs reached))
+          spread_through used 0 (left_indexes guards t full) arcs (all_weaker (IsArc transform) (λ a. 2 ≤ length a) (λ a h. h.0) arcs sound.arcs)
+          (subst (EachFromFirstToLast (left_indexes guards t full)) trimmed_arcs reached)
 
       abbrev first_arcs : Option Rebuilding
       first_arcs = Some (record { arcs = placed; limit = limit })
 
-      pub stands : (retained : List (List Point)) → retained ≡ retained_arcs (indexes_in_turn guards t limit y) arcs
-          → StandsFor (protection_of guards whole) (indexes_in_turn guards t limit y) whole.objects os arcs retained transform first_arcs limit ways
+      pub stands : (retained : List (List Point)) → retained ≡ retained_arcs (indexes_from_first guards t limit y) arcs
+          → StandsFor (protection_of guards whole) (indexes_from_first guards t limit y) whole.objects os arcs retained transform first_arcs limit ways
       stands retained picks = record {
         picks = picks;
         large = objects_are (protection guards.keep_shapes placed) (sparing (refs_in_turn limit placed (placed_arcs transform retained))) ways os ways_are
@@ -226,33 +221,33 @@ module _ (guards : Guards) (level : Level) (limit : ℕ) (os : List (List ℕ ×
             ∙ (law guards t limit y).objects (placed_arcs transform retained);
       }
 
-      pub stands_for : (retained : List (List Point)) (counts : List ℕ) → retained ≡ retained_arcs (indexes_in_turn guards t limit y) arcs → counts ≡ map length arcs
+      pub stands_for : (retained : List (List Point)) (counts : List ℕ) → retained ≡ retained_arcs (indexes_from_first guards t limit y) arcs → counts ≡ map length arcs
           → StandsForTopology os retained counts transform first_arcs limit ways
       stands_for retained counts picks many = record {
         protects = protection_of guards whole;
-        kept = indexes_in_turn guards t limit y;
+        kept = indexes_from_first guards t limit y;
         of = whole.objects;
         arcs = arcs;
         stands = stands retained picks;
         through = through;
         counts_are = many;
-        valid = subst IsTopology (sym whole_is) (valid guards limit y sound).0;
+        valid = subst IsTopology (sym whole_is) (valid guards limit y sound).whole;
       }
 
       -- what comes of them is what is left in turn
-      pub contents_are : (topology : Contents) → topology ≡ (left_by (protection_of guards whole) (indexes_in_turn guards t limit y) limit (contents whole.objects arcs transform)).contents
+      pub contents_are : (topology : Contents) → topology ≡ (left_by (protection_of guards whole) (indexes_from_first guards t limit y) limit (contents whole.objects arcs transform)).contents
           → topology ≡ (left_of guards t limit full).contents
-      contents_are topology e = e ∙ ap (spared_by (protection_of guards whole) (indexes_in_turn guards t limit y) limit) whole_is ∙ sym ((law guards t limit y).contents first reached)
+      contents_are topology e = e ∙ ap (spared_by (protection_of guards whole) (indexes_from_first guards t limit y) limit) whole_is ∙ sym ((law guards t limit y).contents reached)
 
-      pub removed_are : (n : ℕ) → n ≡ saturated (left_by (protection_of guards whole) (indexes_in_turn guards t limit y) limit (contents whole.objects arcs transform)).removed_count
+      pub removed_are : (n : ℕ) → n ≡ saturated (left_by (protection_of guards whole) (indexes_from_first guards t limit y) limit (contents whole.objects arcs transform)).removed_count
           → n ≡ saturated (left_of guards t limit full).removed_count
-      removed_are n e = e ∙ ap (λ z. saturated (spared_removed_count (protection_of guards whole) (indexes_in_turn guards t limit y) limit z)) whole_is ∙ ap saturated (sym ((law guards t limit y).removed_count first reached))
+      removed_are n e = e ∙ ap (λ z. saturated (spared_removed_count (protection_of guards whole) (indexes_from_first guards t limit y) limit z)) whole_is ∙ ap saturated (sym ((law guards t limit y).removed_count reached))
 
   pub drops_from : (judge : Rebuilding) (retained : List (List Point)) (told : Ways) (dropped : List Dropped) → judge ≡ record { arcs = placed; limit = limit }
-      → retained ≡ retained_arcs (indexes_in_turn guards t limit y) arcs → told ≡ ways
+      → retained ≡ retained_arcs (indexes_from_first guards t limit y) arcs → told ≡ ways
       → dropped ≡ objects_drops (record { first = Some judge; later = record { arcs = placed_arcs transform retained; limit = limit } }) 0 told os
-      → dropped ≡ objects_drops (record { first = Some (record { arcs = placed; limit = limit }); later = record { arcs = arcs_in_turn guards t limit y; limit = limit } }) 0 ways os
+      → dropped ≡ objects_drops (record { first = Some (record { arcs = placed; limit = limit }); later = record { arcs = placed_arcs transform (retained_arcs (indexes_from_first guards t limit y) arcs); limit = limit } }) 0 ways os
   drops_from judge retained told dropped j r w e =
       e ∙ ap (λ (x : Rebuilding). objects_drops (record { first = Some x; later = record { arcs = placed_arcs transform retained; limit = limit } }) 0 told os) j
       ∙ ap (λ (xs : List (List Point)). objects_drops (record { first = Some (record { arcs = placed; limit = limit }); later = record { arcs = placed_arcs transform xs; limit = limit } }) 0 told os) r
-      ∙ ap (λ (ws : Ways). objects_drops (record { first = Some (record { arcs = placed; limit = limit }); later = record { arcs = arcs_in_turn guards t limit y; limit = limit } }) 0 ws os) w
+      ∙ ap (λ (ws : Ways). objects_drops (record { first = Some (record { arcs = placed; limit = limit }); later = record { arcs = placed_arcs transform (retained_arcs (indexes_from_first guards t limit y) arcs); limit = limit } }) 0 ws os) w

@@ -1,16 +1,15 @@
 -- What is left of a topology, and what is written of layers, under the guards that are asked for.
 use Rattle.std.proofs.Common.{arith, ◌≡◌, ◌∙◌, ℕ, ◌≤◌, Bool, true, false, cond, List, [], ◌∷◌, map, Option, None, refl, ap, subst, sym}
 use Rattle.std.specs.List.{AllByRecursion}
+use Rattle.std.specs.Prelude.{◌&&◌, nat_lt}
 use Rattle.build_meaning.specs.Built.{built}
 use Rattle.build_meaning.specs.Celled.{EachCell}
 use Rattle.build_meaning.specs.GridLaws.{BuiltCellsAreOn, SnappedAreOn}
-use Rattle.build_meaning.specs.InTurn.{dropped_in_turn, first_whole, goes_first, layers_dropped_in_turn, layers_left_in_turn, left_in_turn, without_small}
+use Rattle.build_meaning.specs.InTurn.{all_indexes, built_left, dropped_in_turn, first_whole, goes_first, layers_dropped_in_turn, layers_left_in_turn, left_in_turn, without_small}
 use Rattle.build_meaning.specs.Layers.{Named}
 use Rattle.build_meaning.specs.InTurnLaws.{ShapesStayInTurn, WithoutSmallCrossesNoMore, WithoutSmallIsValid, WithoutSmallKeeps, WithoutSmallOnGrid}
-use Rattle.build_meaning.specs.Left.{Left, left_indexes, left_of, protection_of}
-use Rattle.build_meaning.specs.LeftLaws.{CrossingsNeverRise, LeftArcsAreReduced, LeftIsValid, LeftKeeps, LeftOnGrid, SparedNestsNoDeeper}
-use Rattle.build_meaning.specs.LeftOfLayers.{all_indexes, left_of_layers}
-use Rattle.build_meaning.specs.LeftOfLayersLaws.{LayersAreLeftOfBuilt, UnguardedIsBuilt}
+use Rattle.build_meaning.specs.Left.{Left, is_at_once, left_indexes, left_of, protection_of}
+use Rattle.build_meaning.specs.LeftLaws.{CrossingsNeverRise, LeftArcsAreReduced, LeftIsValid, LeftKeeps, LeftOnGrid, SparedNestsNoDeeper, UnguardedIsBuilt}
 use Rattle.build_meaning.specs.Protected.{spared_by}
 use Rattle.build_meaning.specs.Quantized.{IsGridIfSome, IsOn, named_grid, quantized}
 use Rattle.build_meaning.specs.SimplifiedLaws.{labels}
@@ -26,6 +25,7 @@ use Rattle.layer_topology.specs.GuardLaws.{IsLeftOf, LeftLaw, UnguardedIsWritten
 use Rattle.layer_topology.specs.Laws.{HasNames, IsValid, NestsNoDeeper}
 use Rattle.layer_topology.specs.Promises.{KeepsShapes}
 use Rattle.layer_topology.specs.Written.{snapped_to, written, written_left}
+use Rattle.layer_topology.proofs.Asked.{as_none}
 use Rattle.layer_topology.proofs.Laid.{snapped}
 use Rattle.layer_topology.proofs.Origins.{origins}
 use Rattle.topojson_meaning.specs.Bounds.{feature_nesting, objects_features}
@@ -46,6 +46,14 @@ module _ (guards : Guards) (t limit : ℕ) where
     where
       on : (left : Contents → Left) (few : Contents) (dropped : List Dropped) (b : Bool)
           → (left (cond b few y)).contents ≡ (cond b (record { contents = (left (cond b few y)).contents; dropped = dropped; removed_count = (left (cond b few y)).removed_count }) (left y)).contents
+      on left few dropped true = refl
+      on left few dropped false = refl
+
+  pub in_turn_removes : (y : Contents) → (left_of guards t limit (without_small guards limit y)).removed_count ≡ (left_in_turn guards t limit y).removed_count
+  in_turn_removes y = on (left_of guards t limit) (trimmed (first_whole guards limit y)) (dropped_in_turn guards t limit y) (goes_first guards limit)
+    where
+      on : (left : Contents → Left) (few : Contents) (dropped : List Dropped) (b : Bool)
+          → (left (cond b few y)).removed_count ≡ (cond b (record { contents = (left (cond b few y)).contents; dropped = dropped; removed_count = (left (cond b few y)).removed_count }) (left y)).removed_count
       on left few dropped true = refl
       on left few dropped false = refl
 
@@ -73,7 +81,7 @@ unfolding left_of
 left_law valid keeps never met arcs nests few_valid few_keeps fewer stay guards t limit y =
     let few = without_small guards limit y in
     subst (IsLeftOf guards t limit y) (in_turn_is guards t limit y) (record {
-      valid = λ h. valid guards t limit few (few_valid guards limit y h).1;
+      valid = λ h. valid guards t limit few (few_valid guards limit y h).without_small;
       labels_stay = (keeps guards t limit few).0 ∙ (few_keeps guards limit y).0;
       transform = (keeps guards t limit few).1 ∙ (few_keeps guards limit y).1;
       nests = λ n h. nests n (protection_of guards few) (left_indexes guards t few) limit few (few_nests guards t limit nests n y h);
@@ -87,13 +95,13 @@ left_law valid keeps never met arcs nests few_valid few_keeps fewer stay guards 
 
 -- ---- layers
 
--- what holds of what is left of what is built of them at zero, or else of them, holds of what is left of them in turn
+-- what holds of what is left of what is built of them at zero, or else of what is built of them, holds of what is left of them
 pub layers_either : (guards : Guards) (t limit : ℕ) (ls : Named) (X : Bool → Contents → Type 0) → X true (left_in_turn guards t limit (built 0 0 ls)).contents
-    → X false (left_of_layers guards t limit ls).contents → X (goes_first guards limit) (layers_left_in_turn guards t limit ls).contents
+    → X false (built t limit ls) → X (is_at_once guards) (layers_left_in_turn guards t limit ls).contents
 layers_either guards t limit ls X =
     let fewer = left_in_turn guards t limit (built 0 0 ls) in
     either (λ b (left : Left). X b left.contents) (record { contents = fewer.contents; dropped = layers_dropped_in_turn guards t limit ls; removed_count = fewer.removed_count })
-    (left_of_layers guards t limit ls) (goes_first guards limit)
+    (built_left t limit ls) (is_at_once guards)
 
 -- a name with the labels of its features
 abbrev Named_labels : Type 0
@@ -107,17 +115,17 @@ label_names (o ∷ os) = ap (λ ns. o.0 ∷ ns) (label_names os)
 names_stay : (x y : Contents) → labels x ≡ labels y → map (λ o. o.0) x.objects ≡ map (λ o. o.0) y.objects
 names_stay x y h = sym (label_names x.objects) ∙ ap (map (λ (l : Named_labels). l.0)) h ∙ label_names y.objects
 
-pub written_left_law : LeftLaw → LayersAreLeftOfBuilt → SnappedAreOn → BuiltCellsAreOn → LeftOnGrid → WithoutSmallOnGrid → WithoutSmallKeeps → IsValid → HasNames → NestsNoDeeper → WrittenLeftLaw
+pub written_left_law : LeftLaw → UnguardedIsBuilt → SnappedAreOn → BuiltCellsAreOn → LeftOnGrid → WithoutSmallOnGrid → WithoutSmallKeeps → IsValid → HasNames → NestsNoDeeper → WrittenLeftLaw
 unfolding written
-written_left_law law of_built on cells alike few_on keeps valid names nests guards count t limit ls taken =
+written_left_law law is_built on cells alike few_on keeps valid names nests guards count t limit ls taken =
     let snap = snapped on count ls taken in
     let g = named_grid count ls in
     let s = snapped_to count ls in
     let whole = written count 0 0 ls in
     let same : (left_in_turn guards t limit whole).contents ≡ (written_left guards count t limit ls).contents =
-    layers_either guards t limit s (λ b y. goes_first guards limit ≡ b → (left_in_turn guards t limit whole).contents ≡ quantized g y)
+    layers_either guards t limit s (λ b y. is_at_once guards ≡ b → (left_in_turn guards t limit whole).contents ≡ quantized g y)
     (λ e. in_turn_on_grid guards t limit few_on keeps alike g (built 0 0 s) snap.on.0 (built_has_no_transform 0 0 s) (cells g 0 0 s snap.on))
-    (λ e. at_once_is guards t limit whole e ∙ (of_built guards g t limit s snap.on snap.sound).contents) refl in
+    (λ e. at_once_is guards t limit whole (ap (λ b. b && nat_lt 0 limit) e) ∙ ap (λ u. (left_of u t limit whole).contents) (as_none guards e) ∙ (is_built g t limit s snap.on snap.sound).contents) refl in
     let left : IsLeftOf guards t limit whole (written_left guards count t limit ls).contents = subst (IsLeftOf guards t limit whole) same (law guards t limit whole) in
     record {
       valid = left.valid (valid count 0 0 ls taken);
@@ -127,7 +135,6 @@ written_left_law law of_built on cells alike few_on keeps valid names nests guar
       simplified = same;
     }
 
-pub unguarded_is_written : SnappedAreOn → UnguardedIsBuilt → UnguardedIsWritten
+pub unguarded_is_written : UnguardedIsWritten
 unfolding written
-unguarded_is_written on is count t limit ls taken =
-    ap (λ (left : Left). quantized (named_grid count ls) left.contents) (is t limit (snapped_to count ls) (snapped on count ls taken).sound)
+unguarded_is_written count t limit ls taken = refl

@@ -12,8 +12,6 @@ use Rattle.build_meaning.specs.InTurnLaws.{WithoutSmallKeeps, WithoutSmallOnGrid
 use Rattle.build_meaning.specs.Layers.{Named}
 use Rattle.build_meaning.specs.Left.{is_at_once, left_indexes, left_of, protection_of, rings_to_stay}
 use Rattle.build_meaning.specs.LeftLaws.{LeftOnGrid}
-use Rattle.build_meaning.specs.LeftOfLayers.{assembled_by}
-use Rattle.build_meaning.specs.LeftOfLayersLaws.{LayersLeftAreOn}
 use Rattle.build_meaning.specs.Protected.{spared_by}
 use Rattle.build_meaning.specs.Quantized.{IsGridIfSome, IsOn, named_grid, quantized}
 use Rattle.build_meaning.specs.Trimming.{trimmed}
@@ -69,15 +67,15 @@ module _ (on : SnappedAreOn) (alike : LeftOnGrid) (cells : BuiltCellsAreOn) (few
 module _ (guards : Guards) (t limit : ℕ) (count : Option ℕ) (ls : Named) (g : Option Axes) (s : Named) (y : Contents) (asked : g ≡ named_grid count ls) (moved : s ≡ snapped_to count ls)
     (made : y ≡ (layers_left_in_turn guards t limit s).contents) where
   pub plain_under : WithoutSmallKeeps → y.transform ≡ None
-  unfolding left_of assembled_by spared_by trimmed
+  unfolding left_of spared_by trimmed
   plain_under keeps =
       ap (λ z. z.transform) made
       ∙ layers_either guards t limit s (λ b z. z.transform ≡ None)
-      (sym (ap (λ z. z.transform) (in_turn_is guards t limit (built 0 0 s))) ∙ (keeps guards limit (built 0 0 s)).1 ∙ built_has_no_transform 0 0 s) refl
+      (sym (ap (λ z. z.transform) (in_turn_is guards t limit (built 0 0 s))) ∙ (keeps guards limit (built 0 0 s)).1 ∙ built_has_no_transform 0 0 s) (built_has_no_transform t limit s)
 
-  pub cells_under : SnappedAreOn → BuiltCellsAreOn → LayersLeftAreOn → WithoutSmallOnGrid → AreTaken count ls → EachCell (IsOn g) y
+  pub cells_under : SnappedAreOn → BuiltCellsAreOn → WithoutSmallOnGrid → AreTaken count ls → EachCell (IsOn g) y
   unfolding left_of
-  cells_under on cells layers_cells few_on h =
+  cells_under on cells few_on h =
       let snap = snapped on count ls h in
       let k = named_grid count ls in
       let m = snapped_to count ls in
@@ -88,7 +86,7 @@ module _ (guards : Guards) (t limit : ℕ) (count : Option ℕ) (ls : Named) (g 
       (subst (EachCell (IsOn k)) (in_turn_is guards t limit (built 0 0 m))
       (spared_cells (IsOn k) (protection_of guards few) (left_indexes guards t few) limit few
       (few_on guards k limit (built 0 0 m) snap.on.0 (built_has_no_transform 0 0 m) (cells k 0 0 m snap.on)).1))
-      (layers_cells guards k t limit m snap.on snap.sound)))
+      (cells k t limit m snap.on)))
 
   pub as_written : (z : Contents) → z ≡ quantized g y → z ≡ (written_left guards count t limit ls).contents
   as_written z e = e ∙ ap (λ k. quantized k y) asked ∙ ap (quantized (named_grid count ls)) (made ∙ ap (λ m. (layers_left_in_turn guards t limit m).contents) moved)

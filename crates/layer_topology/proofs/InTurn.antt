@@ -1,12 +1,12 @@
 -- What stays of arcs where numbers are given for those that are used, one list after another.
 use Rattle.std.proofs.Common.{◌≡◌, ℕ, zero, suc, ◌+◌, ◌<◌, ◌≤◌, Bool, true, false, List, [], ◌∷◌, ◌++◌, drop, length, get_or, cond, refl, sym, ap, ◌∙◌, arith, append_assoc, append-nil}
 use Rattle.build_meaning.proofs.Spread.{all_retained}
-use Rattle.build_meaning.specs.LeftOfLayers.{all_indexes, spread}
-use Rattle.build_meaning.specs.Simplified.{retained, retained_arcs}
+use Rattle.build_meaning.specs.InTurn.{all_indexes, spread}
+use Rattle.build_meaning.specs.Simplified.{retained_arcs}
 use Rattle.geometry.specs.Joins.{first_of, or_empty}
 use Rattle.geometry.specs.Lists.{tail}
 use Rattle.geometry.specs.Points.{Point}
-use Rattle.layer_topology.specs.Splitting.{cells_left, numbers_left}
+use Rattle.layer_topology.specs.Used.{cells_left, numbers_left}
 use Rattle.owned_values.proofs.Lists.{drop_here}
 use Rattle.topo_model.proofs.Renumbered.{answers_at}
 use Rattle.topo_model.specs.Uses.{answers}

@@ -1,12 +1,11 @@
 -- Where no arc is reduced, what is left of a topology at a limit of zero is the same whether of each feature the ring that encloses most is protected
 -- or none is: that ring has four positions.
-use Rattle.std.proofs.Common.{arith, ◌≡◌, ◌∙◌, ℕ, suc, ◌+◌, ℤ, nat_lt, Bool, true, false, cond, not, List, [], ◌∷◌, map, Option, None, Some, refl, sym, ap, subst}
+use Rattle.std.proofs.Common.{arith, ◌≡◌, ◌∙◌, ℕ, suc, ℤ, nat_lt, Bool, true, false, cond, not, List, [], ◌∷◌, map, Option, None, Some, refl, sym, ap, subst}
 use Rattle.std.specs.Prelude.{◌||◌, ◌&&◌}
-use Rattle.std.specs.List.{AllByRecursion, filter}
+use Rattle.std.specs.List.{AllByRecursion}
 use Rattle.build_meaning.proofs.AtFirst.{all_at_zero, each_retained}
 use Rattle.build_meaning.specs.Expected.{unless}
 use Rattle.build_meaning.specs.Trimming.{trimmed}
-use Rattle.elimination_meaning.specs.Elimination.{Vertex, numbered}
 use Rattle.geometry.specs.Areas.{twice_ring_area}
 use Rattle.geometry.specs.declared.address.Cause.TheVariants.{Small}
 use Rattle.geometry.specs.declared.shape.Geometry.TheVariants as g
@@ -20,26 +19,21 @@ use Rattle.geometry.proofs.Induction.{by_kinds}
 use Rattle.guarded_meaning.specs.Elimination.{Guard, reduce_arcs}
 use Rattle.guarded_meaning.specs.Guards.{is_long}
 use Rattle.guarded_meaning.specs.Laws.{KeptByWeight}
-use Rattle.guarded_meaning.specs.Weights.{passing, weight}
-use Rattle.guarded_meaning.proofs.Weights.{kept_at_zero}
 use Rattle.junctions.specs.Cleaning.{clean, is_short}
 use Rattle.owned_values.proofs.Elements.{all_weaker}
 use Rattle.build_meaning.specs.ArcPositions.{arc_positions}
 use Rattle.build_meaning.specs.OuterRings.{outer_rings, into_part, along, unmarked, rings_marked, marked}
 use Rattle.build_meaning.specs.Protected.{enclosed, greatest_ring, sparing, shape_marked, feature_spared, object_spared, objects_spared, spared_by}
-use Rattle.build_meaning.specs.Simplified.{Refs, feature_pruned, object_pruned, objects_pruned, large_refs, retained, retained_arcs, simplified_by}
+use Rattle.build_meaning.specs.Simplified.{Refs, feature_pruned, object_pruned, objects_pruned, large_refs, retained_arcs, simplified_by}
 use Rattle.build_meaning.proofs.GreatestLeft.{greatest_of, way_of}
-use Rattle.build_meaning.proofs.Spread.{all_retained}
 use Rattle.build_meaning.proofs.MarkedRing.{MarkPasses, marks_pass}
 use Rattle.build_meaning.proofs.Marks.{left-point, left-points, left-line, left-lines, left-area, left-areas, left-group, some_made}
 use Rattle.build_meaning.proofs.Spared.{by_refs}
 use Rattle.topojson_types.specs.declared.feature.TopoFeature.{TopoFeature}
 use Rattle.topojson_types.specs.declared.object.TopoObject.{TopoObject}
 use Rattle.topojson_types.specs.declared.object.TopoObject.TheVariants.{One, Many}
-use Rattle.topojson_types.specs.declared.transform.Transform.{Transform}
 use Rattle.topojson_types.specs.Decoding.{placed_arcs}
 use Rattle.topojson_types.specs.Topologies.{TopoShape, Contents}
-use Rattle.topojson_types.specs.Transforms.{place_on}
 
 -- ---- where a mark changes nothing
 

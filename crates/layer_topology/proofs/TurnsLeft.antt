@@ -1,49 +1,49 @@
--- What is left of a draft in turn is what is left in turn of a topology, and of layers.
-use Rattle.std.proofs.Common.{◌≡◌, ℕ, Bool, true, false, cond, List, [], ◌∷◌, ◌++◌, append-nil, map, Option, None, Some, refl, sym, ap, ◌∙◌, subst}
-use Rattle.std.specs.List.{AllByRecursion}
-use Rattle.build_meaning.proofs.Made.{objects_made}
-use Rattle.build_meaning.proofs.Simplified.{IsWholeAtZero, no_small}
-use Rattle.build_meaning.proofs.ValidUntrimmed.{untrimmed_is_valid}
-use Rattle.build_meaning.proofs.Whole.{each_stays, loses_nothing}
+-- What is left of a draft where guards are asked for is what is left in turn of a topology, and of layers.
+use Rattle.std.proofs.Common.{arith, ◌≡◌, ℕ, zero, suc, Bool, true, false, ◌&&◌, cond, List, [], ◌++◌, append-nil, map, Option, None, Some, refl, sym, ap, ◌∙◌, subst}
+use Rattle.std.proofs.Math.Path.{fun_ext}
+use Rattle.std.specs.Prelude.{nat_lt}
+use Rattle.build_meaning.proofs.Again.{all_hold}
+use Rattle.build_meaning.proofs.Whole.{each_stays}
 use Rattle.build_meaning.specs.ArcPositions.{arc_positions}
-use Rattle.build_meaning.specs.Assembled.{arcs_of_layers, own_refs}
-use Rattle.build_meaning.specs.Built.{kept_refs, untrimmed, built}
+use Rattle.build_meaning.specs.Assembled.{arcs_of_layers}
+use Rattle.build_meaning.specs.Built.{untrimmed, built}
 use Rattle.build_meaning.specs.BuiltLaws.{AreSound}
-use Rattle.build_meaning.specs.Expected.{unless}
-use Rattle.build_meaning.specs.InTurn.{arcs_in_turn, dropped_in_turn, first_whole, goes_first, layers_dropped_in_turn, layers_left_in_turn, left_in_turn, without_small}
-use Rattle.build_meaning.specs.InTurnLaws.{FirstOfBuilt}
-use Rattle.build_meaning.specs.Layers.{Named, layers_of, named_lines_and_rings, names_of}
-use Rattle.build_meaning.specs.Left.{Left, is_at_once, left_of}
-use Rattle.build_meaning.specs.LeftOfLayers.{left_of_layers}
-use Rattle.build_meaning.specs.Simplified.{objects_pruned}
+use Rattle.build_meaning.specs.InTurn.{built_left, dropped_in_turn, first_whole, goes_first, indexes_from_first, indexes_in_turn, layers_arcs_left, layers_dropped_in_turn, layers_left_in_turn, left_at_first, left_in_turn, option_caused_in_turn, without_small}
+use Rattle.build_meaning.specs.InTurnLaws.{FirstIsLeftAtZero, FirstOfBuilt}
+use Rattle.build_meaning.specs.Layers.{Named}
+use Rattle.build_meaning.specs.Quantized.{named_points}
+use Rattle.build_meaning.specs.Left.{Left, is_at_once, left_indexes, left_of, protection_of}
+use Rattle.build_meaning.specs.LeftLaws.{UnguardedIsBuilt, UnprotectedIsSimplified}
+use Rattle.build_meaning.specs.Quantized.{AreOn, IsOn}
+use Rattle.build_meaning.specs.Simplified.{retained_arcs}
 use Rattle.build_meaning.specs.Trimming.{trimmed}
 use Rattle.build_meaning.specs.declared.guards.Guards.{Guards}
 use Rattle.byte_ends.specs.Ends.{saturated}
 use Rattle.effective_area.specs.Calls.{Call}
-use Rattle.elimination_meaning.specs.Laws.{EndsStay, NoneIsNew, ZeroLaw}
-use Rattle.geometry.specs.declared.address.Dropped.{Dropped}
-use Rattle.geometry.specs.Lists.{then_some}
+use Rattle.elimination_meaning.specs.Laws.{ZeroLaw}
+use Rattle.geojson_types.specs.Features.{Shape}
+use Rattle.geometry.specs.DropCauses.{dropped_of_layers}
+use Rattle.geometry.specs.Paths.{Placed}
 use Rattle.geometry.specs.Points.{Point}
-use Rattle.junctions.specs.Cleaning.{clean, is_short}
-use Rattle.layer_topology.proofs.Asked.{over_once}
-use Rattle.layer_topology.proofs.DraftInTurn.{at_once_first}
-use Rattle.layer_topology.proofs.DroppedInTurn.{dropped_of_layers, dropped_of_topology}
-use Rattle.layer_topology.proofs.Full.{objects_stay}
-use Rattle.layer_topology.specs.InTurn.{draft_contents, IsLeftInTurn, threshold_in_turn}
-use Rattle.layer_topology.specs.Levels.{calls_at, calls_over, chosen_for, threshold_of, threshold_over}
+use Rattle.geometry.specs.declared.address.Cause.{Cause}
+use Rattle.geometry.specs.declared.address.Dropped.{Dropped}
+use Rattle.guarded_meaning.specs.Laws.{KeptByWeight}
+use Rattle.layer_topology.proofs.Asked.{over_apart, over_once, ways_lead}
+use Rattle.layer_topology.proofs.AtZero.{left_at}
+use Rattle.layer_topology.proofs.Guarded.{in_turn_is, in_turn_removes}
+use Rattle.layer_topology.specs.InTurn.{IsLeftInTurn, threshold_in_turn}
+use Rattle.layer_topology.specs.Levels.{calls_at, calls_over, chosen_for, threshold_at, threshold_of}
 use Rattle.layer_topology.specs.Topologies.{IsLeft}
-use Rattle.layer_topology.specs.Written.{built_threshold, layers_threshold}
+use Rattle.layer_topology.specs.Written.{layers_threshold}
 use Rattle.layer_topology.specs.declared.level.Level.{Level}
-use Rattle.linework.specs.Linework.{linework}
-use Rattle.owned_values.proofs.Elements.{all_weaker}
-use Rattle.topo_model.proofs.Assembled.{draft_pruned}
-use Rattle.topo_model.specs.DraftUses.{with_refs}
-use Rattle.topo_model.specs.Drafts.{draft_refs, objects_drafted}
+use Rattle.topo_model.proofs.DraftDrops.{drops_judged, option_judged}
+use Rattle.topo_model.proofs.Result.{drops_in_turn_are}
 use Rattle.topo_model.specs.Drops.{objects_drops}
-use Rattle.topo_model.specs.Parts.{contents}
+use Rattle.topo_model.specs.Rebuilding.{Judging}
 use Rattle.topo_model.specs.Retaining.{IsDraftOf}
 use Rattle.topo_model.specs.Ways.{ways_under}
 use Rattle.topojson_types.specs.declared.object.TopoObject.{TopoObject}
+use Rattle.topojson_types.specs.Decoding.{placed_arcs}
 use Rattle.topojson_types.specs.Topologies.{Contents}
 use Rattle.topojson_types.specs.Validity.{IsTopology}
 
@@ -60,101 +60,119 @@ module _ (guards : Guards) (level : Level) (limit : ℕ) (none : goes_first guar
       subst (λ z. IsLeft (left_in_turn guards (threshold_of guards level z) limit y) topology dropped removed_count) (sym (none_less y))
       (subst (λ b. IsLeft (at (threshold_of guards level y) b) topology dropped removed_count) (sym none) is)
 
-  pub built_is : (ls : Named) → built_threshold guards level ls ≡ layers_threshold guards level limit ls
-  built_is ls = ap (λ y. threshold_over guards level y (arcs_of_layers ls)) (sym (none_less (built 0 0 ls)))
-
-  pub layers_as_they_are : (ls : Named) (topology : Contents) (dropped : List Dropped) (removed_count : ℕ) → IsLeft (left_of_layers guards (built_threshold guards level ls) limit ls) topology dropped removed_count
-      → IsLeft (layers_left_in_turn guards (layers_threshold guards level limit ls) limit ls) topology dropped removed_count
-  layers_as_they_are ls topology dropped removed_count is =
-      let turn = λ (n : ℕ). left_in_turn guards n limit (built 0 0 ls) in
-      let at = λ (n : ℕ) (b : Bool). cond b (record { contents = (turn n).contents; dropped = layers_dropped_in_turn guards n limit ls; removed_count = (turn n).removed_count }) (left_of_layers guards n limit ls) in
-      subst (λ n. IsLeft (layers_left_in_turn guards n limit ls) topology dropped removed_count) (built_is ls)
-      (subst (λ b. IsLeft (at (built_threshold guards level ls) b) topology dropped removed_count) (sym none) is)
-
 -- where all arcs are reduced at once no reducer is called
 pub no_calls : (guards : Guards) (level : Level) (arcs : List (List Point)) (calls : List Call) → is_at_once guards ≡ true → calls ≡ calls ++ calls_over guards level arcs
 no_calls guards level arcs calls e = sym (ap (λ b. calls ++ cond b [] (calls_at level arcs)) e ∙ append-nil calls)
 
--- ---- where small rings go first
+-- ---- topologies
+
+dropped_of_topology : (guards : Guards) (t limit : ℕ) (y : Contents) → IsTopology y
+    → objects_drops (record { first = Some (record { arcs = arc_positions y; limit = limit }); later = record { arcs = placed_arcs y.transform (retained_arcs (indexes_in_turn guards t limit y) y.arcs); limit = limit } })
+    0 (ways_under guards.keep_shapes (arc_positions y) y.objects) y.objects ≡ dropped_in_turn guards t limit y
+unfolding dropped_in_turn
+dropped_of_topology guards t limit y valid =
+    drops_in_turn_are (protection_of guards y) (indexes_in_turn guards t limit y) limit y (retained_arcs (indexes_in_turn guards t limit y) y.arcs) refl (ways_under guards.keep_shapes (arc_positions y) y.objects)
+    (ways_lead guards.keep_shapes (arc_positions y) y.objects (ways_under guards.keep_shapes (arc_positions y) y.objects) refl) valid.objects (arc_positions y)
 
 module _ (guards : Guards) (level : Level) (limit : ℕ) (first : goes_first guards limit ≡ true) where
-  -- ---- topologies
+  first_is : (y : Contents) → left_at_first guards limit y ≡ without_small guards limit y
+  first_is y = ap (λ b. cond b (left_at_first guards limit y) y) (sym first)
+
+  pub threshold_is : (y : Contents) → threshold_in_turn guards level limit y ≡ threshold_of guards level (without_small guards limit y)
+  threshold_is y = ap (threshold_of guards level) (first_is y)
+
+  -- what is left in turn of a topology
+  abbrev turned : (y : Contents) → ℕ → Bool → Left
+  turned y n b = cond b (record { contents = (left_of guards n limit (without_small guards limit y)).contents; dropped = dropped_in_turn guards n limit y; removed_count = (left_of guards n limit (without_small guards limit y)).removed_count })
+      (left_of guards n limit y)
 
   pub topology_left : (y topology : Contents) (dropped : List Dropped) (removed_count : ℕ) (chosen : Option ℕ) → IsTopology y → IsLeftInTurn guards level limit y.objects y topology dropped removed_count chosen
-      → IsLeft (left_in_turn guards (threshold_in_turn guards level limit y) limit y) topology dropped removed_count
+      → IsLeft (left_in_turn guards (threshold_of guards level (without_small guards limit y)) limit y) topology dropped removed_count
   topology_left y topology dropped removed_count chosen valid is =
       let t = threshold_in_turn guards level limit y in
-      let turn : Left = record { contents = (left_of guards t limit (without_small guards limit y)).contents; dropped = dropped_in_turn guards t limit y; removed_count = (left_of guards t limit (without_small guards limit y)).removed_count } in
-      subst (λ b. IsLeft (cond b turn (left_of guards t limit y)) topology dropped removed_count) (sym first)
-      (record { topology_is = is.topology_is; dropped_are = is.dropped_are ∙ dropped_of_topology guards t limit y valid; count_is = is.count_is })
+      let arcs : List (List ℕ) → List (List Point) = λ kept. placed_arcs y.transform (retained_arcs kept y.arcs) in
+      let drops : List (List Point) → List Dropped = λ later. objects_drops (record { first = Some (record { arcs = arc_positions y; limit = limit }); later = record { arcs = later; limit = limit } }) 0 (ways_under guards.keep_shapes (arc_positions y) y.objects) y.objects in
+      subst (λ n. IsLeft (turned y n (goes_first guards limit)) topology dropped removed_count) (threshold_is y)
+      (subst (λ b. IsLeft (turned y t b) topology dropped removed_count) (sym first)
+      (record {
+        topology_is = is.topology_is ∙ ap (λ z. (left_of guards t limit z).contents) (first_is y);
+        dropped_are = is.dropped_are ∙ ap (λ b. drops (arcs (cond b (indexes_from_first guards t limit y) (left_indexes guards t y)))) (sym first) ∙ dropped_of_topology guards t limit y valid;
+        count_is = is.count_is ∙ ap (λ z. saturated (left_of guards t limit z).removed_count) (first_is y);
+      }))
 
-  -- ---- layers
+-- ---- layers
 
-  module _ (ls : Named) (sound : AreSound ls) (zero : ZeroLaw) where
-    -- a line or ring has its indexes, if it has any
-    line_is : (b : Bool × List Point) → IsWholeAtZero (linework (layers_of ls)) b → (short : Bool) → is_short b.0 (clean b.1) ≡ short
-        → then_some (with_refs b.0) (kept_refs (linework (layers_of ls)) 0 0 b.0 b.1) ≡ with_refs b.0 (draft_refs (own_refs (linework (layers_of ls))) b.0 b.1)
-    line_is b whole true e = rw e refl
-    line_is b whole false e =
-        ap (λ c. then_some (with_refs b.0) (unless c (own_refs (linework (layers_of ls)) b.0 b.1))) (no_small (linework (layers_of ls)) b whole e)
-        ∙ sym (ap (λ s. with_refs b.0 (cond s [] (own_refs (linework (layers_of ls)) b.0 b.1))) e)
+-- without a guard it is what is built of them
+pub layers_apart : (guards : Guards) (level : Level) (limit : ℕ) (ls : Named) → is_at_once guards ≡ false → (topology : Contents) (dropped : List Dropped) (removed_count : ℕ)
+    → IsLeft (built_left (threshold_at level (arcs_of_layers ls)) limit ls) topology dropped removed_count → IsLeft (layers_left_in_turn guards (layers_threshold guards level limit ls) limit ls) topology dropped removed_count
+layers_apart guards level limit ls apart topology dropped removed_count is =
+    let turned : ℕ → Left = λ n. record { contents = (left_in_turn guards n limit (built 0 0 ls)).contents; dropped = layers_dropped_in_turn guards n limit ls; removed_count = (left_in_turn guards n limit (built 0 0 ls)).removed_count } in
+    subst (λ n. IsLeft (layers_left_in_turn guards n limit ls) topology dropped removed_count) (sym (over_apart guards level (without_small guards limit (built 0 0 ls)) (arcs_of_layers ls) apart))
+    (subst (λ b. IsLeft (cond b (turned (threshold_at level (arcs_of_layers ls))) (built_left (threshold_at level (arcs_of_layers ls)) limit ls)) topology dropped removed_count) (sym apart) is)
 
-    module _ (stay : EndsStay) (none : NoneIsNew) (objects : List (List ℕ × TopoObject)) (draft : IsDraftOf ls objects) where
-      whole_valid : IsTopology (untrimmed 0 0 ls)
-      whole_valid = untrimmed_is_valid stay none 0 0 ls sound draft.names
+-- at a limit of zero nothing goes at first of what is built of layers
+free : (ls : Named) → AreOn None ls
+free ls = (tt, all_hold (IsOn None) (λ p. tt) (named_points ls))
 
-      objects_are : objects_pruned with_refs objects ≡ (untrimmed 0 0 ls).objects
-      objects_are =
-          let lines = linework (layers_of ls) in
-          ap (objects_pruned with_refs) draft.drafted ∙ draft_pruned (own_refs lines) with_refs ls
-          ∙ sym (objects_made (kept_refs lines 0 0) with_refs (λ closed ps. with_refs closed (draft_refs (own_refs lines) closed ps)) ls
-          (all_weaker (IsWholeAtZero lines) (λ b. then_some (with_refs b.0) (kept_refs lines 0 0 b.0 b.1) ≡ with_refs b.0 (draft_refs (own_refs lines) b.0 b.1))
-          (λ b whole. line_is b whole (is_short b.0 (clean b.1)) refl) (named_lines_and_rings ls) (loses_nothing zero ls sound)))
-          ∙ objects_stay None (untrimmed 0 0 ls).objects whole_valid.objects
+module _ (stays : ZeroLaw) (by_weight : KeptByWeight) (plain : UnprotectedIsSimplified) (unguarded : UnguardedIsBuilt) (at_zero : FirstIsLeftAtZero) (of_built : FirstOfBuilt) (guards : Guards) (limit : ℕ)
+    (once : is_at_once guards ≡ true) (ls : Named) (sound : AreSound ls) where
+  none_goes : left_at_first guards 0 (built 0 0 ls) ≡ built 0 0 ls
+  none_goes = at_zero guards 0 (built 0 0 ls) ∙ left_at by_weight plain guards (built 0 0 ls) ∙ (unguarded None 0 0 ls (free ls) sound).contents
 
-      pub stands_for_layers : draft_contents objects (arcs_of_layers ls) None ≡ untrimmed 0 0 ls
-      stands_for_layers = ap (λ os. contents os (arcs_of_layers ls) None) objects_are ∙ ap (λ arcs. contents (untrimmed 0 0 ls).objects arcs None) (sym (each_stays zero (arcs_of_layers ls)))
+  either_way : (n : ℕ) (b : Bool) → nat_lt 0 n ≡ b → left_at_first guards n (built 0 0 ls) ≡ cond b (left_at_first guards n (built 0 0 ls)) (built 0 0 ls)
+  either_way n true e = refl
+  either_way zero false e = none_goes
+  either_way (suc n) false e = let less : nat_lt 0 (suc n) ≡ true = grind arith in let z : true ≡ false = sym less ∙ e in cc
 
-      pub draft_valid : (arcs : List (List Point)) → arcs ≡ arcs_of_layers ls → IsTopology (draft_contents objects arcs None)
-      draft_valid arcs are = subst IsTopology (sym (ap (λ xs. draft_contents objects xs None) are ∙ stands_for_layers)) whole_valid
+  -- what is left at first of all arcs of the layers is what is built of them without what goes first
+  pub full_is : left_at_first guards limit (untrimmed 0 0 ls) ≡ without_small guards limit (built 0 0 ls)
+  full_is =
+      sym (of_built guards limit ls sound) ∙ either_way limit (nat_lt 0 limit) refl
+      ∙ sym (ap (λ b. cond (b && nat_lt 0 limit) (left_at_first guards limit (built 0 0 ls)) (built 0 0 ls)) once)
 
-      module _ (of_built : FirstOfBuilt) where
-        full_is : without_small guards limit (built 0 0 ls) ≡ without_small guards limit (untrimmed 0 0 ls)
-        full_is =
-            ap (λ b. cond b (trimmed (first_whole guards limit (built 0 0 ls))) (built 0 0 ls)) first ∙ of_built guards limit ls sound
-            ∙ sym (ap (λ b. cond b (trimmed (first_whole guards limit (untrimmed 0 0 ls))) (untrimmed 0 0 ls)) first)
+  threshold_same : (level : Level) → threshold_in_turn guards level limit (untrimmed 0 0 ls) ≡ layers_threshold guards level limit ls
+  threshold_same level =
+      ap (threshold_of guards level) full_is
+      ∙ over_once guards level (without_small guards limit (built 0 0 ls)) (arc_positions (without_small guards limit (built 0 0 ls))) once
+      ∙ sym (over_once guards level (without_small guards limit (built 0 0 ls)) (arcs_of_layers ls) once)
 
-        threshold_is : threshold_in_turn guards level limit (untrimmed 0 0 ls) ≡ layers_threshold guards level limit ls
-        threshold_is =
-            let once = at_once_first guards limit first in
-            ap (threshold_of guards level) (sym full_is)
-            ∙ over_once guards level (without_small guards limit (built 0 0 ls)) (arc_positions (without_small guards limit (built 0 0 ls))) once
-            ∙ sym (over_once guards level (without_small guards limit (built 0 0 ls)) (arcs_of_layers ls) once)
+  module _ (level : Level) (objects : List (List ℕ × TopoObject)) (draft : IsDraftOf ls objects) (topology : Contents) (dropped : List Dropped) (removed_count : ℕ) (chosen : Option ℕ)
+      (is : IsLeftInTurn guards level limit objects (untrimmed 0 0 ls) topology dropped removed_count chosen) where
+    abbrev t : ℕ
+    t = threshold_in_turn guards level limit (untrimmed 0 0 ls)
 
-        module _ (topology : Contents) (dropped : List Dropped) (removed_count : ℕ) (chosen : Option ℕ) (is : IsLeftInTurn guards level limit objects (untrimmed 0 0 ls) topology dropped removed_count chosen) where
-          abbrev t : ℕ
-          t = threshold_in_turn guards level limit (untrimmed 0 0 ls)
+    pub layers_chosen : chosen ≡ chosen_for level (layers_threshold guards level limit ls)
+    layers_chosen = is.chosen_is ∙ ap (chosen_for level) (threshold_same level)
 
-          pub layers_chosen : chosen ≡ chosen_for level (layers_threshold guards level limit ls)
-          layers_chosen = is.chosen_is ∙ ap (chosen_for level) threshold_is
+    abbrev judging : List (List Point) → Judging
+    judging arcs = record { first = Some (record { arcs = arcs; limit = limit }); later = record { arcs = layers_arcs_left guards t limit ls; limit = limit } }
 
-          dropped_are : dropped ≡ layers_dropped_in_turn guards t limit ls
-          dropped_are =
-              is.dropped_are
-              ∙ ap (λ arcs. objects_drops (record { first = Some (record { arcs = arcs; limit = limit }); later = record { arcs = arcs_in_turn guards t limit (untrimmed 0 0 ls); limit = limit } })
-              0 (ways_under guards.keep_shapes arcs objects) objects) (each_stays zero (arcs_of_layers ls))
-              ∙ dropped_of_layers zero guards t limit ls sound objects draft.drafted
+    option_same : (s : Option Shape) → option_judged ls guards.keep_shapes (judging (arcs_of_layers ls)) s ≡ option_caused_in_turn guards t limit ls s
+    option_same None = refl
+    option_same (Some s) = refl
 
-          left_are : (n : ℕ) → t ≡ n → IsLeft (layers_left_in_turn guards n limit ls) topology dropped removed_count
-          left_are n e =
-              let turn : Left = record { contents = (left_of guards n limit (without_small guards limit (built 0 0 ls))).contents; dropped = dropped_in_turn guards n limit (built 0 0 ls); removed_count = (left_of guards n limit (without_small guards limit (built 0 0 ls))).removed_count } in
-              let at = λ (b : Bool). cond b turn (left_of guards n limit (built 0 0 ls)) in
-              subst (λ b. IsLeft (cond b (record { contents = (at b).contents; dropped = layers_dropped_in_turn guards n limit ls; removed_count = (at b).removed_count }) (left_of_layers guards n limit ls)) topology dropped removed_count) (sym first)
-              (record {
-                topology_is = is.topology_is ∙ ap (λ y. (left_of guards t limit y).contents) (sym full_is) ∙ ap (λ k. (left_of guards k limit (without_small guards limit (built 0 0 ls))).contents) e;
-                dropped_are = dropped_are ∙ ap (λ k. layers_dropped_in_turn guards k limit ls) e;
-                count_is = is.count_is ∙ ap (λ y. saturated (left_of guards t limit y).removed_count) (sym full_is) ∙ ap (λ k. saturated (left_of guards k limit (without_small guards limit (built 0 0 ls))).removed_count) e;
-              })
+    drops_are : dropped ≡ layers_dropped_in_turn guards t limit ls
+    unfolding layers_dropped_in_turn
+    drops_are =
+        is.dropped_are
+        ∙ ap (λ arcs. objects_drops (judging arcs) 0 (ways_under guards.keep_shapes arcs objects) objects) (each_stays stays (arcs_of_layers ls))
+        ∙ drops_judged ls guards.keep_shapes (judging (arcs_of_layers ls)) stays sound objects (ways_under guards.keep_shapes (arcs_of_layers ls) objects) draft.drafted
+        (ways_lead guards.keep_shapes (arcs_of_layers ls) objects (ways_under guards.keep_shapes (arcs_of_layers ls) objects) refl)
+        ∙ ap (λ (caused : Option Shape → List (Placed Cause)). dropped_of_layers 0 (map (λ l. map (λ f. caused f.shape) l.1.features) ls)) (fun_ext option_same)
 
-          pub layers_left : IsLeft (layers_left_in_turn guards (layers_threshold guards level limit ls) limit ls) topology dropped removed_count
-          layers_left = left_are (layers_threshold guards level limit ls) threshold_is
+    abbrev at : ℕ → Bool → Left
+    at n b = cond b (record { contents = (left_in_turn guards n limit (built 0 0 ls)).contents; dropped = layers_dropped_in_turn guards n limit ls; removed_count = (left_in_turn guards n limit (built 0 0 ls)).removed_count }) (built_left n limit ls)
+
+    left_are : (n : ℕ) → t ≡ n → IsLeft (at n (is_at_once guards)) topology dropped removed_count
+    left_are n e =
+        subst (λ b. IsLeft (at n b) topology dropped removed_count) (sym once)
+        (record {
+          topology_is = is.topology_is ∙ ap (λ y. (left_of guards t limit y).contents) full_is ∙ ap (λ k. (left_of guards k limit (without_small guards limit (built 0 0 ls))).contents) e
+              ∙ in_turn_is guards n limit (built 0 0 ls);
+          dropped_are = drops_are ∙ ap (λ k. layers_dropped_in_turn guards k limit ls) e;
+          count_is = is.count_is ∙ ap (λ y. saturated (left_of guards t limit y).removed_count) full_is ∙ ap (λ k. saturated (left_of guards k limit (without_small guards limit (built 0 0 ls))).removed_count) e
+              ∙ ap saturated (in_turn_removes guards n limit (built 0 0 ls));
+        })
+
+    pub layers_left : IsLeft (layers_left_in_turn guards (layers_threshold guards level limit ls) limit ls) topology dropped removed_count
+    layers_left = left_are (layers_threshold guards level limit ls) (threshold_same level)

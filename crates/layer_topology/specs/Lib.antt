@@ -5,5 +5,5 @@ pub mod Levels
 pub mod Promises
 pub mod Replacing
 pub mod Written
-pub mod Splitting
+pub mod Used
 pub mod Topologies

@@ -29,12 +29,8 @@ written_left guards count t limit ls = record {
   removed_count = (layers_left_in_turn guards t limit (snapped_to count ls)).removed_count;
 }
 
--- the threshold of layers as they are, where nothing goes first: where guards are asked for that of what is built of them at zero, and otherwise that
--- of all arcs of their lines
-abbrev pub built_threshold : Guards → Level → Named → ℕ
-built_threshold guards level ls = threshold_over guards level (built 0 0 ls) (arcs_of_layers ls)
-
--- and where small rings may go first
+-- the threshold of layers: where guards are asked for that of what is built of them at zero, without what goes first, and otherwise that of all arcs
+-- of their lines
 abbrev pub layers_threshold : Guards → Level → ℕ → Named → ℕ
 layers_threshold guards level limit ls = threshold_over guards level (without_small guards limit (built 0 0 ls)) (arcs_of_layers ls)
 

@@ -1,21 +1,22 @@
-// What is left of a draft where small rings go first: what is small as it stands holds nothing while the rest is reduced.
+// What is left of a draft where guards are asked for: what is small as it stands goes first, and holds nothing while the rest is reduced.
 ghost use Rattle.std.specs.Prelude.{◌≡◌, ◌<◌, ◌≤◌, ◌^◌, IfOk, Option, length, map, true};
 ghost use Rattle.std.specs.List.{AllByRecursion};
 ghost use Rattle.build_meaning.specs.InTurn as meaning;
+ghost use Rattle.build_meaning.specs.Left.{is_at_once as is_at_once_of};
 ghost use Rattle.build_meaning.specs.Protected.{protected_rings as all_protected, protection};
 ghost use Rattle.geometry.specs.Lists.{map_some};
 ghost use Rattle.geometry.specs.Points.{IsPosition};
 ghost use Rattle.geometry.specs.Units.{threshold_limit};
 ghost use Rattle.build_meaning.specs.Simplified.{retained_arcs};
-ghost use Rattle.layer_topology.specs.InTurn.{draft_contents, indexes_for, IsLeftInTurn, threshold_in_turn};
+ghost use Rattle.layer_topology.specs.InTurn.{indexes_for, IsLeftInTurn, threshold_in_turn};
 ghost use Rattle.layer_topology.specs.Levels.{chosen_for, is_simplifying_level};
 ghost use Rattle.topojson_types.specs.declared.transform.Transform.{Transform as TransformOf};
+ghost use Rattle.topo_model.specs.DraftUses.{draft_contents};
 ghost use Rattle.topo_model.specs.Ways.{ways_under};
 ghost use Rattle.topojson_types.specs.Decoding.{placed_arcs as all_placed};
 ghost use Rattle.topojson_types.specs.Validity.{IsTopology};
 
 use crate::at_once::kept_at_once;
-use crate::drafts::Protected;
 use crate::reduction::Reduction;
 use crate::renumbering::renumbered_rings;
 use crate::used::{retained_in_turn, used_lines};
@@ -27,15 +28,31 @@ use json_value::{Items, OwnText};
 use owned_values::Memory;
 use std::alloc::Global;
 use topo_model::{
-    Left, Rebuilding, Retained, finish, position_counts, protected_rings, used_at_first,
+    ArcRef, Left, Rebuilding, Retained, finish, position_counts, protected_rings, used_at_first,
 };
 use topojson_types::{Cell, TopoObject, Transform};
+
+/// Whether all arcs are reduced at once.
+pub(crate) fn is_at_once(guards: Guards) -> bool
+    ensures { result ≡ is_at_once_of guards }
+{
+    guards.no_crossings || guards.keep_shapes
+}
 
 /// Whether lines and rings that are small as they stand go before arcs are reduced: where guards are asked for, and a ring may enclose too little.
 pub(crate) fn goes_first(asked: Reduction) -> bool
     ensures { result ≡ meaning.goes_first asked.guards asked.ring_limit }
 {
-    (asked.guards.no_crossings || asked.guards.keep_shapes) && asked.ring_limit > 0
+    is_at_once(asked.guards) && asked.ring_limit > 0
+}
+
+/// The rings of a topology that have to stay.
+#[derive(Drop)]
+pub(crate) struct Protected {
+    /// For each feature the way to its protected ring, if it has one; none at all where no shape has to stay.
+    pub ways: Vec<Option<Vec<usize>>>,
+    /// The arc indexes of the protected rings.
+    pub rings: Vec<Items<ArcRef>>,
 }
 
 /// The protected rings of objects over arcs under guards.
@@ -70,7 +87,7 @@ fn retained_of_used(
     first: &Rebuilding<'_>,
     asked: Reduction,
 ) -> Result<Retained, Memory>
-    requires first { meaning.goes_first asked.guards asked.ring_limit ≡ true }
+    requires at_once { is_at_once_of asked.guards ≡ true }
     requires level { is_simplifying_level asked.level ≡ true }
     requires judged { first.now ≡ record { arcs = placed.now; limit = asked.ring_limit } }
     requires valid { (transform : Option TransformOf) × IsTopology (draft_contents objects.now arcs.now transform) × (placed.now ≡ all_placed transform arcs.now) }
@@ -107,7 +124,7 @@ fn retained_of_used(
     })
 }
 
-/// What is left of a draft over these arcs, whose positions are given, too, where small rings go first.
+/// What is left of a draft over these arcs, whose positions are given, too, where guards are asked for.
 pub(crate) fn left_in_turn(
     alloc: Global,
     objects: Vec<(OwnText, TopoObject)>,
@@ -116,7 +133,7 @@ pub(crate) fn left_in_turn(
     transform: Option<Transform>,
     asked: Reduction,
 ) -> Result<Left, Memory>
-    requires first { meaning.goes_first asked.guards asked.ring_limit ≡ true }
+    requires at_once { is_at_once_of asked.guards ≡ true }
     requires level { is_simplifying_level asked.level ≡ true }
     requires limit { asked.ring_limit ≤ threshold_limit }
     requires valid { IsTopology (draft_contents objects.items arcs.now transform) }

@@ -1,14 +1,15 @@
 // Laws of the definitions. A function here changes nothing: its contract is the law.
-ghost use Rattle.layer_topology.specs.GuardLaws.{GuardedAtZero, LeftLaw, ShareStays, UnguardedIsWritten, WrittenLeftLaw};
+ghost use Rattle.layer_topology.specs.GuardLaws.{GuardedAtZero, LeftByLines, LeftLaw, ShareStays, UnguardedIsWritten, WrittenLeftLaw};
 
 use crate::laws::written_laws;
 use build_meaning::{
-    built_cells_are_on, crossings_never_rise, layers_are_left_of_built, left_arcs_are_reduced,
-    left_is_valid, left_keeps, left_on_grid, shapes_stay_in_turn, snapped_are_on,
-    spared_nests_no_deeper, unguarded_is_built, unprotected_is_simplified,
-    without_small_crosses_no_more, without_small_is_valid, without_small_keeps,
-    without_small_on_grid,
+    built_cells_are_on, crossings_never_rise, first_is_left_at_zero, first_of_built,
+    in_turn_is_at_once, left_arcs_are_reduced, left_indexes_reach, left_is_valid, left_keeps,
+    left_on_grid, shapes_stay_in_turn, snapped_are_on, spared_nests_no_deeper, unguarded_is_built,
+    unprotected_is_simplified, without_small_crosses_no_more, without_small_is_valid,
+    without_small_keeps, without_small_on_grid,
 };
+use elimination_meaning::{ends_stay, nothing_is_new, zero_law};
 use guarded_meaning::{kept_by_weight, no_crossings_law, share_stays as share_stays_at_once};
 
 /// What is left of a valid topology is valid, with the same names, identifiers, properties and transform, and nests no deeper, whatever guards
@@ -44,7 +45,7 @@ pub fn written_left_law()
     ensures { WrittenLeftLaw }
 {
     left_law();
-    layers_are_left_of_built();
+    unguarded_is_built();
     snapped_are_on();
     built_cells_are_on();
     left_on_grid();
@@ -53,14 +54,30 @@ pub fn written_left_law()
     written_laws();
 }
 
+/// Where guards are asked for, what is left of layers is left by their own lines and rings, each unless there is the cause to drop it that is reported of
+/// it.
+#[tactic(auto, using(crate::proofs::ByLines::left_by_lines))]
+pub fn left_by_lines()
+    ensures { LeftByLines }
+{
+    zero_law();
+    ends_stay();
+    nothing_is_new();
+    kept_by_weight();
+    unprotected_is_simplified();
+    unguarded_is_built();
+    first_is_left_at_zero();
+    first_of_built();
+    in_turn_is_at_once();
+    left_indexes_reach();
+    without_small_is_valid();
+}
+
 /// Without a guard it is what is written of them at the threshold and the limit.
 #[tactic(auto, using(crate::proofs::Guarded::unguarded_is_written))]
 pub fn unguarded_is_written()
     ensures { UnguardedIsWritten }
-{
-    snapped_are_on();
-    unguarded_is_built();
-}
+{}
 
 /// What is written of layers at a threshold and a limit of zero is the same whatever guards are asked for.
 #[tactic(auto, using(crate::proofs::AtZero::guarded_at_zero))]

@@ -8,8 +8,6 @@
 mod at_once;
 mod cells;
 mod choosing;
-mod drafts;
-mod guarding;
 mod in_turn;
 mod laws;
 mod layers;
@@ -18,7 +16,6 @@ mod level;
 mod making;
 mod reduction;
 mod renumbering;
-mod splitting;
 mod topologies;
 mod topology;
 mod transforms;
@@ -28,7 +25,7 @@ pub use build_meaning::Guards;
 pub use laws::written_laws;
 pub use layers::snap_layers;
 pub use left_laws::{
-    guarded_at_zero, left_law, share_stays, unguarded_is_written, written_left_law,
+    guarded_at_zero, left_by_lines, left_law, share_stays, unguarded_is_written, written_left_law,
 };
 pub use level::Level;
 pub use making::topology_of_layers;

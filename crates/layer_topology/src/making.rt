@@ -6,28 +6,30 @@ ghost use Rattle.build_meaning.specs.Assembled.{arcs_of_layers};
 ghost use Rattle.build_meaning.specs.BuiltLaws.{AreSound};
 ghost use Rattle.build_meaning.specs.Layers.{Named, layers_of, named_lines_and_rings, names_of};
 ghost use Rattle.build_meaning.specs.InTurn as meaning;
-ghost use Rattle.build_meaning.specs.LeftOfLayers.{left_of_layers as left_at_once};
+ghost use Rattle.build_meaning.specs.Left.{is_at_once as is_at_once_of};
 ghost use Rattle.build_meaning.specs.Quantized.{AreInputs, IsCount, named_grid};
 ghost use Rattle.cutter.specs.Slices.{split_of};
 ghost use Rattle.geometry.specs.Units.{threshold_limit};
-ghost use Rattle.layer_topology.specs.Levels.{calls_over, chosen_for, is_level, is_simplifying_level};
+ghost use Rattle.layer_topology.specs.Levels.{calls_at, calls_over, chosen_for, is_level, is_simplifying_level, threshold_at};
 ghost use Rattle.layer_topology.specs.Topologies.{IsLeft};
-ghost use Rattle.layer_topology.specs.Written.{AreTaken, built_threshold, layers_threshold, snapped_to, written_left, written_threshold};
+ghost use Rattle.layer_topology.specs.Written.{AreTaken, layers_threshold, snapped_to, written_left, written_threshold};
 ghost use Rattle.linework.specs.Linework.{linework};
 ghost use Rattle.linework.specs.Outlines.{IsRingIfClosed, is_short_outline};
 ghost use Rattle.topojson_types.specs.Validity.{AreDistinct};
 ghost use Rattle.topo_model.specs.Retaining.{IsDraftOf};
 
-use crate::drafts::retained_of_draft;
-use crate::guarding::whole_arcs;
-use crate::in_turn::{goes_first, left_in_turn};
+use crate::choosing::left_of_arcs;
+use crate::in_turn::{is_at_once, left_in_turn};
 use crate::layers::snap_layers;
+use crate::level::Level;
 use crate::reduction::Reduction;
 use crate::topology::on_grid;
+use crate::used::whole_arcs;
 use arc_table::Table;
 use build_meaning::{
-    built_cells_are_on, first_of_built, layers_indexes_reach, layers_left_are_on, left_on_grid,
-    snapped_are_on, without_small_keeps, without_small_on_grid,
+    arc_indexes_reach, assembles_to_built, assembling_drops_expected, assembling_removes,
+    built_cells_are_on, first_is_left_at_zero, first_of_built, left_on_grid, snapped_are_on,
+    unguarded_is_built, unprotected_is_simplified, without_small_keeps, without_small_on_grid,
 };
 use cutter::{Pieces, cut};
 use effective_area::Reducer;
@@ -35,11 +37,12 @@ use elimination_meaning::{ends_stay, nothing_is_new, zero_law};
 use extraction::ExtractedLayer;
 use geojson_types::Position;
 use grid_snap::Grid;
+use guarded_meaning::kept_by_weight;
 use json_value::{Items, OwnText};
 use linework::{Lines, Outlines, Vertices, lines_of_outlines};
 use owned_values::Memory;
 use std::alloc::Global;
-use topo_model::{Left, assemble_draft, filled, take_apart};
+use topo_model::{Left, Retained, assemble_draft, filled, position_counts, take_apart};
 use topojson_types::TopoObject;
 
 /// Lines and rings, cut. What was known of their positions is given back.
@@ -100,43 +103,52 @@ fn draft_and_arcs(
     }
 }
 
-/// What is left of named layers over the arcs of their lines, where nothing goes before these are reduced.
+/// What is left of named layers over the arcs of their lines, where each of these is reduced by itself.
 #[tactic(auto, using(topo_model::proofs::Assembled::draft_of))]
-fn left_of_drafted<Q: Reducer>(
+fn left_apart<Q: Reducer>(
     alloc: Global,
     reducer: &mut Q,
     seed: u64,
     layers: Vec<(OwnText, ExtractedLayer)>,
-    asked: Reduction,
+    level: Level,
+    ring_limit: u128,
 ) -> Result<Left, Memory>
-    requires level { is_simplifying_level asked.level ≡ true }
+    requires level { is_simplifying_level level ≡ true }
     requires sound { AreSound layers.items }
     requires names { AreDistinct (names_of layers.items) }
-    requires limit { asked.ring_limit ≤ threshold_limit }
+    requires limit { ring_limit ≤ threshold_limit }
     ensures left { IfOk result
-        (λ r. IsLeft (left_at_once asked.guards (built_threshold asked.guards asked.level layers.items) asked.ring_limit layers.items)
-        r.topology r.dropped.items r.removed_count) }
-    ensures chosen { IfOk result (λ r. r.chosen ≡ chosen_for asked.level (built_threshold asked.guards asked.level layers.items)) }
-    ensures called { IfOk result
-        (λ _. Q.calls reducer.new ≡ Q.calls reducer.old ++ calls_over asked.guards asked.level (arcs_of_layers layers.items)) }
+        (λ r. IsLeft (meaning.built_left (threshold_at level (arcs_of_layers layers.items)) ring_limit layers.items) r.topology r.dropped.items r.removed_count) }
+    ensures chosen { IfOk result (λ r. r.chosen ≡ chosen_for level (threshold_at level (arcs_of_layers layers.items))) }
+    ensures called { IfOk result (λ _. Q.calls reducer.new ≡ Q.calls reducer.old ++ calls_at level (arcs_of_layers layers.items)) }
     ensures few { IfOk result (λ r. length r.topology.arcs < 2 ^ 63) }
 {
-    layers_indexes_reach();
+    arc_indexes_reach();
+    assembles_to_built();
+    assembling_drops_expected();
+    assembling_removes();
     let (objects, arcs) = draft_and_arcs(alloc, seed, layers)?;
-    let retained = retained_of_draft(alloc, reducer, &objects, arcs, asked.guards, asked.level)?;
-    let left = assemble_draft(alloc, objects, retained, asked.ring_limit)?;
+    let counts = position_counts(alloc, &arcs)?;
+    let (arcs, chosen) = left_of_arcs(alloc, reducer, arcs, level)?;
+    let retained = Retained {
+        arcs,
+        counts,
+        ways: Vec::new(alloc),
+        chosen,
+    };
+    let left = assemble_draft(alloc, objects, retained, ring_limit)?;
     Ok(left)
 }
 
-/// What is left of named layers over the arcs of their lines, where small rings go first.
-fn left_of_fewer(
+/// What is left of named layers over the arcs of their lines, where guards are asked for.
+fn left_at_once(
     alloc: Global,
     seed: u64,
     layers: Vec<(OwnText, ExtractedLayer)>,
     asked: Reduction,
 ) -> Result<Left, Memory>
     requires level { is_simplifying_level asked.level ≡ true }
-    requires first { meaning.goes_first asked.guards asked.ring_limit ≡ true }
+    requires at_once { is_at_once_of asked.guards ≡ true }
     requires sound { AreSound layers.items }
     requires names { AreDistinct (names_of layers.items) }
     requires limit { asked.ring_limit ≤ threshold_limit }
@@ -149,6 +161,10 @@ fn left_of_fewer(
     zero_law();
     ends_stay();
     nothing_is_new();
+    kept_by_weight();
+    unprotected_is_simplified();
+    unguarded_is_built();
+    first_is_left_at_zero();
     first_of_built();
     let (objects, arcs) = draft_and_arcs(alloc, seed, layers)?;
     let cells = whole_arcs(alloc, &arcs)?;
@@ -177,10 +193,10 @@ fn left_of_layers<Q: Reducer>(
         (λ _. Q.calls reducer.new ≡ Q.calls reducer.old ++ calls_over asked.guards asked.level (arcs_of_layers layers.items)) }
     ensures few { IfOk result (λ r. length r.topology.arcs < 2 ^ 63) }
 {
-    if goes_first(asked) {
-        return left_of_fewer(alloc, seed, layers, asked);
+    if is_at_once(asked.guards) {
+        return left_at_once(alloc, seed, layers, asked);
     }
-    left_of_drafted(alloc, reducer, seed, layers, asked)
+    left_apart(alloc, reducer, seed, layers, asked.level, asked.ring_limit)
 }
 
 /// The layers snapped to the grid that is asked for, if one is, and the grid.
@@ -226,7 +242,6 @@ pub fn topology_of_layers<Q: Reducer>(
     snapped_are_on();
     built_cells_are_on();
     left_on_grid();
-    layers_left_are_on();
     without_small_on_grid();
     without_small_keeps();
     let (snapped, grid) = snapped_layers(layers, grid);

@@ -22,7 +22,7 @@ fn renumber_rings(rings: &mut [Items<ArcRef>], new_indexes: &[ArcRef])
 }
 
 /// The rings by the numbers that their arcs have where only the arcs with a set flag are left.
-#[tactic(auto, using(geometry::proofs::Moved::refilled, crate::proofs::DraftRings::rings_renumbered))]
+#[tactic(auto, using(geometry::proofs::Moved::refilled, crate::proofs::RingsRenumbered::rings_renumbered))]
 pub(crate) fn renumbered_rings(
     alloc: Global,
     used: &[bool],

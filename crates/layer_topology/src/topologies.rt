@@ -5,7 +5,7 @@ ghost use Rattle.std.specs.Option.{option_copied};
 ghost use Rattle.build_meaning.specs.ArcPositions as spec;
 ghost use Rattle.build_meaning.specs.InTurn.{goes_first as goes_first_of, left_in_turn as left_in_turn_of, without_small};
 ghost use Rattle.build_meaning.specs.Left as meaning;
-ghost use Rattle.build_meaning.specs.Left.{is_at_once, left_by, left_indexes, left_of, no_guards};
+ghost use Rattle.build_meaning.specs.Left.{is_at_once as is_at_once_of, left_by, left_indexes, left_of, no_guards};
 ghost use Rattle.build_meaning.specs.Protected.{Protection};
 ghost use Rattle.build_meaning.specs.ProtectedRings.{CanStay};
 ghost use Rattle.build_meaning.specs.Simplified.{EachFromFirstToLast, retained, retained_arcs};
@@ -24,8 +24,7 @@ ghost use Rattle.topojson_types.specs.Validity.{IsArc};
 
 use crate::at_once::kept_at_once;
 use crate::choosing::{kept_by_share, reduced_line};
-use crate::drafts::Protected;
-use crate::in_turn::{goes_first, left_in_turn};
+use crate::in_turn::{Protected, goes_first, is_at_once, left_in_turn};
 use crate::level::Level;
 use crate::reduction::Reduction;
 use build_meaning::{
@@ -93,7 +92,7 @@ fn kept_under(
     guards: Guards,
     level: Level,
 ) -> Result<Kept, Memory>
-    requires at_once { is_at_once guards ≡ true }
+    requires at_once { is_at_once_of guards ≡ true }
     requires level { is_simplifying_level level ≡ true }
     ensures kept { IfOk result (λ r. map (λ k. k.items) r.numbers.items ≡ left_indexes guards (threshold_of guards level topology.now) topology.now) }
     ensures ways { IfOk result
@@ -181,7 +180,7 @@ fn left_at_once(
     level: Level,
     ring_limit: u128,
 ) -> Result<Left, Memory>
-    requires at_once { is_at_once guards ≡ true }
+    requires at_once { is_at_once_of guards ≡ true }
     requires level { is_simplifying_level level ≡ true }
     requires limit { ring_limit ≤ threshold_limit }
     ensures left { IfOk result
@@ -416,7 +415,7 @@ pub fn left_of_topology<Q: Reducer>(
     if goes_first(asked) {
         return left_of_fewer(alloc, topology, asked);
     }
-    if guards.no_crossings || guards.keep_shapes {
+    if is_at_once(guards) {
         return left_at_once(alloc, topology, guards, level, ring_limit);
     }
     left_apart(alloc, reducer, topology, level, ring_limit)

@@ -2,14 +2,15 @@
 ghost use Rattle.std.specs.Prelude.{◌≡◌, ℕ, Bool, IfOk, length, map};
 ghost use Rattle.std.specs.List.{AllByRecursion};
 ghost use Rattle.std.specs.Vec.Iter.{into_iter_items};
-ghost use Rattle.build_meaning.specs.LeftOfLayers.{spread};
+ghost use Rattle.build_meaning.specs.InTurn.{spread};
 ghost use Rattle.build_meaning.specs.Simplified.{retained_arcs};
 ghost use Rattle.geometry.specs.Joins.{first_of, or_empty};
 ghost use Rattle.geometry.specs.Lists.{tail};
-ghost use Rattle.layer_topology.specs.Splitting.{cells_left, numbers_left};
+ghost use Rattle.layer_topology.specs.Used.{cells_left, numbers_left};
 ghost use Rattle.topo_model.specs.Uses.{answers, chosen};
 ghost use Rattle.topojson_types.specs.Validity.{IsArc};
 
+use extraction::cells;
 use geojson_types::Position;
 use json_value::Items;
 use owned_values::Memory;
@@ -41,6 +42,20 @@ pub(crate) fn used_lines(
         lines.push(positions(alloc, None, arc.as_slice())?)?;
     }
     Ok(lines)
+}
+
+/// The cells of all positions of arcs.
+pub(crate) fn whole_arcs(
+    alloc: Global,
+    arcs: &[Items<Position>],
+) -> Result<Vec<Items<Cell>>, Memory>
+    ensures { IfOk result (λ whole. whole.items ≡ arcs.now) }
+{
+    let mut whole = Vec::with_capacity(alloc, arcs.len())?;
+    'arcs: for arc in arcs {
+        whole.push(cells(alloc, arc.as_slice())?)?;
+    }
+    Ok(whole)
 }
 
 /// The next list of numbers, or none where there is no more list.

@@ -1,13 +1,12 @@
 -- What is made of layers, of the indexes of their arcs and of the positions of each arc that are retained is what is assembled of them.
-use Rattle.std.proofs.Common.{arith, ◌≡◌, ℕ, ℤ, Bool, true, false, List, [], ◌∷◌, map, length, Option, None, Some, refl, sym, ap, ◌∙◌, subst, cond, inl, inr}
+use Rattle.std.proofs.Common.{arith, ◌≡◌, ℕ, ℤ, Bool, true, false, List, [], ◌∷◌, map, length, Option, None, Some, refl, sym, ap, ◌∙◌, subst, cond, inr}
 use Rattle.std.specs.Prelude.{if◌then◌else◌}
 use Rattle.std.proofs.lemmas.Option.{none-some}
-use Rattle.std.proofs.Math.Path.{fun_ext}
 use Rattle.arc_table.specs.Arcs.{ArcsAndIndexes, arcs_of, index_in, table_of}
-use Rattle.build_meaning.specs.Built.{all_arcs, untrimmed}
+use Rattle.build_meaning.specs.Built.{all_arcs, kept_refs, untrimmed}
 use Rattle.build_meaning.specs.Expected.{own_pieces, is_small, unless}
 use Rattle.build_meaning.specs.BuiltLaws.{AreSound}
-use Rattle.build_meaning.specs.Layers.{Named, layers_of, named_lines_and_rings, names_of, features_lines_and_rings}
+use Rattle.build_meaning.specs.Layers.{Named, layers_of, named_lines_and_rings, names_of}
 use Rattle.build_meaning.specs.Objects.{Kept, objects_by, feature_by}
 use Rattle.build_meaning.proofs.DroppableLines.{map_map}
 use Rattle.build_meaning.proofs.Linework.{long_of, long_lines_and_rings, split_lists}
@@ -18,48 +17,45 @@ use Rattle.elimination_meaning.specs.Elimination.{reduced}
 use Rattle.elimination_meaning.specs.Laws.{EndsStay, NoneIsNew, ZeroLaw}
 use Rattle.geojson_types.specs.Features.{Shape, Featured}
 use Rattle.geometry.specs.declared.address.Cause.{Cause}
-use Rattle.geometry.specs.declared.address.Cause.TheVariants.{Small, Collapsed}
+use Rattle.geometry.specs.declared.address.Cause.TheVariants.{Small}
 use Rattle.geometry.specs.Joins.{stitched}
 use Rattle.geometry.specs.Lists.{map_some, then_some}
-use Rattle.geometry.specs.DropCauses.{dropped_of_layers, drop_causes}
 use Rattle.geometry.specs.Points.{Point}
-use Rattle.geometry.specs.Pruning.{prune, lines_and_rings, option_lines_and_rings}
+use Rattle.geometry.specs.Pruning.{prune}
 use Rattle.junctions.specs.Cleaning.{clean, is_short}
 use Rattle.junctions.specs.declared.stroke.Stroke.{Stroke}
 use Rattle.build_meaning.specs.Assembled.{arcs_of_layers, own_refs, assembled_cause}
 use Rattle.build_meaning.specs.Simplified.{Refs, small_cause, large_refs, feature_pruned, objects_pruned, retained_arcs, EachFromFirstToLast, object_pruned}
-use Rattle.build_meaning.specs.Protected.{Protection, protection, objects_spared, sparing, cause_sparing, shape_marked, feature_spared, object_spared}
+use Rattle.build_meaning.specs.Protected.{no_protection, protection, objects_spared, sparing}
 use Rattle.build_meaning.proofs.Spared.{by_refs}
 use Rattle.build_meaning.proofs.Simplified.{IsWholeAtZero, no_small}
 use Rattle.build_meaning.proofs.ValidUntrimmed.{untrimmed_is_valid}
 use Rattle.linework.specs.Linework.{linework}
 use Rattle.linework.specs.Outlines.{Outline, is_short_outline}
-use Rattle.owned_values.proofs.Elements.{all_weaker, all_left, all_right}
+use Rattle.owned_values.proofs.Elements.{all_weaker}
 use Rattle.topojson_types.specs.declared.object.TopoObject.{TopoObject}
-use Rattle.topojson_types.specs.Topologies.{Contents, object_features, TopoShape}
-use Rattle.topojson_types.specs.Validity.{AreDistinct}
-use Rattle.topo_model.specs.Along.{Ways, AreWays}
-use Rattle.topo_model.specs.Drops.{draft_cause, objects_drops}
-use Rattle.topo_model.proofs.Drops.{judged_alone, protected_drops, objects_are as drops_along}
-use Rattle.topo_model.proofs.Along.{objects_are, fused, each_part}
-use Rattle.topo_model.proofs.Result.{in_turn, of_arcs}
+use Rattle.topojson_types.specs.Topologies.{TopoShape}
+use Rattle.topojson_types.specs.Validity.{AreDistinct, IsTopology}
+use Rattle.topo_model.specs.Along.{Ways}
+use Rattle.topo_model.specs.DraftUses.{draft_contents, with_refs}
+use Rattle.topo_model.specs.Drops.{draft_cause}
+use Rattle.topo_model.proofs.Along.{objects_are, fused}
+use Rattle.topo_model.proofs.Drafted.{left_drafted}
+use Rattle.topo_model.proofs.Full.{objects_stay}
+use Rattle.topo_model.proofs.Result.{of_arcs}
 use Rattle.topo_model.specs.Drafts.{RefsOf, long_refs, draft_refs, relined, feature_drafted, no_refs, objects_drafted, objects_relined}
 use Rattle.topo_model.specs.Retaining.{IsDraftOf, StandsFor, StandsForTopology}
-use Rattle.std.specs.List.{AllByRecursion}
 use Rattle.geometry.specs.Paths.{Placed}
-use Rattle.geometry.proofs.Omitted.{drop_causes_agree}
-use Rattle.build_meaning.specs.OuterRings.{outer_rings, marked}
-use Rattle.build_meaning.specs.LeftOfLayers.{greatest_of_layers, layer_protection, layer_shape_marked, drafted_refs, unprotected_cause, feature_assembled, option_unspared, assembled_by}
+use Rattle.build_meaning.specs.OuterRings.{outer_rings}
+use Rattle.build_meaning.specs.LayersMarked.{greatest_of_layers, layer_protection}
 use Rattle.build_meaning.proofs.GreatestLeft.{put, ring_among, ring_made}
-use Rattle.build_meaning.proofs.Marks.{without_mark, left_plain}
-use Rattle.build_meaning.specs.LeftOfLayersLaws.{AssembledIsOfLines}
-use Rattle.build_meaning.proofs.RingsAlike.{all_marked}
+use Rattle.build_meaning.proofs.Made.{objects_made}
+use Rattle.build_meaning.proofs.Marks.{left_plain}
 use Rattle.topojson_types.specs.declared.feature.TopoFeature.{TopoFeature}
 use Rattle.topojson_types.specs.declared.object.TopoObject.TheVariants.{Many}
-use Rattle.topo_model.specs.Ways.{ways_under}
-use Rattle.topo_model.proofs.RelinedMarks.{pruned_once, dropped_once, rings_relined}
+use Rattle.topo_model.proofs.RelinedMarks.{pruned_once, rings_relined}
+use Rattle.topo_model.specs.Parts.{contents}
 use Rattle.geojson_types.specs.declared.layer.Layer.{Layer}
-use Rattle.owned_values.proofs.Lists.{map_agree}
 
 -- ---- the table
 
@@ -104,7 +100,7 @@ abbrev with_shape : Featured → Option TopoShape → TopoFeature
 with_shape f s = record { id = f.id; properties = f.properties; shape = s }
 
 -- what is made of the objects of layers
-layers_made : (of : RefsOf) (make : List ℕ × TopoObject → List ℕ × TopoObject) (each : TopoFeature → TopoFeature) (made : Featured → TopoFeature) → ((name : List ℕ) (fs : List TopoFeature) → make (name, Many fs) ≡ (name, Many (map each fs)))
+pub layers_made : (of : RefsOf) (make : List ℕ × TopoObject → List ℕ × TopoObject) (each : TopoFeature → TopoFeature) (made : Featured → TopoFeature) → ((name : List ℕ) (fs : List TopoFeature) → make (name, Many fs) ≡ (name, Many (map each fs)))
     → ((f : Featured) → each (feature_drafted of f) ≡ made f) → (ls : Named) → map make (objects_drafted of ls) ≡ map (λ l. (l.0, Many (map made l.1.features))) ls
 layers_made of make each made many same =
     fused {A = List ℕ × Layer} make (λ l. (l.0, Many (map (feature_drafted of) l.1.features))) (λ l. (l.0, Many (map made l.1.features)))
@@ -156,146 +152,77 @@ same_way : {L M : Type 0} (make : L → M) (o : Option (Placed L)) → map_some 
 same_way make None = refl
 same_way make (Some x) = refl
 
-abbrev AllWhole : List Stroke → List (Bool × List Point) → Type 0
-AllWhole lines bs = AllByRecursion (IsWholeAtZero lines) bs
-
 module _ (ls : Named) where
   abbrev refs : RefsOf
   refs = draft_refs (own_refs (lines_of ls))
 
-  abbrev way : Bool → Shape → Option (List ℕ)
-  way keep_shapes s = map_some (λ x. x.path) (layer_protection keep_shapes ls s)
-
   -- in each feature of the draft the protected ring is that of the feature of the layers
-  way_is : (keep_shapes : Bool) (s : Shape) → map_some (λ x. x.path) (protection keep_shapes (arcs_of_layers ls) (relined refs s)) ≡ way keep_shapes s
+  pub way_is : (keep_shapes : Bool) (s : Shape)
+      → map_some (λ x. x.path) (protection keep_shapes (arcs_of_layers ls) (relined (draft_refs (own_refs (linework (layers_of ls)))) s)) ≡ map_some (λ x. x.path) (layer_protection keep_shapes ls s)
   unfolding greatest_of_layers
   way_is true s =
       ap (map_some (λ x. x.path)) (ring_among (arcs_of_layers ls) (relined refs s) (map (put (refs true)) (outer_rings s)) (rings_relined refs s) ∙ ring_made (arcs_of_layers ls) (refs true) (outer_rings s))
       ∙ same_way (refs true) _
   way_is false s = refl
 
-  module _ (keep_shapes : Bool) (limit : ℕ) (arcs : List (List Point)) where
-    abbrev protects : Protection
-    protects = protection keep_shapes (arcs_of_layers ls)
+-- ---- a draft stands for the layers over all their arcs
 
-    -- ---- what is left
+-- a line or ring has its indexes, if it has any
+line_is : (lines : List Stroke) (b : Bool × List Point) → IsWholeAtZero lines b → (short : Bool) → is_short b.0 (clean b.1) ≡ short
+    → then_some (with_refs b.0) (kept_refs lines 0 0 b.0 b.1) ≡ with_refs b.0 (draft_refs (own_refs lines) b.0 b.1)
+line_is lines b whole true e = rw e refl
+line_is lines b whole false e =
+    ap (λ c. then_some (with_refs b.0) (unless c (own_refs lines b.0 b.1))) (no_small lines b whole e) ∙ sym (ap (λ s. with_refs b.0 (cond s [] (own_refs lines b.0 b.1))) e)
 
-    abbrev refs_left : Bool → Bool × List Point → Option (List ℤ)
-    refs_left closed l = unless (unprotected_cause (lines_of ls) arcs limit closed l) (drafted_refs (lines_of ls) closed l.1)
+module _ (zero : ZeroLaw) (ends : EndsStay) (new : NoneIsNew) (ls : Named) (draft : Objects) (of : IsDraftOf ls draft) where
+  whole_valid : IsTopology (untrimmed 0 0 ls)
+  whole_valid = untrimmed_is_valid ends new 0 0 ls of.sound of.names
 
-    -- what is left of a line or ring, marked or not
-    line_is : (closed : Bool) (l : Bool × List Point) → sparing (large_refs limit arcs) closed (l.0, refs closed l.1) ≡ refs_left closed l
-    line_is closed (true, ps) = refl
-    line_is closed (false, ps) = on closed (own_refs (lines_of ls) closed ps) (is_short closed (clean ps))
-      where
-        on : (closed : Bool) (own : List ℤ) (s : Bool) → unless (small_cause limit arcs closed (cond s [] own)) (cond s [] own) ≡ unless (cond s (Some Collapsed) (small_cause limit arcs closed own)) (cond s [] own)
-        on true own true = grind arith
-        on false own true = grind arith
-        on closed own false = refl
+  pub indexed_are : objects_pruned with_refs draft ≡ (untrimmed 0 0 ls).objects
+  indexed_are =
+      let lines = lines_of ls in
+      ap (objects_pruned with_refs) of.drafted ∙ draft_pruned (own_refs lines) with_refs ls
+      ∙ sym (objects_made (kept_refs lines 0 0) with_refs (λ closed ps. with_refs closed (draft_refs (own_refs lines) closed ps)) ls
+      (all_weaker (IsWholeAtZero lines) (λ b. then_some (with_refs b.0) (kept_refs lines 0 0 b.0 b.1) ≡ with_refs b.0 (draft_refs (own_refs lines) b.0 b.1))
+      (λ b whole. line_is lines b whole (is_short b.0 (clean b.1)) refl) (named_lines_and_rings ls) (loses_nothing zero ls of.sound)))
+      ∙ objects_stay None (untrimmed 0 0 ls).objects whole_valid.objects
 
-    shape_is : (s : Option Shape) → then_some (λ t. prune (λ (p : Point). p) (sparing (large_refs limit arcs)) (shape_marked protects t)) (map_some (relined refs) s)
-        ≡ then_some (λ s. prune (λ (p : Point). p) refs_left (layer_shape_marked keep_shapes ls s)) s
-    shape_is None = refl
-    shape_is (Some s) =
-        ap (λ w. prune (λ (p : Point). p) (sparing (large_refs limit arcs)) (marked (relined refs s) w)) (way_is keep_shapes s)
-        ∙ pruned_once refs (sparing (large_refs limit arcs)) s (way keep_shapes s)
-        ∙ ap (λ (k : Bool → Bool × List Point → Option (List ℤ)). prune (λ (p : Point). p) k (layer_shape_marked keep_shapes ls s)) (fun_ext (λ closed. fun_ext (line_is closed)))
+  pub stands_for_layers : draft_contents draft (arcs_of_layers ls) None ≡ untrimmed 0 0 ls
+  stands_for_layers = ap (λ os. contents os (arcs_of_layers ls) None) indexed_are ∙ ap (λ arcs. contents (untrimmed 0 0 ls).objects arcs None) (sym (each_stays zero (arcs_of_layers ls)))
 
-    layers_are : (ms : Named) → objects_spared protects (sparing (large_refs limit arcs)) (objects_drafted (own_refs (lines_of ls)) ms)
-        ≡ map (λ m. (m.0, Many (map (feature_assembled keep_shapes ls refs_left) m.1.features))) ms
-    layers_are = layers_made (own_refs (lines_of ls)) (λ o. (o.0, object_spared protects (sparing (large_refs limit arcs)) o.1)) (feature_spared protects (sparing (large_refs limit arcs)))
-        (feature_assembled keep_shapes ls refs_left) (λ name fs. refl) (λ f. ap (with_shape f) (shape_is f.shape))
+  pub draft_valid : (arcs : List (List Point)) → arcs ≡ arcs_of_layers ls → IsTopology (draft_contents draft arcs None)
+  draft_valid arcs are = subst IsTopology (sym (ap (λ xs. draft_contents draft xs None) are ∙ stands_for_layers)) whole_valid
 
-    -- ---- what is dropped
+  -- ---- where no ring is protected
 
-    abbrev why_draft : Bool → Bool × List Point → Option Cause
-    why_draft closed l = cause_sparing (draft_cause (of_arcs limit arcs)) closed (l.0, refs closed l.1)
+  module _ (kept : List (List ℕ)) (limit : ℕ) (retained : List (List Point)) (picks : retained ≡ retained_arcs kept (arcs_of_layers ls)) (ways : Ways) (lead : ways ≡ []) where
+    same_arcs : arcs_of_layers ls ≡ (untrimmed 0 0 ls).arcs
+    same_arcs = sym (each_stays zero (arcs_of_layers ls))
 
-    abbrev why_layers : Bool → Bool × List Point → Option Cause
-    why_layers = unprotected_cause (lines_of ls) arcs limit
+    pub counts_of : (counts : List ℕ) → counts ≡ map length (arcs_of_layers ls) → counts ≡ map length (untrimmed 0 0 ls).arcs
+    counts_of counts counted = counted ∙ ap (map length) same_arcs
 
-    abbrev gone : Option TopoShape → List (Placed Cause)
-    gone s = protected_drops (in_turn None limit arcs) protects s
+    none_large : (closed : Bool) → large_refs limit retained closed [] ≡ None
+    none_large true = refl
+    none_large false = refl
 
-    same_cause : (b : Bool × (Bool × List Point)) → IsWholeAtZero (lines_of ls) (without_mark b) → why_draft b.0 b.1 ≡ why_layers b.0 b.1
-    same_cause b whole = ap (λ (c : Option Cause). if b.1.0 then None else c) (cause_is (lines_of ls) arcs limit (without_mark b) whole)
+    -- what is left of it is what is left of these
+    pub stands : StandsFor no_protection kept (untrimmed 0 0 ls).objects draft (untrimmed 0 0 ls).arcs retained None None limit ways
+    stands = record {
+      picks = picks ∙ ap (retained_arcs kept) same_arcs;
+      large = objects_are no_protection (sparing (large_refs limit retained)) ways draft (inr (refl, lead)) ∙ sym (left_drafted false retained (large_refs limit retained) none_large draft)
+          ∙ ap (objects_spared no_protection (sparing (large_refs limit retained))) indexed_are;
+    }
 
-    shape_dropped : (s : Option Shape) → AllWhole (lines_of ls) (option_lines_and_rings s) → gone (map_some (relined refs) s) ≡ option_unspared keep_shapes why_layers ls s
-    shape_dropped None h = refl
-    shape_dropped (Some s) h =
-        judged_alone (of_arcs limit arcs) (shape_marked protects (relined refs s)) ∙ ap (λ w. drop_causes (cause_sparing (draft_cause (of_arcs limit arcs))) (marked (relined refs s) w)) (way_is keep_shapes s)
-        ∙ dropped_once refs (cause_sparing (draft_cause (of_arcs limit arcs))) s (way keep_shapes s)
-        ∙ drop_causes_agree Point (Bool × List Point) why_draft why_layers (marked s (way keep_shapes s))
-        (all_weaker (λ b. IsWholeAtZero (lines_of ls) (without_mark b)) (λ b. why_draft b.0 b.1 ≡ why_layers b.0 b.1) same_cause (lines_and_rings (marked s (way keep_shapes s)))
-        (all_marked (IsWholeAtZero (lines_of ls)) s (way keep_shapes s) h))
-
-    features_dropped : (fs : List Featured) → AllWhole (lines_of ls) (features_lines_and_rings fs)
-        → map (λ f. gone f.shape) (map (feature_drafted (own_refs (lines_of ls))) fs) ≡ map (λ f. option_unspared keep_shapes why_layers ls f.shape) fs
-    features_dropped fs h =
-        map_map (λ (f : TopoFeature). gone f.shape) (feature_drafted (own_refs (lines_of ls))) fs
-        ∙ map_agree (λ f. gone (map_some (relined refs) f.shape)) (λ f. option_unspared keep_shapes why_layers ls f.shape) fs
-        (all_weaker (λ f. AllWhole (lines_of ls) (option_lines_and_rings f.shape)) (λ f. gone (map_some (relined refs) f.shape) ≡ option_unspared keep_shapes why_layers ls f.shape) (λ f. shape_dropped f.shape) fs
-        (each_part (IsWholeAtZero (lines_of ls)) (λ f. option_lines_and_rings f.shape) fs h))
-
-    layers_dropped : (ms : Named) → AllWhole (lines_of ls) (named_lines_and_rings ms)
-        → map (λ o. map (λ f. gone f.shape) (object_features o.1)) (objects_drafted (own_refs (lines_of ls)) ms) ≡ map (λ m. map (λ f. option_unspared keep_shapes why_layers ls f.shape) m.1.features) ms
-    layers_dropped [] h = refl
-    layers_dropped (m ∷ ms) h =
-        ap (λ os. os ∷ map (λ o. map (λ f. gone f.shape) (object_features o.1)) (objects_drafted (own_refs (lines_of ls)) ms))
-        (features_dropped m.1.features (all_left (IsWholeAtZero (lines_of ls)) (features_lines_and_rings m.1.features) (named_lines_and_rings ms) h))
-        ∙ ap (λ oss. map (λ f. option_unspared keep_shapes why_layers ls f.shape) m.1.features ∷ oss) (layers_dropped ms (all_right (IsWholeAtZero (lines_of ls)) (features_lines_and_rings m.1.features) (named_lines_and_rings ms) h))
-
--- ---- the topology
-
-ways_are : (keep_shapes : Bool) (arcs : List (List Point)) (ways : Ways) (os : Objects) → ways ≡ ways_under keep_shapes arcs os → AreWays (protection keep_shapes arcs) ways os
-ways_are true arcs ways os lead = inl lead
-ways_are false arcs ways os lead = inr (refl, lead)
-
--- a draft over arcs of which only some positions are retained
-module _ (zero : ZeroLaw) (of_lines : AssembledIsOfLines) (keep_shapes : Bool) (kept : List (List ℕ)) (limit : ℕ) (ls : Named) (draft : Objects) (of : IsDraftOf ls draft)
-    (retained : List (List Point)) (picks : retained ≡ retained_arcs kept (arcs_of_layers ls)) (ways : Ways) (lead : ways ≡ ways_under keep_shapes (arcs_of_layers ls) draft) where
-  -- the layers over all arcs
-  abbrev whole : Contents
-  whole = untrimmed 0 0 ls
-
-  abbrev marks : Protection
-  marks = protection keep_shapes (arcs_of_layers ls)
-
-  same_arcs : arcs_of_layers ls ≡ whole.arcs
-  same_arcs = sym (each_stays zero (all_arcs (lines_of ls)))
-
-  pub counts_of : (counts : List ℕ) → counts ≡ map length (arcs_of_layers ls) → counts ≡ map length (untrimmed 0 0 ls).arcs
-  counts_of counts counted = counted ∙ ap (map length) same_arcs
-
-  -- it stands for the layers: what is left of it is what is left of these
-  pub stands : StandsFor (protection keep_shapes (arcs_of_layers ls)) kept (untrimmed 0 0 ls).objects draft (untrimmed 0 0 ls).arcs retained None None limit ways
-  stands =
-      let retained_is : retained ≡ retained_arcs kept whole.arcs = picks ∙ ap (retained_arcs kept) same_arcs in
-      record {
-        picks = retained_is;
-        large = objects_are marks (sparing (large_refs limit retained)) ways draft (ways_are keep_shapes (arcs_of_layers ls) ways draft lead)
-            ∙ ap (objects_spared marks (sparing (large_refs limit retained))) of.drafted ∙ layers_are ls keep_shapes limit retained ls
-            ∙ ap (λ arcs. map (λ m. (m.0, Many (map (feature_assembled keep_shapes ls (λ closed l. unless (unprotected_cause (lines_of ls) arcs limit closed l) (drafted_refs (lines_of ls) closed l.1))) m.1.features))) ls) picks
-            ∙ sym (ap (λ y. y.objects) (of_lines keep_shapes kept limit ls of.sound)) ∙ ap (λ arcs. objects_spared marks (sparing (large_refs limit arcs)) whole.objects) (sym retained_is);
-      }
-
-  -- which are a valid topology
-  pub stands_for_topology : EndsStay → NoneIsNew → (counts : List ℕ) → EachFromFirstToLast kept (arcs_of_layers ls) → counts ≡ map length (arcs_of_layers ls) → StandsForTopology draft retained counts None None limit ways
-  stands_for_topology ends new counts through counted = record {
-    protects = marks;
-    kept = kept;
-    of = whole.objects;
-    arcs = whole.arcs;
-    stands = stands;
-    through = subst (EachFromFirstToLast kept) same_arcs through;
-    counts_are = counts_of counts counted;
-    valid = untrimmed_is_valid ends new 0 0 ls of.sound of.names;
-  }
-
-  pub drops_are : objects_drops (in_turn None limit retained) 0 ways draft ≡ (assembled_by keep_shapes kept limit ls).dropped
-  unfolding assembled_by
-  drops_are =
-      drops_along (in_turn None limit retained) marks ways draft (ways_are keep_shapes (arcs_of_layers ls) ways draft lead)
-      ∙ ap (λ (os : Objects). dropped_of_layers 0 (map (λ o. map (λ f. protected_drops (in_turn None limit retained) marks f.shape) (object_features o.1)) os)) of.drafted
-      ∙ ap (dropped_of_layers 0) (layers_dropped ls keep_shapes limit retained ls (loses_nothing zero ls of.sound))
-      ∙ ap (λ arcs. dropped_of_layers 0 (map (λ m. map (λ f. option_unspared keep_shapes (unprotected_cause (lines_of ls) arcs limit) ls f.shape) m.1.features) ls)) picks
+    -- which are a valid topology
+    pub stands_for_topology : (counts : List ℕ) → EachFromFirstToLast kept (arcs_of_layers ls) → counts ≡ map length (arcs_of_layers ls) → StandsForTopology draft retained counts None None limit ways
+    stands_for_topology counts through counted = record {
+      protects = no_protection;
+      kept = kept;
+      of = (untrimmed 0 0 ls).objects;
+      arcs = (untrimmed 0 0 ls).arcs;
+      stands = stands;
+      through = subst (EachFromFirstToLast kept) same_arcs through;
+      counts_are = counts_of counts counted;
+      valid = whole_valid;
+    }

@@ -16,7 +16,7 @@ use Rattle.geometry.specs.Paths.{Placed, of_parts}
 use Rattle.geometry.specs.Points.{Point}
 use Rattle.geometry.specs.Pruning.{lines_and_rings}
 use Rattle.geometry.proofs.ByKind.{AtKinds, at_kinds}
-use Rattle.geometry.proofs.Cases.{drop_causes-line, drop_causes-lines, drop_causes-area, drop_causes-areas, drop_causes-group, drop_causes_at, lines_and_rings_at}
+use Rattle.geometry.proofs.Cases.{drop_causes_at, lines_and_rings_at}
 use Rattle.geometry.proofs.Induction.{by_kinds}
 use Rattle.geometry.specs.Addresses.{part_address}
 use Rattle.build_meaning.specs.Expected.{unless}
@@ -38,40 +38,41 @@ paired_at : (P L : Type 0) → AtKinds (paired {P = P} {L = L}) paired_step
 unfolding paired
 paired_at P L = at_kinds paired_step
 
-module _ (why : WhyPaired (Bool × List ℤ)) (way : Option (List ℕ)) where
-  abbrev of : Geometry Point (Paired (Bool × List ℤ)) (Paired (Bool × List ℤ)) → List (Placed Cause)
+-- what is dropped of a shape with a mark at the end of a way, by its kind
+module _ {L : Type 0} (why : WhyPaired (Bool × L)) (way : Option (List ℕ)) where
+  abbrev of : Geometry Point (Paired (Bool × L)) (Paired (Bool × L)) → List (Placed Cause)
   of = drop_causes why
 
-  abbrev pub gone : TopoShape → List (Placed Cause)
+  abbrev pub gone : Geometry Point L L → List (Placed Cause)
   gone s = drop_causes why (paired (marked s way))
 
   pub of_point : (p : Point) → gone (g.Point p) ≡ []
-  of_point p = ap (λ m. of (paired (m way))) ((marked_at Point (List ℤ)).point p) ∙ ap of ((paired_at Point (Bool × List ℤ)).point p) ∙ (drop_causes_at Point (Paired (Bool × List ℤ)) why).point p
+  of_point p = ap (λ m. of (paired (m way))) ((marked_at Point L).point p) ∙ ap of ((paired_at Point (Bool × L)).point p) ∙ (drop_causes_at Point (Paired (Bool × L)) why).point p
 
   pub of_points : (ps : List Point) → gone (g.MultiPoint ps) ≡ []
-  of_points ps = ap (λ m. of (paired (m way))) ((marked_at Point (List ℤ)).points ps) ∙ ap of ((paired_at Point (Bool × List ℤ)).points ps) ∙ (drop_causes_at Point (Paired (Bool × List ℤ)) why).points ps
+  of_points ps = ap (λ m. of (paired (m way))) ((marked_at Point L).points ps) ∙ ap of ((paired_at Point (Bool × L)).points ps) ∙ (drop_causes_at Point (Paired (Bool × L)) why).points ps
 
-  pub of_line : (l : List ℤ) → gone (g.Line l) ≡ here (why false (unpaired (unmarked l)))
-  of_line l = ap (λ m. of (paired m)) (marked-line l way) ∙ ap of ((paired_at Point (Bool × List ℤ)).line (unmarked l)) ∙ drop_causes-line Point (Paired (Bool × List ℤ)) why (unpaired (unmarked l))
+  pub of_line : (l : L) → gone (g.Line l) ≡ here (why false (unpaired (unmarked l)))
+  of_line l = ap (λ m. of (paired m)) (marked-line l way) ∙ ap of ((paired_at Point (Bool × L)).line (unmarked l)) ∙ (drop_causes_at Point (Paired (Bool × L)) why).line (unpaired (unmarked l))
 
-  pub of_lines : (ls : List (List ℤ)) → gone (g.Lines ls) ≡ of_parts 0 (map (λ l. here (why false (unpaired (unmarked l)))) ls)
+  pub of_lines : (ls : List L) → gone (g.Lines ls) ≡ of_parts 0 (map (λ l. here (why false (unpaired (unmarked l)))) ls)
   of_lines ls =
-      ap (λ m. of (paired m)) (marked-lines ls way) ∙ ap of ((paired_at Point (Bool × List ℤ)).lines (map unmarked ls)) ∙ drop_causes-lines Point (Paired (Bool × List ℤ)) why (map unpaired (map unmarked ls))
+      ap (λ m. of (paired m)) (marked-lines ls way) ∙ ap of ((paired_at Point (Bool × L)).lines (map unmarked ls)) ∙ (drop_causes_at Point (Paired (Bool × L)) why).lines (map unpaired (map unmarked ls))
       ∙ ap (of_parts 0) (map-map (λ l. here (why false l)) unpaired (map unmarked ls) ∙ map-map (λ l. here (why false (unpaired l))) unmarked ls)
 
-  pub of_area : (rs : List (List ℤ)) → gone (g.Area rs) ≡ area_drop_causes (why true) (rings_paired (rings_marked rs way))
-  of_area rs = ap (λ m. of (paired m)) (marked-area rs way) ∙ ap of ((paired_at Point (Bool × List ℤ)).area (rings_marked rs way)) ∙ drop_causes-area Point (Paired (Bool × List ℤ)) why (rings_paired (rings_marked rs way))
+  pub of_area : (rs : List L) → gone (g.Area rs) ≡ area_drop_causes (why true) (rings_paired (rings_marked rs way))
+  of_area rs = ap (λ m. of (paired m)) (marked-area rs way) ∙ ap of ((paired_at Point (Bool × L)).area (rings_marked rs way)) ∙ (drop_causes_at Point (Paired (Bool × L)) why).area (rings_paired (rings_marked rs way))
 
-  pub of_areas : (areas : List (List (List ℤ))) → gone (g.Areas areas) ≡ of_parts 0 (map (λ rs. area_drop_causes (why true) (rings_paired rs)) (along rings_marked 0 areas way))
+  pub of_areas : (areas : List (List L)) → gone (g.Areas areas) ≡ of_parts 0 (map (λ rs. area_drop_causes (why true) (rings_paired rs)) (along rings_marked 0 areas way))
   of_areas areas =
       let are = along rings_marked 0 areas way in
-      ap (λ m. of (paired m)) (marked-areas areas way) ∙ ap of ((paired_at Point (Bool × List ℤ)).areas are) ∙ drop_causes-areas Point (Paired (Bool × List ℤ)) why (map rings_paired are)
+      ap (λ m. of (paired m)) (marked-areas areas way) ∙ ap of ((paired_at Point (Bool × L)).areas are) ∙ (drop_causes_at Point (Paired (Bool × L)) why).areas (map rings_paired are)
       ∙ ap (of_parts 0) (map-map (area_drop_causes (why true)) rings_paired are)
 
-  pub of_group : (ss : List TopoShape) → gone (g.Group ss) ≡ of_parts 0 (map (λ s. drop_causes why (paired s)) (along marked 0 ss way))
+  pub of_group : (ss : List (Geometry Point L L)) → gone (g.Group ss) ≡ of_parts 0 (map (λ s. drop_causes why (paired s)) (along marked 0 ss way))
   of_group ss =
       let are = along marked 0 ss way in
-      ap (λ m. of (paired m)) (marked-group ss way) ∙ ap of ((paired_at Point (Bool × List ℤ)).group are) ∙ drop_causes-group Point (Paired (Bool × List ℤ)) why (map paired are)
+      ap (λ m. of (paired m)) (marked-group ss way) ∙ ap of ((paired_at Point (Bool × L)).group are) ∙ (drop_causes_at Point (Paired (Bool × L)) why).group (map paired are)
       ∙ ap (of_parts 0) (map-map (drop_causes why) paired are)
 
 -- the outer ring of a polygon and then its holes, which have no mark

@@ -4,10 +4,12 @@ pub mod Along
 pub mod BestRing
 pub mod Chosen
 pub mod Counted
-pub mod DraftAtZero
+pub mod DraftDrops
+pub mod Drafted
 pub mod DraftUses
 pub mod Drops
 pub mod Enclosed
+pub mod Full
 pub mod InPlaces
 pub mod KeptParts
 pub mod LeftOut

@@ -3,21 +3,28 @@
 use Rattle.std.specs.Prelude.{ℕ, ℤ, Bool, false, List, [], ◌∷◌, Option, None, Some}
 use Rattle.std.specs.List.{list_any}
 use Rattle.geometry.specs.Lists.{then_some}
+use Rattle.geometry.specs.Points.{Point}
 use Rattle.geometry.specs.Pruning.{prune, option_lines_and_rings}
 use Rattle.build_meaning.specs.OuterRings.{marked}
 use Rattle.build_meaning.specs.Protected.{MarkedRefs}
-use Rattle.build_meaning.specs.Simplified.{Refs, large_refs}
+use Rattle.build_meaning.specs.Simplified.{Refs, large_refs, objects_pruned}
 use Rattle.topojson_types.specs.declared.object.TopoObject.{TopoObject}
-use Rattle.topojson_types.specs.Topologies.{TopoShape, features_lines_and_rings, object_features}
+use Rattle.topojson_types.specs.declared.transform.Transform.{Transform}
+use Rattle.topojson_types.specs.Topologies.{TopoShape, Contents, features_lines_and_rings, object_features}
 use Rattle.topo_model.specs.Along.{Ways, object_along}
 use Rattle.topo_model.specs.ArcUses.{any_uses}
 use Rattle.topo_model.specs.Marks.{names_arc}
+use Rattle.topo_model.specs.Parts.{contents}
 use Rattle.topo_model.specs.Rebuilding.{Rebuilding}
 
 -- the arc indexes of a line or ring, if it has any
 abbrev pub with_refs : Refs
 with_refs closed [] = None
 with_refs closed (r ∷ refs) = Some (r ∷ refs)
+
+-- the topology for which a draft stands: its lines and rings without an arc index are left out, and so are the holes of such rings
+abbrev pub draft_contents : List (List ℕ × TopoObject) → List (List Point) → Option Transform → Contents
+draft_contents os arcs transform = contents (objects_pruned with_refs os) arcs transform
 
 -- those of one that isn't small where it is rebuilt of arcs, if there are any, and else those of one that has any
 abbrev pub refs_at_first : Option Rebuilding → Refs

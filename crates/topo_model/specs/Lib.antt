@@ -1,6 +1,5 @@
 pub mod Along
 pub mod ArcUses
-pub mod DraftLaws
 pub mod DraftUses
 pub mod Drafts
 pub mod Drops

@@ -1,5 +1,5 @@
 -- Arcs of which only some positions are left.
-use Rattle.std.specs.Prelude.{◌≡◌, ℕ, Bool, List, Option, length, map}
+use Rattle.std.specs.Prelude.{◌≡◌, ℕ, List, Option, length, map}
 use Rattle.build_meaning.specs.BuiltLaws.{AreSound}
 use Rattle.build_meaning.specs.Layers.{Named, layers_of, names_of}
 use Rattle.geometry.specs.Points.{Point}
@@ -16,7 +16,6 @@ use Rattle.topo_model.specs.Drafts.{objects_drafted}
 use Rattle.topo_model.specs.Drops.{judged_refs}
 use Rattle.topo_model.specs.Parts.{contents}
 use Rattle.topo_model.specs.Rebuilding.{Rebuilding}
-use Rattle.topo_model.specs.Ways.{ways_under}
 
 -- of each of the arcs the positions of some numbers, which begin with its first and end with its last
 pub record AreRetained (arcs retained : List (List Point)) : Type 0 where
@@ -37,15 +36,12 @@ pub record IsDraftOf (ls : Named) (objects : List (List ℕ × TopoObject)) : Ty
   pub sound : AreSound ls
   pub names : AreDistinct (names_of ls)
 
--- they are the draft of some layers, of whose arcs these are retained, each of which had so many positions; and where shapes stay these are the
--- ways to the rings of its features that enclose most, and else there are none
-pub record IsDraft (objects : List (List ℕ × TopoObject)) (retained : List (List Point)) (counts : List ℕ) (ways : Ways) : Type 0 where
+-- they are the draft of some layers, of whose arcs these are retained, each of which had so many positions
+pub record IsDraft (objects : List (List ℕ × TopoObject)) (retained : List (List Point)) (counts : List ℕ) : Type 0 where
   pub layers : Named
-  pub keep_shapes : Bool
   pub of_layers : IsDraftOf layers objects
   pub retained_are : AreRetained (arcs_of_layers layers) retained
   pub counts_are : counts ≡ map length (arcs_of_layers layers)
-  pub ways_are : ways ≡ ways_under keep_shapes (arcs_of_layers layers) objects
 
 -- objects over retained cells, whose features have these ways, stand for other objects and arcs in which rings are protected: the same is
 -- left of both without what is small, where theirs may go at first, too

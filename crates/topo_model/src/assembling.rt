@@ -1,19 +1,16 @@
 // The topology of layers over reduced arcs.
-ghost use Rattle.std.specs.Prelude.{◌≡◌, ◌<◌, ◌≤◌, ◌^◌, ℕ, Bool, IfOk, List, length, map};
+ghost use Rattle.std.specs.Prelude.{◌≡◌, ◌<◌, ◌≤◌, ◌^◌, [], ℕ, IfOk, List, length, map};
 ghost use Rattle.arc_table.specs.Arcs.{table_of};
 ghost use Rattle.build_meaning.specs.BuiltLaws.{AreSound};
 ghost use Rattle.build_meaning.specs.Layers.{Named, layers_of, names_of};
 ghost use Rattle.build_meaning.specs.Assembled.{arcs_of_layers, assembled, assembled_dropped, assembled_removed_count};
-ghost use Rattle.build_meaning.specs.LeftOfLayers.{assembled_by};
 ghost use Rattle.build_meaning.specs.Simplified.{EachFromFirstToLast, retained_arcs};
 ghost use Rattle.byte_ends.specs.Ends.{saturated};
 ghost use Rattle.cutter.specs.Slices.{split_of};
-ghost use Rattle.geometry.specs.Lists.{map_some};
 ghost use Rattle.geometry.specs.Units.{threshold_limit};
 ghost use Rattle.linework.specs.Linework.{linework};
 ghost use Rattle.topojson_types.specs.Validity.{AreDistinct};
 ghost use Rattle.topo_model.specs.Retaining.{IsDraft, IsDraftOf};
-ghost use Rattle.topo_model.specs.Ways.{ways_under};
 
 use crate::filling::filled;
 use crate::finishing::finish;
@@ -22,7 +19,7 @@ use crate::left::{Left, Retained};
 use crate::position_counting::position_counts;
 use crate::taking_apart::take_apart;
 use arc_table::Table;
-use build_meaning::{assembled_is_of_lines, unprotected_is_assembled};
+use build_meaning::unprotected_is_simplified;
 use elimination_meaning::{ends_stay, nothing_is_new, zero_law};
 use extraction::ExtractedLayer;
 use geojson_types::{Dropped, Layer};
@@ -33,33 +30,31 @@ use std::alloc::Global;
 use topojson_types::{TopoObject, Topology};
 
 /// What is left of a draft of layers over the arcs of their lines, of which these cells stay. Lines and rings that are then left with too few
-/// positions, and rings of which twice the area is under the limit (in square units), are left out where they aren't protected, and so are
-/// arcs that no kept line uses.
+/// positions, and rings of which twice the area is under the limit (in square units), are left out, and so are arcs that no kept line uses. No
+/// ring is protected.
 pub fn assemble_draft(
     alloc: Global,
     objects: Vec<(OwnText, TopoObject)>,
     retained: Retained,
     ring_limit: u128,
 ) -> Result<Left, Memory>
-    requires draft { IsDraft objects.items retained.arcs.items retained.counts.items (map (map_some (λ v. v.items)) retained.ways.items) }
+    requires draft { IsDraft objects.items retained.arcs.items retained.counts.items }
+    requires ways { retained.ways.items ≡ [] }
     requires limit { ring_limit ≤ threshold_limit }
-    ensures topology { IfOk result (λ r. (ls : Named) (kept : List (List ℕ)) (keep_shapes : Bool) → IsDraftOf ls objects.items
-        → map (map_some (λ v. v.items)) retained.ways.items ≡ ways_under keep_shapes (arcs_of_layers ls) objects.items
-        → retained.arcs.items ≡ retained_arcs kept (arcs_of_layers ls) → r.topology ≡ (assembled_by keep_shapes kept ring_limit ls).contents) }
-    ensures dropped { IfOk result (λ r. (ls : Named) (kept : List (List ℕ)) (keep_shapes : Bool) → IsDraftOf ls objects.items
-        → map (map_some (λ v. v.items)) retained.ways.items ≡ ways_under keep_shapes (arcs_of_layers ls) objects.items
-        → retained.arcs.items ≡ retained_arcs kept (arcs_of_layers ls) → r.dropped.items ≡ (assembled_by keep_shapes kept ring_limit ls).dropped) }
-    ensures removed_count { IfOk result (λ r. (ls : Named) (kept : List (List ℕ)) (keep_shapes : Bool) → IsDraftOf ls objects.items
-        → map (map_some (λ v. v.items)) retained.ways.items ≡ ways_under keep_shapes (arcs_of_layers ls) objects.items
+    ensures topology { IfOk result (λ r. (ls : Named) (kept : List (List ℕ)) → IsDraftOf ls objects.items
+        → retained.arcs.items ≡ retained_arcs kept (arcs_of_layers ls) → r.topology ≡ assembled kept ring_limit ls) }
+    ensures dropped { IfOk result (λ r. (ls : Named) (kept : List (List ℕ)) → IsDraftOf ls objects.items
+        → retained.arcs.items ≡ retained_arcs kept (arcs_of_layers ls) → r.dropped.items ≡ assembled_dropped kept ring_limit ls) }
+    ensures removed_count { IfOk result (λ r. (ls : Named) (kept : List (List ℕ)) → IsDraftOf ls objects.items
         → retained.arcs.items ≡ retained_arcs kept (arcs_of_layers ls) → retained.counts.items ≡ map length (arcs_of_layers ls)
-        → r.removed_count ≡ saturated (assembled_by keep_shapes kept ring_limit ls).removed_count) }
+        → r.removed_count ≡ saturated (assembled_removed_count kept ring_limit ls)) }
     ensures chosen { IfOk result (λ r. r.chosen ≡ retained.chosen) }
     ensures few { IfOk result (λ r. length r.topology.arcs < 2 ^ 63) }
 {
     zero_law();
     ends_stay();
     nothing_is_new();
-    assembled_is_of_lines();
+    unprotected_is_simplified();
     finish(alloc, objects, retained, None, None, ring_limit)
 }
 
@@ -96,7 +91,6 @@ pub fn assemble(
     ensures removed_count { IfOk result (λ r. r.2 ≡ saturated (assembled_removed_count (map (λ k. k.items) kept.now) ring_limit layers.items)) }
     ensures few { IfOk result (λ r. length r.0.arcs < 2 ^ 63) }
 {
-    unprotected_is_assembled();
     let counts = position_counts(alloc, table.arcs())?;
     let arcs = positions_of_all(alloc, kept, table.arcs())?;
     let (_arcs, refs) = table.into_parts();

@@ -24,7 +24,7 @@ use topojson_types::{ArcRef, TopoFeature, TopoObject, TopoShape};
 
 /// Which of so many arcs the lines and rings of a draft use, without those that have no arc index, and without the polygons whose outer
 /// ring has none.
-pub fn draft_arcs(
+pub(crate) fn draft_arcs(
     alloc: Global,
     objects: &[(OwnText, TopoObject)],
     arcs: usize,

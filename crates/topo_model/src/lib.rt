@@ -15,7 +15,6 @@
 mod assembling;
 mod choosing;
 mod counting;
-mod draft_laws;
 mod draft_uses;
 mod enclosing;
 mod filling;
@@ -40,8 +39,7 @@ mod trimming;
 mod way_steps;
 
 pub use assembling::{assemble, assemble_draft};
-pub use draft_laws::draft_uses_at_zero;
-pub use draft_uses::{draft_arcs, used_at_first};
+pub use draft_uses::used_at_first;
 pub use filling::filled;
 pub use finishing::finish;
 pub use given_numbers::{cells_of_all, positions_of_all};

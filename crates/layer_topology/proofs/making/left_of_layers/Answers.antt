@@ -1,31 +1,33 @@
-use Rattle.std.proofs.Common.{◌∙◌, ap, sym}
+use Rattle.std.proofs.Common.{◌∙◌, ◌++◌, [], cond, ap, sym}
 use Rattle.std.proofs.lemmas.Result.{IfOk-weaker}
 use Rattle.build_meaning.specs.Assembled.{arcs_of_layers}
-use Rattle.layer_topology.specs.Levels.{chosen_for}
-use Rattle.layer_topology.proofs.DraftInTurn.{at_once_first}
-use Rattle.layer_topology.proofs.TurnsLeft.{built_is, layers_as_they_are, no_calls}
+use Rattle.build_meaning.specs.Built.{built}
+use Rattle.build_meaning.specs.InTurn.{without_small}
+use Rattle.layer_topology.specs.Levels.{calls_at, chosen_for}
+use Rattle.layer_topology.proofs.Asked.{over_apart}
+use Rattle.layer_topology.proofs.TurnsLeft.{layers_apart, no_calls}
 use Rattle.layer_topology.proofs.making.left_of_layers.Goals as goal
 
-pub returns-then-goes_first : goal.returns-then-goes_first
-returns-then-goes_first g c =
+pub returns-then-is_at_once : goal.returns-then-is_at_once
+returns-then-is_at_once g c =
     let a = c.args.asked in
+    let once = sym c.is_at_once.ensures ∙ c.if-is_at_once.true in
     record {
-      left = c.left_of_fewer.ensures.left;
-      chosen = c.left_of_fewer.ensures.chosen;
-      called = IfOk-weaker c.left_of_fewer.result _ _
-          (λ r h. no_calls a.guards a.level (arcs_of_layers c.args.layers.items) (g.Q.Reducer.calls c.args.reducer.now) (at_once_first a.guards a.ring_limit (sym c.goes_first.ensures ∙ c.if-goes_first.true)))
-          c.left_of_fewer.ensures.chosen;
-      few = c.left_of_fewer.ensures.few;
+      left = c.left_at_once.ensures.left;
+      chosen = c.left_at_once.ensures.chosen;
+      called = IfOk-weaker c.left_at_once.result _ _ (λ r h. no_calls a.guards a.level (arcs_of_layers c.args.layers.items) (g.Q.Reducer.calls c.args.reducer.now) once) c.left_at_once.ensures.chosen;
+      few = c.left_at_once.ensures.few;
     }
 
 pub returns : goal.returns
 returns g c =
     let a = c.args.asked in
     let ls = c.args.layers.items in
-    let none = sym c.goes_first.ensures ∙ c.if-goes_first.false in
+    let apart = sym c.is_at_once.ensures ∙ c.if-is_at_once.false in
+    let same = over_apart a.guards a.level (without_small a.guards a.ring_limit (built 0 0 ls)) (arcs_of_layers ls) apart in
     record {
-      left = IfOk-weaker c.left_of_drafted.result _ _ (λ r h. layers_as_they_are a.guards a.level a.ring_limit none ls r.topology r.dropped.items r.removed_count h) c.left_of_drafted.ensures.left;
-      chosen = IfOk-weaker c.left_of_drafted.result _ _ (λ r h. h ∙ ap (chosen_for a.level) (built_is a.guards a.level a.ring_limit none ls)) c.left_of_drafted.ensures.chosen;
-      called = c.left_of_drafted.ensures.called;
-      few = c.left_of_drafted.ensures.few;
+      left = IfOk-weaker c.left_apart.result _ _ (λ r h. layers_apart a.guards a.level a.ring_limit ls apart r.topology r.dropped.items r.removed_count h) c.left_apart.ensures.left;
+      chosen = IfOk-weaker c.left_apart.result _ _ (λ r h. h ∙ ap (chosen_for a.level) (sym same)) c.left_apart.ensures.chosen;
+      called = IfOk-weaker c.left_apart.result _ _ (λ r h. h ∙ ap (λ b. g.Q.Reducer.calls c.args.reducer.now ++ cond b [] (calls_at a.level (arcs_of_layers ls))) (sym apart)) c.left_apart.ensures.called;
+      few = c.left_apart.ensures.few;
     }

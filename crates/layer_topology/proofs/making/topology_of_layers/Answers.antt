@@ -18,7 +18,7 @@ pub on_grid-requires-clause-on : goal.on_grid-requires-clause-on
 on_grid-requires-clause-on g c =
     let e = c.snapped_layers-snapped.ensures in
     cells_under c.args.asked.guards _ c.args.asked.ring_limit c.args.grid c.args.layers.items _ _ _ e.grid e.snapped c.in_ok-left.ensures.left.topology_is
-    c.snapped_are_on.ensures c.built_cells_are_on.ensures c.layers_left_are_on.ensures c.without_small_on_grid.ensures c.requires.taken
+    c.snapped_are_on.ensures c.built_cells_are_on.ensures c.without_small_on_grid.ensures c.requires.taken
 
 pub returns : goal.returns
 returns g c =

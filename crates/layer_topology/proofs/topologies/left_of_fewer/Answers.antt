@@ -1,14 +1,15 @@
-use Rattle.std.proofs.Common.{◌≡◌, ◌∙◌, List, Option, ap, refl, subst, sym}
+use Rattle.std.proofs.Common.{◌∙◌, List, Option, ap, subst, sym}
 use Rattle.std.specs.List.{AllByRecursion}
 use Rattle.geometry.specs.Points.{Point}
-use Rattle.layer_topology.proofs.TurnsLeft.{topology_left}
-use Rattle.layer_topology.proofs.Full.{stands_for}
+use Rattle.layer_topology.proofs.DraftInTurn.{at_once_first}
+use Rattle.layer_topology.proofs.TurnsLeft.{threshold_is, topology_left}
+use Rattle.layer_topology.specs.Levels.{chosen_for}
+use Rattle.topo_model.proofs.Full.{stands_for}
 use Rattle.layer_topology.specs.InTurn.{IsLeftInTurn}
 use Rattle.owned_values.proofs.Elements.{all_weaker}
 use Rattle.topojson_types.specs.Decoding.{placed_arcs}
 use Rattle.topojson_types.specs.Topologies.{Contents}
 use Rattle.topojson_types.specs.Validity.{IsArc, IsPlace, IsTopology}
-use Rattle.topojson_types.specs.declared.object.TopoObject.{TopoObject}
 use Rattle.topojson_types.specs.declared.transform.Transform.{Transform}
 use Rattle.layer_topology.proofs.topologies.left_of_fewer.Goals as goal
 
@@ -24,7 +25,7 @@ pub left_in_turn-requires : goal.left_in_turn-requires
 left_in_turn-requires c =
     let parts = c.into_parts-objects.ensures in
     record {
-      first = c.requires.first;
+      at_once = at_once_first c.args.asked.guards c.args.asked.ring_limit c.requires.first;
       level = c.requires.level;
       limit = c.requires.limit;
       valid = subst IsTopology (sym (stands_for _ _ _ c.args.topology (c.into_inner.ensures ∙ parts.objects) (c.as_slice-2.ensures ∙ parts.arcs) parts.transform parts.valid)) parts.valid;
@@ -44,5 +45,5 @@ returns c =
     let is = subst (λ (xs : List _). IsLeftInTurn a.guards a.level a.ring_limit xs y left.topology left.dropped.items left.removed_count left.chosen) objects turned in
     record {
       left = topology_left a.guards a.level a.ring_limit c.requires.first y left.topology left.dropped.items left.removed_count left.chosen parts.valid is;
-      chosen = is.chosen_is;
+      chosen = is.chosen_is ∙ ap (chosen_for a.level) (threshold_is a.guards a.level a.ring_limit c.requires.first y);
     }

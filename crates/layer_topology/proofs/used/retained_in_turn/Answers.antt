@@ -1,6 +1,6 @@
 use Rattle.std.proofs.Common.{map, rules}
 use Rattle.std.specs.Vec.Iter.{into_iter_items}
-use Rattle.layer_topology.proofs.InTurn.{fills_first, fills_more, fills_all}
+use Rattle.layer_topology.proofs.InTurn.{fills_more}
 use Rattle.layer_topology.proofs.used.retained_in_turn.Goals as goal
 
 pub loop-i-preserved : goal.loop-i-preserved

@@ -1,9 +1,7 @@
-use Rattle.std.proofs.Common.{false, length, map, ap, sym, subst, ◌∙◌}
+use Rattle.std.proofs.Common.{length, map, ap, sym, subst, ◌∙◌}
 use Rattle.std.specs.List.{AllByRecursion}
 use Rattle.build_meaning.proofs.Linework.{named_rings}
 use Rattle.build_meaning.specs.Layers.{named_lines_and_rings}
-use Rattle.byte_ends.specs.Ends.{saturated}
-use Rattle.geometry.specs.Lists.{map_some}
 use Rattle.linework.specs.Outlines.{IsRingIfClosed}
 use Rattle.topo_model.specs.Drafts.{no_refs, objects_relined}
 use Rattle.build_meaning.specs.Simplified.{EachFromFirstToLast, retained_arcs}
@@ -22,7 +20,6 @@ assemble_draft-requires-clause-draft c =
     let same = ap (λ t. t.arcs) c.requires.table ∙ table_arcs c.args.layers.items in
     record {
       layers = c.args.layers.items;
-      keep_shapes = false;
       of_layers = draft_of c.args.layers.items c.into_parts-arcs.result.1.items c.in_ok-objects.outlines _ c.in_ok-objects.objects.items c.filled-draft.result.items (c.into_parts-arcs.ensures.refs ∙ ap (λ t. t.refs) c.requires.table)
           c.requires.sound c.requires.names (c.in_ok-objects.ensures.objects ∙ ap (objects_relined no_refs) c.in_ok-extracted.ensures) (c.in_ok-objects.ensures.outlines ∙ ap named_lines_and_rings c.in_ok-extracted.ensures) (c.deref.ensures.value ∙ c.in_ok-_lines.ensures.short) c.filled-draft.ensures;
       retained_are = record {
@@ -31,8 +28,10 @@ assemble_draft-requires-clause-draft c =
         picks = c.in_ok-arcs.ensures ∙ ap (retained_arcs (map (λ k. k.items) c.args.kept.now)) (c.arcs-2.ensures ∙ same);
       };
       counts_are = c.in_ok-counts.ensures ∙ ap (map length) (c.arcs.ensures ∙ same);
-      ways_are = ap (map (map_some (λ v. v.items))) c.new.ensures.items;
     }
+
+pub assemble_draft-requires-clause-ways : goal.assemble_draft-requires-clause-ways
+assemble_draft-requires-clause-ways c = c.new.ensures.items
 
 pub returns : goal.returns
 returns c =
@@ -41,13 +40,11 @@ returns c =
     let same = ap (λ t. t.arcs) c.requires.table ∙ table_arcs ls in
     let draft = draft_of c.args.layers.items c.into_parts-arcs.result.1.items c.in_ok-objects.outlines _ c.in_ok-objects.objects.items c.filled-draft.result.items (c.into_parts-arcs.ensures.refs ∙ ap (λ t. t.refs) c.requires.table)
     c.requires.sound c.requires.names (c.in_ok-objects.ensures.objects ∙ ap (objects_relined no_refs) c.in_ok-extracted.ensures) (c.in_ok-objects.ensures.outlines ∙ ap named_lines_and_rings c.in_ok-extracted.ensures) (c.deref.ensures.value ∙ c.in_ok-_lines.ensures.short) c.filled-draft.ensures in
-    let none = ap (map (map_some (λ v. v.items))) c.new.ensures.items in
     let picks = c.in_ok-arcs.ensures ∙ ap (retained_arcs kept) (c.arcs-2.ensures ∙ same) in
     let left = c.in_ok-left.ensures in
-    let is = c.unprotected_is_assembled.ensures kept c.args.ring_limit ls in
     record {
-      topology = left.topology ls kept false draft none picks ∙ is.contents;
-      dropped = left.dropped ls kept false draft none picks ∙ is.dropped;
-      removed_count = left.removed_count ls kept false draft none picks (c.in_ok-counts.ensures ∙ ap (map length) (c.arcs.ensures ∙ same)) ∙ ap saturated is.removed_count;
+      topology = left.topology ls kept draft picks;
+      dropped = left.dropped ls kept draft picks;
+      removed_count = left.removed_count ls kept draft picks (c.in_ok-counts.ensures ∙ ap (map length) (c.arcs.ensures ∙ same));
       few = left.few;
     }

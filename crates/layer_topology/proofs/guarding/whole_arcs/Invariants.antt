@@ -1,6 +1,0 @@
-use Rattle.std.proofs.Common.{◌≡◌, take}
-use Rattle.layer_topology.proofs.guarding.whole_arcs.Given as goal
-
--- those so far
-abbrev pub invariant-arcs : goal.invariant-arcs
-invariant-arcs l = l.whole.items ≡ take l.arc-index l.arcs

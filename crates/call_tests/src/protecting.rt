@@ -1,10 +1,10 @@
 // Which rings of a topology are asked to stay, and the ways to their polygons. That they are the definition's is proved: these show that memory
 // isn't always refused, and the answers of small maps that were worked out by hand.
 use crate::simplifying::topology_of;
-use owned_values::Items;
+use owned_values::{Items, Memory};
 use std::alloc::Global;
-use topo_model::rings_to_stay;
-use topojson_types::ArcRef;
+use topo_model::{placed_arcs, protected_rings};
+use topojson_types::{ArcRef, Topology};
 
 /// Whether a ring was found at the end of this way.
 fn is_at(way: &Option<Vec<usize>>, steps: &[usize]) -> bool {
@@ -22,10 +22,19 @@ fn is_of(ring: &Items<ArcRef>, written: i64) -> bool {
     }
 }
 
-/// Of the features of the topology of a text the ways to the rings that are to stay, and these rings.
+/// Of the features of a topology the ways to the rings that are to stay, and these rings.
+fn protected_of(
+    alloc: Global,
+    topology: &Topology,
+) -> Result<(Vec<Option<Vec<usize>>>, Vec<Items<ArcRef>>), Memory> {
+    let placed = placed_arcs(alloc, topology.arcs(), topology.transform())?;
+    protected_rings(alloc, topology.objects(), &placed)
+}
+
+/// Those of the topology of a text.
 fn rings_of(alloc: Global, text: &[u8]) -> Option<(Vec<Option<Vec<usize>>>, Vec<Items<ArcRef>>)> {
     let topology = topology_of(alloc, text)?;
-    rings_to_stay(alloc, &topology).ok()
+    protected_of(alloc, &topology).ok()
 }
 
 /// Whether of three features each keeps the ring of the arc with its index, at the end of its way.

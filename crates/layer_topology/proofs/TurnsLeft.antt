@@ -8,15 +8,15 @@ use Rattle.build_meaning.specs.ArcPositions.{arc_positions}
 use Rattle.build_meaning.specs.Assembled.{arcs_of_layers}
 use Rattle.build_meaning.specs.Built.{untrimmed, built}
 use Rattle.build_meaning.specs.BuiltLaws.{AreSound}
-use Rattle.build_meaning.specs.InTurn.{built_left, dropped_in_turn, first_whole, goes_first, indexes_from_first, indexes_in_turn, layers_arcs_left, layers_dropped_in_turn, layers_left_in_turn, left_at_first, left_in_turn, option_caused_in_turn, without_small}
+use Rattle.build_meaning.specs.InTurn.{built_left, dropped_in_turn, goes_first, indexes_from_first, indexes_in_turn, layers_arcs_left, layers_dropped_in_turn, layers_left_in_turn, left_at_first, left_in_turn, option_caused_in_turn, without_small}
 use Rattle.build_meaning.specs.InTurnLaws.{FirstIsLeftAtZero, FirstOfBuilt}
 use Rattle.build_meaning.specs.Layers.{Named}
 use Rattle.build_meaning.specs.Quantized.{named_points}
-use Rattle.build_meaning.specs.Left.{Left, is_at_once, left_indexes, left_of, protection_of}
+use Rattle.build_meaning.specs.Left.{Left, is_at_once, left_indexes, left_of, no_guards, protection_of}
 use Rattle.build_meaning.specs.LeftLaws.{UnguardedIsBuilt, UnprotectedIsSimplified}
+use Rattle.build_meaning.specs.Protected.{spared_dropped}
 use Rattle.build_meaning.specs.Quantized.{AreOn, IsOn}
 use Rattle.build_meaning.specs.Simplified.{retained_arcs}
-use Rattle.build_meaning.specs.Trimming.{trimmed}
 use Rattle.build_meaning.specs.declared.guards.Guards.{Guards}
 use Rattle.byte_ends.specs.Ends.{saturated}
 use Rattle.effective_area.specs.Calls.{Call}
@@ -28,16 +28,17 @@ use Rattle.geometry.specs.Points.{Point}
 use Rattle.geometry.specs.declared.address.Cause.{Cause}
 use Rattle.geometry.specs.declared.address.Dropped.{Dropped}
 use Rattle.guarded_meaning.specs.Laws.{KeptByWeight}
-use Rattle.layer_topology.proofs.Asked.{over_apart, over_once, ways_lead}
+use Rattle.layer_topology.proofs.Asked.{as_none, over_once, ways_lead}
 use Rattle.layer_topology.proofs.AtZero.{left_at}
 use Rattle.layer_topology.proofs.Guarded.{in_turn_is, in_turn_removes}
-use Rattle.layer_topology.specs.InTurn.{IsLeftInTurn, threshold_in_turn}
+use Rattle.layer_topology.specs.InTurn.{IsLeftInTurn, judged_first, threshold_in_turn}
 use Rattle.layer_topology.specs.Levels.{calls_at, calls_over, chosen_for, threshold_at, threshold_of}
 use Rattle.layer_topology.specs.Topologies.{IsLeft}
 use Rattle.layer_topology.specs.Written.{layers_threshold}
 use Rattle.layer_topology.specs.declared.level.Level.{Level}
 use Rattle.topo_model.proofs.DraftDrops.{drops_judged, option_judged}
-use Rattle.topo_model.proofs.Result.{drops_in_turn_are}
+use Rattle.topo_model.proofs.Result.{drops_are, drops_in_turn_are}
+use Rattle.topo_model.specs.Along.{AreWays, Ways}
 use Rattle.topo_model.specs.Drops.{objects_drops}
 use Rattle.topo_model.specs.Rebuilding.{Judging}
 use Rattle.topo_model.specs.Retaining.{IsDraftOf}
@@ -47,58 +48,48 @@ use Rattle.topojson_types.specs.Decoding.{placed_arcs}
 use Rattle.topojson_types.specs.Topologies.{Contents}
 use Rattle.topojson_types.specs.Validity.{IsTopology}
 
--- ---- where nothing goes first
-
-module _ (guards : Guards) (level : Level) (limit : ℕ) (none : goes_first guards limit ≡ false) where
-  pub none_less : (y : Contents) → without_small guards limit y ≡ y
-  none_less y = ap (λ b. cond b (trimmed (first_whole guards limit y)) y) none
-
-  pub as_it_is : (y topology : Contents) (dropped : List Dropped) (removed_count : ℕ) → IsLeft (left_of guards (threshold_of guards level y) limit y) topology dropped removed_count
-      → IsLeft (left_in_turn guards (threshold_of guards level (without_small guards limit y)) limit y) topology dropped removed_count
-  as_it_is y topology dropped removed_count is =
-      let at = λ (n : ℕ) (b : Bool). cond b (record { contents = (left_of guards n limit (without_small guards limit y)).contents; dropped = dropped_in_turn guards n limit y; removed_count = (left_of guards n limit (without_small guards limit y)).removed_count }) (left_of guards n limit y) in
-      subst (λ z. IsLeft (left_in_turn guards (threshold_of guards level z) limit y) topology dropped removed_count) (sym (none_less y))
-      (subst (λ b. IsLeft (at (threshold_of guards level y) b) topology dropped removed_count) (sym none) is)
-
 -- where all arcs are reduced at once no reducer is called
 pub no_calls : (guards : Guards) (level : Level) (arcs : List (List Point)) (calls : List Call) → is_at_once guards ≡ true → calls ≡ calls ++ calls_over guards level arcs
 no_calls guards level arcs calls e = sym (ap (λ b. calls ++ cond b [] (calls_at level arcs)) e ∙ append-nil calls)
 
 -- ---- topologies
 
-dropped_of_topology : (guards : Guards) (t limit : ℕ) (y : Contents) → IsTopology y
-    → objects_drops (record { first = Some (record { arcs = arc_positions y; limit = limit }); later = record { arcs = placed_arcs y.transform (retained_arcs (indexes_in_turn guards t limit y) y.arcs); limit = limit } })
-    0 (ways_under guards.keep_shapes (arc_positions y) y.objects) y.objects ≡ dropped_in_turn guards t limit y
-unfolding dropped_in_turn
-dropped_of_topology guards t limit y valid =
-    drops_in_turn_are (protection_of guards y) (indexes_in_turn guards t limit y) limit y (retained_arcs (indexes_in_turn guards t limit y) y.arcs) refl (ways_under guards.keep_shapes (arc_positions y) y.objects)
-    (ways_lead guards.keep_shapes (arc_positions y) y.objects (ways_under guards.keep_shapes (arc_positions y) y.objects) refl) valid.objects (arc_positions y)
+module _ (guards : Guards) (t limit : ℕ) (y : Contents) (valid : IsTopology y) where
+  abbrev ways_of_rings : Ways
+  ways_of_rings = ways_under guards.keep_shapes (arc_positions y) y.objects
 
-module _ (guards : Guards) (level : Level) (limit : ℕ) (first : goes_first guards limit ≡ true) where
-  first_is : (y : Contents) → left_at_first guards limit y ≡ without_small guards limit y
-  first_is y = ap (λ b. cond b (left_at_first guards limit y) y) (sym first)
+  abbrev left : Bool → Left
+  left b = cond b (record { contents = (left_of guards t limit (without_small guards limit y)).contents; dropped = dropped_in_turn guards t limit y; removed_count = (left_of guards t limit (without_small guards limit y)).removed_count })
+      (left_of guards t limit y)
 
-  pub threshold_is : (y : Contents) → threshold_in_turn guards level limit y ≡ threshold_of guards level (without_small guards limit y)
-  threshold_is y = ap (threshold_of guards level) (first_is y)
+  lead : AreWays (protection_of guards y) ways_of_rings y.objects
+  lead = ways_lead guards.keep_shapes (arc_positions y) y.objects ways_of_rings refl
 
-  -- what is left in turn of a topology
-  abbrev turned : (y : Contents) → ℕ → Bool → Left
-  turned y n b = cond b (record { contents = (left_of guards n limit (without_small guards limit y)).contents; dropped = dropped_in_turn guards n limit y; removed_count = (left_of guards n limit (without_small guards limit y)).removed_count })
-      (left_of guards n limit y)
+  pub topology_drops : (b : Bool) → goes_first guards limit ≡ b
+      → objects_drops (record { first = judged_first b limit (arc_positions y); later = record { arcs = placed_arcs y.transform (retained_arcs (indexes_in_turn guards t limit y) y.arcs); limit = limit } }) 0 ways_of_rings y.objects ≡ (left b).dropped
+  unfolding dropped_in_turn left_of
+  topology_drops true e = drops_in_turn_are (protection_of guards y) (indexes_in_turn guards t limit y) limit y (retained_arcs (indexes_in_turn guards t limit y) y.arcs) refl ways_of_rings lead valid.objects (arc_positions y)
+  topology_drops false e =
+      drops_are (protection_of guards y) (indexes_in_turn guards t limit y) limit y (retained_arcs (indexes_in_turn guards t limit y) y.arcs) refl ways_of_rings lead valid.objects
+      ∙ ap (λ b. spared_dropped (protection_of guards y) (cond b (indexes_from_first guards t limit y) (left_indexes guards t y)) limit y) e
 
-  pub topology_left : (y topology : Contents) (dropped : List Dropped) (removed_count : ℕ) (chosen : Option ℕ) → IsTopology y → IsLeftInTurn guards level limit y.objects y topology dropped removed_count chosen
-      → IsLeft (left_in_turn guards (threshold_of guards level (without_small guards limit y)) limit y) topology dropped removed_count
-  topology_left y topology dropped removed_count chosen valid is =
-      let t = threshold_in_turn guards level limit y in
-      let arcs : List (List ℕ) → List (List Point) = λ kept. placed_arcs y.transform (retained_arcs kept y.arcs) in
-      let drops : List (List Point) → List Dropped = λ later. objects_drops (record { first = Some (record { arcs = arc_positions y; limit = limit }); later = record { arcs = later; limit = limit } }) 0 (ways_under guards.keep_shapes (arc_positions y) y.objects) y.objects in
-      subst (λ n. IsLeft (turned y n (goes_first guards limit)) topology dropped removed_count) (threshold_is y)
-      (subst (λ b. IsLeft (turned y t b) topology dropped removed_count) (sym first)
-      (record {
-        topology_is = is.topology_is ∙ ap (λ z. (left_of guards t limit z).contents) (first_is y);
-        dropped_are = is.dropped_are ∙ ap (λ b. drops (arcs (cond b (indexes_from_first guards t limit y) (left_indexes guards t y)))) (sym first) ∙ dropped_of_topology guards t limit y valid;
-        count_is = is.count_is ∙ ap (λ z. saturated (left_of guards t limit z).removed_count) (first_is y);
-      }))
+-- without a guard it is left as each arc is reduced by itself
+pub topology_apart : (guards : Guards) (level : Level) (limit : ℕ) (y : Contents) → is_at_once guards ≡ false → (topology : Contents) (dropped : List Dropped) (removed_count : ℕ)
+    → IsLeft (left_of no_guards (threshold_at level (arc_positions y)) limit y) topology dropped removed_count → IsLeft (left_in_turn guards (threshold_of guards level (without_small guards limit y)) limit y) topology dropped removed_count
+topology_apart guards level limit y apart topology dropped removed_count is =
+    subst (λ (u : Guards). IsLeft (left_in_turn u (threshold_of u level (without_small u limit y)) limit y) topology dropped removed_count) (sym (as_none guards apart)) is
+
+-- what is left of a topology as small rings go first or not
+pub topology_left : (guards : Guards) (level : Level) (limit : ℕ) (y topology : Contents) (dropped : List Dropped) (removed_count : ℕ) (chosen : Option ℕ) → IsTopology y
+    → IsLeftInTurn (goes_first guards limit) guards level limit y.objects y topology dropped removed_count chosen
+    → IsLeft (left_in_turn guards (threshold_of guards level (without_small guards limit y)) limit y) topology dropped removed_count
+topology_left guards level limit y topology dropped removed_count chosen valid is =
+    let t = threshold_of guards level (without_small guards limit y) in
+    record {
+      topology_is = is.topology_is ∙ in_turn_is guards t limit y;
+      dropped_are = is.dropped_are ∙ topology_drops guards t limit y valid (goes_first guards limit) refl;
+      count_is = is.count_is ∙ ap saturated (in_turn_removes guards t limit y);
+    }
 
 -- ---- layers
 
@@ -106,9 +97,7 @@ module _ (guards : Guards) (level : Level) (limit : ℕ) (first : goes_first gua
 pub layers_apart : (guards : Guards) (level : Level) (limit : ℕ) (ls : Named) → is_at_once guards ≡ false → (topology : Contents) (dropped : List Dropped) (removed_count : ℕ)
     → IsLeft (built_left (threshold_at level (arcs_of_layers ls)) limit ls) topology dropped removed_count → IsLeft (layers_left_in_turn guards (layers_threshold guards level limit ls) limit ls) topology dropped removed_count
 layers_apart guards level limit ls apart topology dropped removed_count is =
-    let turned : ℕ → Left = λ n. record { contents = (left_in_turn guards n limit (built 0 0 ls)).contents; dropped = layers_dropped_in_turn guards n limit ls; removed_count = (left_in_turn guards n limit (built 0 0 ls)).removed_count } in
-    subst (λ n. IsLeft (layers_left_in_turn guards n limit ls) topology dropped removed_count) (sym (over_apart guards level (without_small guards limit (built 0 0 ls)) (arcs_of_layers ls) apart))
-    (subst (λ b. IsLeft (cond b (turned (threshold_at level (arcs_of_layers ls))) (built_left (threshold_at level (arcs_of_layers ls)) limit ls)) topology dropped removed_count) (sym apart) is)
+    subst (λ (u : Guards). IsLeft (layers_left_in_turn u (layers_threshold u level limit ls) limit ls) topology dropped removed_count) (sym (as_none guards apart)) is
 
 -- at a limit of zero nothing goes at first of what is built of layers
 free : (ls : Named) → AreOn None ls
@@ -130,16 +119,16 @@ module _ (stays : ZeroLaw) (by_weight : KeptByWeight) (plain : UnprotectedIsSimp
       sym (of_built guards limit ls sound) ∙ either_way limit (nat_lt 0 limit) refl
       ∙ sym (ap (λ b. cond (b && nat_lt 0 limit) (left_at_first guards limit (built 0 0 ls)) (built 0 0 ls)) once)
 
-  threshold_same : (level : Level) → threshold_in_turn guards level limit (untrimmed 0 0 ls) ≡ layers_threshold guards level limit ls
+  threshold_same : (level : Level) → threshold_in_turn true guards level limit (untrimmed 0 0 ls) ≡ layers_threshold guards level limit ls
   threshold_same level =
       ap (threshold_of guards level) full_is
       ∙ over_once guards level (without_small guards limit (built 0 0 ls)) (arc_positions (without_small guards limit (built 0 0 ls))) once
       ∙ sym (over_once guards level (without_small guards limit (built 0 0 ls)) (arcs_of_layers ls) once)
 
   module _ (level : Level) (objects : List (List ℕ × TopoObject)) (draft : IsDraftOf ls objects) (topology : Contents) (dropped : List Dropped) (removed_count : ℕ) (chosen : Option ℕ)
-      (is : IsLeftInTurn guards level limit objects (untrimmed 0 0 ls) topology dropped removed_count chosen) where
+      (is : IsLeftInTurn true guards level limit objects (untrimmed 0 0 ls) topology dropped removed_count chosen) where
     abbrev t : ℕ
-    t = threshold_in_turn guards level limit (untrimmed 0 0 ls)
+    t = threshold_in_turn true guards level limit (untrimmed 0 0 ls)
 
     pub layers_chosen : chosen ≡ chosen_for level (layers_threshold guards level limit ls)
     layers_chosen = is.chosen_is ∙ ap (chosen_for level) (threshold_same level)
@@ -151,9 +140,9 @@ module _ (stays : ZeroLaw) (by_weight : KeptByWeight) (plain : UnprotectedIsSimp
     option_same None = refl
     option_same (Some s) = refl
 
-    drops_are : dropped ≡ layers_dropped_in_turn guards t limit ls
+    layers_drops : dropped ≡ layers_dropped_in_turn guards t limit ls
     unfolding layers_dropped_in_turn
-    drops_are =
+    layers_drops =
         is.dropped_are
         ∙ ap (λ arcs. objects_drops (judging arcs) 0 (ways_under guards.keep_shapes arcs objects) objects) (each_stays stays (arcs_of_layers ls))
         ∙ drops_judged ls guards.keep_shapes (judging (arcs_of_layers ls)) stays sound objects (ways_under guards.keep_shapes (arcs_of_layers ls) objects) draft.drafted
@@ -169,7 +158,7 @@ module _ (stays : ZeroLaw) (by_weight : KeptByWeight) (plain : UnprotectedIsSimp
         (record {
           topology_is = is.topology_is ∙ ap (λ y. (left_of guards t limit y).contents) full_is ∙ ap (λ k. (left_of guards k limit (without_small guards limit (built 0 0 ls))).contents) e
               ∙ in_turn_is guards n limit (built 0 0 ls);
-          dropped_are = drops_are ∙ ap (λ k. layers_dropped_in_turn guards k limit ls) e;
+          dropped_are = layers_drops ∙ ap (λ k. layers_dropped_in_turn guards k limit ls) e;
           count_is = is.count_is ∙ ap (λ y. saturated (left_of guards t limit y).removed_count) full_is ∙ ap (λ k. saturated (left_of guards k limit (without_small guards limit (built 0 0 ls))).removed_count) e
               ∙ ap saturated (in_turn_removes guards n limit (built 0 0 ls));
         })

@@ -42,7 +42,7 @@ use json_value::{Items, OwnText};
 use linework::{Lines, Outlines, Vertices, lines_of_outlines};
 use owned_values::Memory;
 use std::alloc::Global;
-use topo_model::{Left, Retained, assemble_draft, filled, position_counts, take_apart};
+use topo_model::{Left, Rebuilding, Retained, assemble_draft, filled, position_counts, take_apart};
 use topojson_types::TopoObject;
 
 /// Lines and rings, cut. What was known of their positions is given back.
@@ -169,7 +169,8 @@ fn left_at_once(
     let (objects, arcs) = draft_and_arcs(alloc, seed, layers)?;
     let cells = whole_arcs(alloc, &arcs)?;
     drop(arcs);
-    let left = left_in_turn(alloc, objects, &cells, &cells, None, asked)?;
+    let first = Rebuilding::of(alloc, &cells, asked.ring_limit)?;
+    let left = left_in_turn(alloc, objects, &cells, &cells, None, Some(&first), asked)?;
     Ok(left)
 }
 

@@ -3,43 +3,31 @@ ghost use Rattle.std.specs.Prelude.{◌≡◌, ◌<◌, ◌≤◌, ◌∷◌, �
 ghost use Rattle.std.specs.List.{AllByRecursion};
 ghost use Rattle.std.specs.Option.{option_copied};
 ghost use Rattle.build_meaning.specs.ArcPositions as spec;
-ghost use Rattle.build_meaning.specs.InTurn.{goes_first as goes_first_of, left_in_turn as left_in_turn_of, without_small};
-ghost use Rattle.build_meaning.specs.Left as meaning;
-ghost use Rattle.build_meaning.specs.Left.{is_at_once as is_at_once_of, left_by, left_indexes, left_of, no_guards};
-ghost use Rattle.build_meaning.specs.Protected.{Protection};
-ghost use Rattle.build_meaning.specs.ProtectedRings.{CanStay};
-ghost use Rattle.build_meaning.specs.Simplified.{EachFromFirstToLast, retained, retained_arcs};
-ghost use Rattle.build_meaning.specs.Thresholds.{placed_cells, reduced_indexes};
+ghost use Rattle.build_meaning.specs.InTurn.{left_in_turn as left_in_turn_of, without_small};
+ghost use Rattle.build_meaning.specs.Left.{is_at_once as is_at_once_of, left_of, no_guards};
+ghost use Rattle.build_meaning.specs.Simplified.{retained, retained_arcs};
+ghost use Rattle.build_meaning.specs.Thresholds.{placed_cells};
 ghost use Rattle.effective_area.specs.Calls.{call_at, calls_for};
 ghost use Rattle.elimination_meaning.specs.Elimination.{reduce};
-ghost use Rattle.geometry.specs.Lists.{map_some};
 ghost use Rattle.geometry.specs.Units.{threshold_limit};
 ghost use Rattle.layer_topology.specs.Levels.{calls_at, calls_over, chosen_for, is_simplifying_level, threshold_at, threshold_of};
 ghost use Rattle.layer_topology.specs.Topologies.{IsLeft};
 ghost use Rattle.layer_topology.specs.declared.level.Level.TheVariants.{Share};
-ghost use Rattle.topo_model.specs.Along.{AreWays, Protect};
-ghost use Rattle.topo_model.specs.Ways.{ways_under};
 ghost use Rattle.topojson_types.specs.Decoding.{placed_arcs};
 ghost use Rattle.topojson_types.specs.Validity.{IsArc};
 
-use crate::at_once::kept_at_once;
 use crate::choosing::{kept_by_share, reduced_line};
-use crate::in_turn::{Protected, goes_first, is_at_once, left_in_turn};
+use crate::in_turn::{is_at_once, left_judged};
 use crate::level::Level;
 use crate::reduction::Reduction;
-use build_meaning::{
-    Guards, indexes_reach, left_indexes_reach, unguarded_is_simplified, unprotected_is_simplified,
-};
+use build_meaning::{indexes_reach, unguarded_is_simplified};
 use effective_area::Reducer;
 use elimination_meaning::indexes_rise;
 use geojson_types::Position;
 use json_value::Items;
 use owned_values::Memory;
 use std::alloc::Global;
-use topo_model::{
-    Left, Retained, cells_of_all, placed_arcs, position_counts, reassemble, retained_arc,
-    rings_to_stay,
-};
+use topo_model::{Left, Reduces, Retained, placed_arcs, position_counts, reassemble, retained_arc};
 use topojson_types::{Cell, Topology, Transform, positions};
 
 /// The positions that each of these arcs stands for.
@@ -56,141 +44,6 @@ pub fn arc_positions(
         lines.push(positions(alloc, transform, arc.as_slice())?)?;
     }
     Ok(lines)
-}
-
-/// Of each arc of a topology the numbers of the cells that stay, for each feature the way to its protected ring, or none at all where no shape has
-/// to stay, and the threshold, where it was chosen.
-#[derive(Drop)]
-struct Kept {
-    numbers: Vec<Vec<usize>>,
-    ways: Vec<Option<Vec<usize>>>,
-    chosen: Option<u128>,
-}
-
-/// The rings of a topology that have to stay under these guards.
-fn protected_of(alloc: Global, topology: &Topology, guards: Guards) -> Result<Protected, Memory>
-    ensures ways { IfOk result
-        (λ r. map (map_some (λ w. w.items)) r.ways.items ≡ ways_under guards.keep_shapes (spec.arc_positions topology.now) topology.now.objects) }
-    ensures rings { IfOk result (λ r. r.rings.items ≡ meaning.rings_to_stay guards topology.now) }
-    ensures can_stay { IfOk result (λ r. CanStay (spec.arc_positions topology.now) r.rings.items) }
-{
-    if guards.keep_shapes {
-        let (ways, rings) = rings_to_stay(alloc, topology)?;
-        Ok(Protected { ways, rings })
-    } else {
-        Ok(Protected {
-            ways: Vec::new(alloc),
-            rings: Vec::new(alloc),
-        })
-    }
-}
-
-/// What stays where all arcs are reduced at once under these guards.
-fn kept_under(
-    alloc: Global,
-    topology: &Topology,
-    guards: Guards,
-    level: Level,
-) -> Result<Kept, Memory>
-    requires at_once { is_at_once_of guards ≡ true }
-    requires level { is_simplifying_level level ≡ true }
-    ensures kept { IfOk result (λ r. map (λ k. k.items) r.numbers.items ≡ left_indexes guards (threshold_of guards level topology.now) topology.now) }
-    ensures ways { IfOk result
-        (λ r. map (map_some (λ w. w.items)) r.ways.items ≡ ways_under guards.keep_shapes (spec.arc_positions topology.now) topology.now.objects) }
-    ensures chosen { IfOk result (λ r. r.chosen ≡ chosen_for level (threshold_of guards level topology.now)) }
-{
-    let Protected { ways, rings } = protected_of(alloc, topology, guards)?;
-    let lines = arc_positions(alloc, topology.transform(), topology.arcs())?;
-    let (numbers, chosen) = kept_at_once(alloc, &lines, guards.no_crossings, &rings, level)?;
-    Ok(Kept {
-        numbers,
-        ways,
-        chosen,
-    })
-}
-
-/// What stays where each arc is reduced by itself at the greatest threshold that keeps a share.
-fn kept_apart(alloc: Global, topology: &Topology, p: u64, q: u64) -> Result<Kept, Memory>
-    requires whole { 0 < q }
-    requires part { p ≤ q }
-    ensures kept { IfOk result
-        (λ r. map (λ k. k.items) r.numbers.items ≡ reduced_indexes (threshold_at (Share p q) (spec.arc_positions topology.now)) topology.now) }
-    ensures ways { IfOk result (λ r. r.ways.items ≡ []) }
-    ensures chosen { IfOk result (λ r. r.chosen ≡ Some (threshold_at (Share p q) (spec.arc_positions topology.now))) }
-{
-    let lines = arc_positions(alloc, topology.transform(), topology.arcs())?;
-    let (numbers, threshold) = kept_by_share(alloc, &lines, p, q)?;
-    Ok(Kept {
-        numbers,
-        ways: Vec::new(alloc),
-        chosen: Some(threshold),
-    })
-}
-
-/// The cells that stay of the arcs of a topology.
-fn retained_of(alloc: Global, topology: &Topology, kept: Kept) -> Result<Retained, Memory>
-    requires { length kept.numbers.items ≡ length topology.now.arcs }
-    ensures arcs { IfOk result (λ r. r.arcs.items ≡ retained_arcs (map (λ k. k.items) kept.numbers.items) topology.now.arcs) }
-    ensures counts { IfOk result (λ r. r.counts.items ≡ map length topology.now.arcs) }
-    ensures ways { IfOk result (λ r. r.ways.items ≡ kept.ways.items) }
-    ensures chosen { IfOk result (λ r. r.chosen ≡ kept.chosen) }
-{
-    let Kept {
-        numbers,
-        ways,
-        chosen,
-    } = kept;
-    let counts = position_counts(alloc, topology.arcs())?;
-    let arcs = cells_of_all(alloc, &numbers, topology.arcs())?;
-    Ok(Retained {
-        arcs,
-        counts,
-        ways,
-        chosen,
-    })
-}
-
-/// What is left of a topology where of each arc the cells with these numbers stay, the rings at the ends of ways are protected, and other rings
-/// under the limit are left out.
-fn left_with(
-    alloc: Global,
-    topology: Topology,
-    kept: Kept,
-    ring_limit: u128,
-) -> Result<Left, Memory>
-    requires kept { EachFromFirstToLast (map (λ k. k.items) kept.numbers.items) topology.arcs }
-    requires limit { ring_limit ≤ threshold_limit }
-    requires ways { Protect (map (map_some (λ v. v.items)) kept.ways.items) topology.objects }
-    ensures left { IfOk result (λ r. (protects : Protection) → AreWays protects (map (map_some (λ v. v.items)) kept.ways.items) topology.objects
-        → IsLeft (left_by protects (map (λ k. k.items) kept.numbers.items) ring_limit topology) r.topology r.dropped.items r.removed_count) }
-    ensures chosen { IfOk result (λ r. r.chosen ≡ kept.chosen) }
-{
-    let retained = retained_of(alloc, &topology, kept)?;
-    let (objects, arcs, transform) = topology.into_parts();
-    drop(arcs);
-    let left = reassemble(alloc, objects, transform, retained, ring_limit)?;
-    Ok(left)
-}
-
-/// What is left of a topology where all arcs are reduced at once under these guards.
-fn left_at_once(
-    alloc: Global,
-    topology: Topology,
-    guards: Guards,
-    level: Level,
-    ring_limit: u128,
-) -> Result<Left, Memory>
-    requires at_once { is_at_once_of guards ≡ true }
-    requires level { is_simplifying_level level ≡ true }
-    requires limit { ring_limit ≤ threshold_limit }
-    ensures left { IfOk result
-        (λ r. IsLeft (left_of guards (threshold_of guards level topology) ring_limit topology) r.topology r.dropped.items r.removed_count) }
-    ensures chosen { IfOk result (λ r. r.chosen ≡ chosen_for level (threshold_of guards level topology)) }
-{
-    left_indexes_reach();
-    let kept = kept_under(alloc, &topology, guards, level)?;
-    let left = left_with(alloc, topology, kept, ring_limit)?;
-    Ok(left)
 }
 
 /// What is left of a topology where each arc is reduced by itself at the greatest threshold that keeps a share.
@@ -211,10 +64,16 @@ fn left_by_share(
 {
     indexes_reach();
     unguarded_is_simplified();
-    unprotected_is_simplified();
-    let kept = kept_apart(alloc, &topology, p, q)?;
-    let left = left_with(alloc, topology, kept, ring_limit)?;
-    Ok(left)
+    let lines = arc_positions(alloc, topology.transform(), topology.arcs())?;
+    let (numbers, threshold) = kept_by_share(alloc, &lines, p, q)?;
+    drop(lines);
+    let (topology, dropped, removed_count) = topology.reduce(alloc, &numbers, ring_limit)?;
+    Ok(Left {
+        topology,
+        dropped,
+        removed_count,
+        chosen: Some(threshold),
+    })
 }
 
 /// The positions of an arc without a transform, which are its cells. The arc is freed.
@@ -336,7 +195,6 @@ fn left_at<Q: Reducer>(
 {
     indexes_reach();
     unguarded_is_simplified();
-    unprotected_is_simplified();
     let (objects, arcs, transform) = topology.into_parts();
     let retained = retained_by_itself(alloc, reducer, transform.as_ref(), arcs.into_inner(), t)?;
     let left = reassemble(alloc, objects, transform, retained, ring_limit)?;
@@ -366,10 +224,10 @@ fn left_apart<Q: Reducer>(
     }
 }
 
-/// What is left of a topology where small rings go first.
-fn left_of_fewer(alloc: Global, topology: Topology, asked: Reduction) -> Result<Left, Memory>
+/// What is left of a topology where all arcs are reduced at once.
+fn left_at_once(alloc: Global, topology: Topology, asked: Reduction) -> Result<Left, Memory>
+    requires at_once { is_at_once_of asked.guards ≡ true }
     requires level { is_simplifying_level asked.level ≡ true }
-    requires first { goes_first_of asked.guards asked.ring_limit ≡ true }
     requires limit { asked.ring_limit ≤ threshold_limit }
     ensures left { IfOk result
         (λ r. IsLeft (left_in_turn_of asked.guards (threshold_of asked.guards asked.level (without_small asked.guards asked.ring_limit topology)) asked.ring_limit topology)
@@ -378,7 +236,7 @@ fn left_of_fewer(alloc: Global, topology: Topology, asked: Reduction) -> Result<
 {
     let (objects, arcs, transform) = topology.into_parts();
     let placed = placed_arcs(alloc, arcs.as_slice(), transform.as_ref())?;
-    let left = left_in_turn(
+    let left = left_judged(
         alloc,
         objects.into_inner(),
         arcs.as_slice(),
@@ -407,16 +265,8 @@ pub fn left_of_topology<Q: Reducer>(
     ensures called { IfOk result (λ _. Q.calls reducer.new
         ≡ Q.calls reducer.old ++ calls_over asked.guards asked.level (map (placed_cells topology.transform) topology.arcs)) }
 {
-    let Reduction {
-        guards,
-        level,
-        ring_limit,
-    } = asked;
-    if goes_first(asked) {
-        return left_of_fewer(alloc, topology, asked);
+    if is_at_once(asked.guards) {
+        return left_at_once(alloc, topology, asked);
     }
-    if is_at_once(guards) {
-        return left_at_once(alloc, topology, guards, level, ring_limit);
-    }
-    left_apart(alloc, reducer, topology, level, ring_limit)
+    left_apart(alloc, reducer, topology, asked.level, asked.ring_limit)
 }

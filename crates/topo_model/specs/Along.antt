@@ -79,8 +79,3 @@ objects_placed place kept os = map (λ o. (o.0, object_placed place kept o.1)) o
 -- the ways lead to the protected rings of the features, or no ring is protected, and there are none
 abbrev pub AreWays : Protection → Ways → List (List ℕ × TopoObject) → Type 0
 AreWays protects ways os = (ways ≡ ways_of protects os) ⊎ ((protects ≡ no_protection) × (ways ≡ []))
-
--- they lead to the rings of some protection
-pub record Protect (ways : Ways) (os : List (List ℕ × TopoObject)) : Type 0 where
-  pub protects : Protection
-  pub are : AreWays protects ways os

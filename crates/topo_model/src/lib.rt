@@ -5,7 +5,7 @@
 //! arcs is given as `Retained`, and `Left` is what comes back. What is left of an arc is made of it alone (`retained_positions`,
 //! `retained_arc`), so that it can be freed before the next is reduced; `assemble` and `Reduces::reduce` are for who has the numbers of all
 //! arcs at once. Where in each feature a ring is protected, it is named by the way to its polygon, and stays; where none is, no ways are given.
-//! `rings_to_stay` finds the rings of a topology that are protected. It stands on `build_meaning`, which says what topology that is and when it
+//! `protected_rings` finds the rings that are protected. It stands on `build_meaning`, which says what topology that is and when it
 //! is what is built of the layers, and on `arc_table`. The layers above use the contracts of `take_apart`, `filled`, `assemble_draft` and of
 //! `reassemble`, and put cells in the place of positions by `prune_objects`. Where small rings go first they make a `Rebuilding` of the arcs as
 //! they stand, learn which arcs are used without the lines and rings that are small then (`used_at_first`), and have each line judged by it
@@ -47,7 +47,7 @@ pub use leaving_out::prune_objects;
 pub use left::{Left, Retained};
 pub use placing::placed_arcs;
 pub use position_counting::position_counts;
-pub use protecting::{protected_rings, rings_to_stay};
+pub use protecting::protected_rings;
 pub use pruning::Keeps;
 pub use reassembling::reassemble;
 pub use rebuilding::Rebuilding;

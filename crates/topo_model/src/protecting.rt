@@ -1,26 +1,19 @@
 // The protected rings of topologies, feature by feature.
 ghost use Rattle.std.specs.Prelude.{◌≡◌, ◌∷◌, ◌++◌, [], IfOk, OnOk, map};
 ghost use Rattle.std.specs.List.{AllByRecursion};
-ghost use Rattle.std.specs.Option.{option_copied};
 ghost use Rattle.geometry.specs.Lists.{map_some, some_of, with_some};
 ghost use Rattle.geometry.specs.Points.{IsPosition};
-ghost use Rattle.build_meaning.specs.ArcPositions.{arc_positions};
 ghost use Rattle.build_meaning.specs.Protected.{greatest_ring, protected_of, protected_rings as all_protected};
-ghost use Rattle.build_meaning.specs.ProtectedRings.{CanStay};
-ghost use Rattle.topojson_types.specs.Decoding.{placed_arcs as all_placed};
 ghost use Rattle.topojson_types.specs.Topologies.{object_features};
-ghost use Rattle.topojson_types.specs.Validity.{IsPlace};
 ghost use Rattle.topo_model.specs.Ways.{way_of, ways_of};
 
 use crate::enclosing::SummedArcs;
-use crate::placing::placed_arcs;
 use crate::searching::{Found, protected_ring};
-use build_meaning::protected_rings_can_stay;
 use json_value::{Items, OwnText};
 use owned_values::Memory;
 use std::alloc::Global;
 use std::marker::Model;
-use topojson_types::{ArcRef, Cell, TopoFeature, TopoObject, Topology, Transform};
+use topojson_types::{ArcRef, Cell, TopoFeature, TopoObject};
 
 /// What was found for features.
 #[derive(Drop)]
@@ -156,43 +149,4 @@ pub fn protected_rings(
 {
     let summed = SummedArcs::of(alloc, arcs)?;
     rings_of_summed(alloc, objects, &summed)
-}
-
-/// Those where the positions of the arcs are those that their cells stand for.
-fn rings_of_cells(
-    alloc: Global,
-    objects: &[(OwnText, TopoObject)],
-    arcs: &[Items<Cell>],
-    transform: Option<&Transform>,
-) -> Result<(Vec<Option<Vec<usize>>>, Vec<Items<ArcRef>>), Memory>
-    requires { AllByRecursion (λ arc. AllByRecursion (IsPlace (option_copied transform)) arc) arcs.now }
-    ensures ways { IfOk result (λ r. map (map_some (λ w. w.items)) r.0.items ≡ ways_of (greatest_ring (all_placed (option_copied transform.entry) arcs.now)) objects.now) }
-    ensures rings { IfOk result (λ r. r.1.items ≡ all_protected (greatest_ring (all_placed (option_copied transform.entry) arcs.now)) objects.now) }
-{
-    match transform {
-        None => protected_rings(alloc, objects, arcs),
-        Some(_) => {
-            let placed = placed_arcs(alloc, arcs, transform)?;
-            protected_rings(alloc, objects, &placed)
-        }
-    }
-}
-
-/// Those of a topology, by the positions that its cells stand for. They can be asked to stay when its arcs are reduced.
-pub fn rings_to_stay(
-    alloc: Global,
-    topology: &Topology,
-) -> Result<(Vec<Option<Vec<usize>>>, Vec<Items<ArcRef>>), Memory>
-    ensures ways { IfOk result (λ r. map (map_some (λ w. w.items)) r.0.items ≡ ways_of (greatest_ring (arc_positions topology.now)) topology.now.objects) }
-    ensures rings { IfOk result (λ r. r.1.items ≡ all_protected (greatest_ring (arc_positions topology.now)) topology.now.objects) }
-    ensures can_stay { IfOk result (λ r. CanStay (arc_positions topology.now) r.1.items) }
-{
-    protected_rings_can_stay();
-    let (ways, rings) = rings_of_cells(
-        alloc,
-        topology.objects(),
-        topology.arcs(),
-        topology.transform(),
-    )?;
-    Ok((ways, rings))
 }

@@ -9,7 +9,6 @@ use crate::given_numbers::cells_of_all;
 use crate::left::Retained;
 use crate::position_counting::position_counts;
 use crate::reassembling::reassemble;
-use build_meaning::unprotected_is_simplified;
 use geojson_types::Dropped;
 use owned_values::Memory;
 use std::alloc::Global;
@@ -45,10 +44,10 @@ impl Reduces for Topology {
         kept: &[Vec<usize>],
         ring_limit: u128,
     ) -> Result<(Topology, Vec<Dropped>, u64), Memory> {
-        unprotected_is_simplified();
         let counts = position_counts(alloc, self.arcs())?;
         let stay = cells_of_all(alloc, kept, self.arcs())?;
-        let (objects, _arcs, transform) = self.into_parts();
+        let (objects, arcs, transform) = self.into_parts();
+        drop(arcs);
         let retained = Retained {
             arcs: stay,
             counts,

@@ -1,10 +1,10 @@
-use Rattle.std.proofs.Common.{◌∙◌, ◌++◌, [], cond, ap, sym}
+use Rattle.std.proofs.Common.{◌∙◌, ◌++◌, ap, sym}
 use Rattle.std.proofs.lemmas.Result.{IfOk-weaker}
 use Rattle.build_meaning.specs.Assembled.{arcs_of_layers}
-use Rattle.build_meaning.specs.Built.{built}
-use Rattle.build_meaning.specs.InTurn.{without_small}
-use Rattle.layer_topology.specs.Levels.{calls_at, chosen_for}
-use Rattle.layer_topology.proofs.Asked.{over_apart}
+use Rattle.build_meaning.specs.declared.guards.Guards.{Guards}
+use Rattle.layer_topology.specs.Levels.{calls_over, chosen_for}
+use Rattle.layer_topology.specs.Written.{layers_threshold}
+use Rattle.layer_topology.proofs.Asked.{as_none}
 use Rattle.layer_topology.proofs.TurnsLeft.{layers_apart, no_calls}
 use Rattle.layer_topology.proofs.making.left_of_layers.Goals as goal
 
@@ -24,10 +24,10 @@ returns g c =
     let a = c.args.asked in
     let ls = c.args.layers.items in
     let apart = sym c.is_at_once.ensures ∙ c.if-is_at_once.false in
-    let same = over_apart a.guards a.level (without_small a.guards a.ring_limit (built 0 0 ls)) (arcs_of_layers ls) apart in
+    let none = sym (as_none a.guards apart) in
     record {
       left = IfOk-weaker c.left_apart.result _ _ (λ r h. layers_apart a.guards a.level a.ring_limit ls apart r.topology r.dropped.items r.removed_count h) c.left_apart.ensures.left;
-      chosen = IfOk-weaker c.left_apart.result _ _ (λ r h. h ∙ ap (chosen_for a.level) (sym same)) c.left_apart.ensures.chosen;
-      called = IfOk-weaker c.left_apart.result _ _ (λ r h. h ∙ ap (λ b. g.Q.Reducer.calls c.args.reducer.now ++ cond b [] (calls_at a.level (arcs_of_layers ls))) (sym apart)) c.left_apart.ensures.called;
+      chosen = IfOk-weaker c.left_apart.result _ _ (λ r h. h ∙ ap (λ (u : Guards). chosen_for a.level (layers_threshold u a.level a.ring_limit ls)) none) c.left_apart.ensures.chosen;
+      called = IfOk-weaker c.left_apart.result _ _ (λ r h. h ∙ ap (λ (u : Guards). g.Q.Reducer.calls c.args.reducer.now ++ calls_over u a.level (arcs_of_layers ls)) none) c.left_apart.ensures.called;
       few = c.left_apart.ensures.few;
     }

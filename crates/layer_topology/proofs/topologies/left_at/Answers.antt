@@ -1,18 +1,14 @@
-use Rattle.std.proofs.Common.{◌≡◌, ◌∙◌, ◌++◌, ℕ, List, Option, length, map, ap, inr, refl, sym, subst}
+use Rattle.std.proofs.Common.{◌≡◌, ◌∙◌, ◌++◌, ℕ, List, Option, length, map, ap, refl, sym, subst}
 use Rattle.byte_ends.specs.Ends.{saturated}
 use Rattle.effective_area.specs.Calls.{calls_for}
 use Rattle.elimination_meaning.specs.Elimination.{reduce}
-use Rattle.geometry.specs.Lists.{map_some}
 use Rattle.geometry.specs.Points.{Point}
-use Rattle.build_meaning.specs.Left.{left_by}
-use Rattle.build_meaning.specs.Protected.{no_protection}
-use Rattle.build_meaning.specs.Simplified.{retained_arcs}
+use Rattle.build_meaning.specs.Simplified.{dropped_by, removed_count_by, retained_arcs, simplified_by}
 use Rattle.build_meaning.specs.Thresholds.{placed_cells, reduced_indexes}
 use Rattle.topojson_types.specs.declared.transform.Transform.{Transform}
 use Rattle.topojson_types.specs.Topologies.{Contents}
 use Rattle.topojson_types.specs.Validity.{IsTopology}
 use Rattle.topo_model.proofs.Result.{parts_are}
-use Rattle.layer_topology.proofs.Asked.{plain_left}
 use Rattle.layer_topology.proofs.topologies.left_at.Goals as goal
 
 -- the cells that are left are those of the indexes that reduction leaves
@@ -38,7 +34,7 @@ reassemble-requires-clause-retained g c =
     }
 
 pub reassemble-requires-clause-ways : goal.reassemble-requires-clause-ways
-reassemble-requires-clause-ways g c = record { protects = no_protection; are = inr (refl, ap (map (map_some (λ v. v.items))) c.in_ok-retained.ensures.ways) }
+reassemble-requires-clause-ways g c = c.in_ok-retained.ensures.ways
 
 pub returns : goal.returns
 returns g c =
@@ -47,17 +43,17 @@ returns g c =
     let limit = c.args.ring_limit in
     let parts = c.into_parts-objects.ensures in
     let got = c.in_ok-retained.ensures in
-    let none = inr (refl, ap (map (map_some (λ v. v.items))) got.ways) in
     let picks = picked c.args.t y _ _ _ (c.into_inner.ensures ∙ parts.arcs) (c.as_ref.ensures.value ∙ parts.transform) got.arcs in
     let counted = got.counts ∙ ap (map (λ (cells : List Point). length cells)) (c.into_inner.ensures ∙ parts.arcs) in
     let whole = parts_are y _ y.arcs _ parts.objects refl parts.transform in
     let left = c.in_ok-left.ensures in
+    let plain = c.unguarded_is_simplified.ensures c.args.t limit y in
     record {
-      left = plain_left c.unprotected_is_simplified.ensures c.unguarded_is_simplified.ensures c.args.t limit y c.in_ok-left.left.topology c.in_ok-left.left.dropped.items c.in_ok-left.left.removed_count (record {
-        topology_is = left.topology no_protection kept y.arcs none picks ∙ ap (λ z. (left_by no_protection kept limit z).contents) whole;
-        dropped_are = left.dropped no_protection kept y.arcs none picks ∙ ap (λ z. (left_by no_protection kept limit z).dropped) whole;
-        count_is = left.removed_count no_protection kept y.arcs none picks counted ∙ ap (λ z. saturated (left_by no_protection kept limit z).removed_count) whole;
-      });
+      left = record {
+        topology_is = left.topology kept y.arcs picks ∙ ap (simplified_by kept limit) whole ∙ sym plain.contents;
+        dropped_are = left.dropped kept y.arcs picks ∙ ap (dropped_by kept limit) whole ∙ sym plain.dropped;
+        count_is = left.removed_count kept y.arcs picks counted ∙ ap (λ z. saturated (removed_count_by kept limit z)) whole ∙ sym (ap saturated plain.removed_count);
+      };
       chosen = left.chosen ∙ got.chosen;
       called = got.called
           ∙ ap (λ (tr : Option Transform). g.Q.Reducer.calls c.args.reducer.now ++ calls_for c.args.t (map (placed_cells tr) c.into_inner.result.items)) (c.as_ref.ensures.value ∙ parts.transform)

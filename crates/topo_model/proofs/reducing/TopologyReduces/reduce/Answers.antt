@@ -1,9 +1,6 @@
-use Rattle.std.proofs.Common.{length, map, ap, inr, refl, sym, subst, ◌∙◌}
-use Rattle.build_meaning.specs.Left.{left_by}
-use Rattle.build_meaning.specs.Protected.{no_protection}
-use Rattle.build_meaning.specs.Simplified.{EachFromFirstToLast, retained_arcs}
+use Rattle.std.proofs.Common.{length, map, ap, refl, sym, subst, ◌∙◌}
+use Rattle.build_meaning.specs.Simplified.{EachFromFirstToLast, dropped_by, removed_count_by, retained_arcs, simplified_by}
 use Rattle.byte_ends.specs.Ends.{saturated}
-use Rattle.geometry.specs.Lists.{map_some}
 use Rattle.topojson_types.specs.Validity.{IsTopology}
 use Rattle.topo_model.proofs.Numbered.{as_many}
 use Rattle.topo_model.proofs.Result.{parts_are}
@@ -28,7 +25,7 @@ reassemble-requires-clause-retained c =
     }
 
 pub reassemble-requires-clause-ways : goal.reassemble-requires-clause-ways
-reassemble-requires-clause-ways c = record { protects = no_protection; are = inr (refl, ap (map (map_some (λ v. v.items))) c.new.ensures.items) }
+reassemble-requires-clause-ways c = c.new.ensures.items
 
 pub returns : goal.returns
 returns c =
@@ -36,13 +33,10 @@ returns c =
     let kept = map (λ k. k.items) c.args.kept.now in
     let parts = c.into_parts-objects.ensures in
     let whole = parts_are y _ y.arcs _ parts.objects refl parts.transform in
-    let none = inr (refl, ap (map (map_some (λ v. v.items))) c.new.ensures.items) in
     let picks = c.in_ok-stay.ensures ∙ ap (retained_arcs kept) c.arcs-2.ensures.arcs in
     let left = c.in_ok-left.ensures in
-    let is = c.unprotected_is_simplified.ensures kept c.args.ring_limit y in
     record {
-      topology = left.topology no_protection kept y.arcs none picks ∙ ap (λ z. (left_by no_protection kept c.args.ring_limit z).contents) whole ∙ is.contents;
-      dropped = left.dropped no_protection kept y.arcs none picks ∙ ap (λ z. (left_by no_protection kept c.args.ring_limit z).dropped) whole ∙ is.dropped;
-      removed_count = left.removed_count no_protection kept y.arcs none picks (c.in_ok-counts.ensures ∙ ap (map length) c.arcs.ensures.arcs)
-          ∙ ap (λ z. saturated (left_by no_protection kept c.args.ring_limit z).removed_count) whole ∙ ap saturated is.removed_count;
+      topology = left.topology kept y.arcs picks ∙ ap (simplified_by kept c.args.ring_limit) whole;
+      dropped = left.dropped kept y.arcs picks ∙ ap (dropped_by kept c.args.ring_limit) whole;
+      removed_count = left.removed_count kept y.arcs picks (c.in_ok-counts.ensures ∙ ap (map length) c.arcs.ensures.arcs) ∙ ap (λ z. saturated (removed_count_by kept c.args.ring_limit z)) whole;
     }

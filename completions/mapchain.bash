@@ -66,7 +66,7 @@ _mapchain() {
         --grid | --keep | --max-positions | --min-area | --min-ring-area | --object) return ;;
     esac
     case $command in
-        '') _mapchain_words "$word" 'build simplify geo stat help --help --version' ;;
+        '') _mapchain_words "$word" 'build simplify geo stat help --help --version --explain' ;;
         build)
             case $word in
                 -*) _mapchain_words "$word" '--grid --min-area --keep --min-ring-area --no-crossings --keep-shapes --exact -o --output --report --explain -q --quiet --help' ;;

@@ -10,6 +10,7 @@ end
 complete -c mapchain -n __fish_use_subcommand -f
 complete -c mapchain -s h -l help -d 'Print help'
 complete -c mapchain -n __fish_use_subcommand -s V -l version -d 'Print the version'
+complete -c mapchain -n __fish_use_subcommand -l explain -d 'Explain in words what is wrong, or what was left out'
 complete -c mapchain -n __fish_use_subcommand -a build -d 'Build a topology from GeoJSON files'
 complete -c mapchain -n __fish_use_subcommand -a simplify -d 'Remove points from the lines of a topology'
 complete -c mapchain -n __fish_use_subcommand -a geo -d 'Decode an object of a topology to GeoJSON'

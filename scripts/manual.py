@@ -74,6 +74,10 @@ class Program:
             if match[2] != "help":
                 yield match[1], match[2], match[3], " ".join(lines)
 
+    def explain(self):
+        """The line on the option that may stand before the command, too."""
+        return next(about for _, name, _, about in self.options(self.commands[0]) if name == "explain")
+
     def arguments(self, command):
         return [name for name, _ in self.full[command].items("Arguments")]
 
@@ -293,7 +297,7 @@ def bash(program):
             "            ;;",
         ]
     commands = " ".join(program.commands)
-    names = f"{commands} help --help --version"
+    names = f"{commands} help --help --version --explain"
     filled = BASH.replace("@VALUED@", " | ".join(valued)).replace("@FILES@", " | ".join(files))
     return filled.replace("@COMMANDS@", names).replace("@NAMES@", commands).replace("@CASES@", "\n".join(cases))
 
@@ -318,7 +322,7 @@ _mapchain() {
     local -a commands=(
 @COMMANDS@
     )
-    _arguments -C '(- *)'{-h,--help}'[print help]' '(- *)'{-V,--version}'[print the version]' '1: :->command' '*:: :->words'
+    _arguments -C '(- *)'{-h,--help}'[print help]' '(- *)'{-V,--version}'[print the version]' '--explain[@EXPLAIN@]' '1: :->command' '*:: :->words'
     case $state in
         command) _describe command commands ;;
         words)
@@ -352,7 +356,8 @@ def zsh(program):
         takes_layers = any("=" in name for name in program.arguments(command))
         words.append("'*:layer:_mapchain_layer'" if takes_layers else "'1:topology:_files'")
         cases.append(f"                {command}) _arguments " + " \\\n                    ".join(words) + " ;;")
-    return ZSH.replace("@COMMANDS@", "\n".join(commands)).replace("@CASES@", "\n".join(cases))
+    filled = ZSH.replace("@COMMANDS@", "\n".join(commands)).replace("@CASES@", "\n".join(cases))
+    return filled.replace("@EXPLAIN@", zsh_text(program.explain()))
 
 
 FISH = r"""# Completion of mapchain for fish; made by scripts/manual.py. A shell reads it from share/fish/vendor_completions.d.
@@ -367,6 +372,7 @@ end
 complete -c mapchain -n __fish_use_subcommand -f
 complete -c mapchain -s h -l help -d 'Print help'
 complete -c mapchain -n __fish_use_subcommand -s V -l version -d 'Print the version'
+complete -c mapchain -n __fish_use_subcommand -l explain -d '@EXPLAIN@'
 """
 
 
@@ -375,7 +381,7 @@ def fish_text(text):
 
 
 def fish(program):
-    lines = [FISH.rstrip("\n")]
+    lines = [FISH.rstrip("\n").replace("@EXPLAIN@", fish_text(program.explain()))]
     for name in program.commands:
         lines.append(f"complete -c mapchain -n __fish_use_subcommand -a {name} -d '{fish_text(program.about[name])}'")
     for command in program.commands:

@@ -1,14 +1,17 @@
--- Words of which an option that takes a text and the word after it are made one, as `--min-area=..`.
-use Rattle.std.specs.Prelude.{Bool, List, [], ◌∷◌, ◌++◌, ◌||◌, codes, if◌then◌else◌}
+-- Words of which an option that takes a text and the word after it are made one, as `--min-area=..`, and `--explain` stands after the command.
+use Rattle.std.specs.Prelude.{Bool, false, not, List, [], ◌∷◌, ◌++◌, ◌&&◌, ◌||◌, codes, if◌then◌else◌}
+use Rattle.std.specs.List.{list_any}
 use Rattle.std.specs.Str.{bytes_eq}
 use Rattle.clap.specs.Walk.{Text}
 use Rattle.command_words.specs.declared.joining.Next.{Next}
-use Rattle.command_words.specs.declared.joining.Next.TheVariants.{Command, Alone, ValueOf, Following}
+use Rattle.command_words.specs.declared.joining.Next.TheVariants.{Command, Explained, Alone, ValueOf, Following}
 
 -- what a word is by those before it
 pub data Place : Type 0 where
   -- the first word, which names a command
   first : Place
+  -- the word after `--explain`, which names a command
+  explained : Place
   -- a word of its own
   alone : Place
   -- the value of this option
@@ -24,9 +27,18 @@ has_text_option word = bytes_eq word (codes "build") || bytes_eq word (codes "si
 abbrev pub takes_text : Text → Bool
 takes_text word = bytes_eq word (codes "--min-area") || (bytes_eq word (codes "--keep") || bytes_eq word (codes "--min-ring-area"))
 
+-- the option that asks for an explanation
+abbrev pub is_explain : Text → Bool
+is_explain word = bytes_eq word (codes "--explain")
+
+-- what the word after this command is
+abbrev pub after_command : Text → Place
+after_command word = if has_text_option word then alone else following
+
 -- what a word becomes, and what the next one is
 abbrev pub word_joined : Place → Text → List Text × Place
-word_joined first word = (word ∷ [], if has_text_option word then alone else following)
+word_joined first word = if is_explain word then ([], explained) else (word ∷ [], after_command word)
+word_joined explained word = (word ∷ codes "--explain" ∷ [], after_command word)
 word_joined alone word = if takes_text word then ([], value_of word)
     else (word ∷ [], if bytes_eq word (codes "--") then following else alone)
 word_joined (value_of option) word = ((option ++ (codes "=" ++ word)) ∷ [], alone)
@@ -35,6 +47,7 @@ word_joined following word = (word ∷ [], following)
 -- what is left where there is no word more
 abbrev pub ending : Place → List Text
 ending (value_of option) = option ∷ []
+ending explained = codes "--explain" ∷ []
 ending place = []
 
 abbrev pub joined_from : Place → List Text → List Text
@@ -46,6 +59,22 @@ joined words = joined_from first words
 
 abbrev pub place_of : Next → Place
 place_of Command = first
+place_of Explained = explained
 place_of Alone = alone
 place_of (ValueOf option) = value_of option.now
 place_of Following = following
+
+-- ---- where each run is to be explained
+
+-- the word is a command that does something
+abbrev pub is_command : Text → Bool
+is_command word = has_text_option word || (bytes_eq word (codes "geo") || bytes_eq word (codes "stat"))
+
+-- a command stands first, and `--explain` isn't among the words after it
+abbrev pub lacks_explain : List Text → Bool
+lacks_explain [] = false
+lacks_explain (word ∷ words) = is_command word && not (list_any is_explain words)
+
+-- the words with `--explain` before them, where they lack it
+abbrev pub with_explain : List Text → List Text
+with_explain words = if lacks_explain words then codes "--explain" ∷ words else words

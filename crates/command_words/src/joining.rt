@@ -1,10 +1,12 @@
-// An option and its value as one word.
-ghost use Rattle.std.specs.Prelude.{◌≡◌, ◌++◌, ◌∷◌, [], IfOk, OnOk, codes, map};
+// An option and its value as one word, and `--explain` after the command.
+ghost use Rattle.std.specs.Prelude.{◌≡◌, ◌++◌, ◌∷◌, [], IfOk, List, OnOk, codes, false, map};
+ghost use Rattle.std.specs.List.{list_any};
 ghost use Rattle.std.specs.String.{string_bytes};
+ghost use Rattle.clap.specs.Walk.{Text};
 ghost use Rattle.command_words.specs.Joined as spec;
 ghost use Rattle.command_words.specs.Joined.{ending, joined, place_of, word_joined};
 
-use crate::file_usage::SIMPLIFY;
+use crate::file_usage::{GEO, SIMPLIFY, STAT};
 use crate::usage::BUILD;
 use std::alloc::{AllocError, Global};
 
@@ -13,6 +15,8 @@ use std::alloc::{AllocError, Global};
 pub(crate) enum Next<'a> {
     /// The first word, which names a command.
     Command,
+    /// The word after `--explain`, which names a command.
+    Explained,
     /// A word of its own.
     Alone,
     /// The value of this option.
@@ -33,6 +37,23 @@ fn takes_text(word: &str) -> bool
     ensures { result ≡ spec.takes_text word.now }
 {
     word == "--min-area" || word == "--keep" || word == "--min-ring-area"
+}
+
+/// Whether this is the option that asks for an explanation.
+fn is_explain(word: &str) -> bool
+    ensures { result ≡ spec.is_explain word.now }
+{
+    word == "--explain"
+}
+
+/// What the word after this command is.
+fn after_command<'a>(word: &str) -> Next<'a>
+    ensures { place_of result ≡ spec.after_command word.now }
+{
+    if has_text_option(word) {
+        return Next::Alone;
+    }
+    Next::Following
 }
 
 /// The option and its value as one word.
@@ -65,11 +86,16 @@ fn join_word<'a>(
 {
     match place {
         Next::Command => {
-            push_word(alloc, joined, word)?;
-            if has_text_option(word) {
-                return Ok(Next::Alone);
+            if is_explain(word) {
+                return Ok(Next::Explained);
             }
-            Ok(Next::Following)
+            push_word(alloc, joined, word)?;
+            Ok(after_command(word))
+        }
+        Next::Explained => {
+            push_word(alloc, joined, word)?;
+            push_word(alloc, joined, "--explain")?;
+            Ok(after_command(word))
         }
         Next::Alone => {
             if takes_text(word) {
@@ -93,17 +119,56 @@ fn join_word<'a>(
 }
 
 /// The words, where an option whose value may be any text and the word after it are one, so that the value may begin with a hyphen.
-/// Such options are `--min-area`, `--keep` and `--min-ring-area` of `build` and `simplify`.
+/// Such options are `--min-area`, `--keep` and `--min-ring-area` of `build` and `simplify`. `--explain` may stand before the command, too.
 pub fn joined_words(alloc: Global, words: &[String]) -> Result<Vec<String>, AllocError>
-    ensures { IfOk result (λ r. map string_bytes r.items ≡ joined (map string_bytes words.now)) }
+    ensures joined { IfOk result (λ r. map string_bytes r.items ≡ joined (map string_bytes words.now)) }
+    // Before a command `--explain` asks for the same as after it.
+    ensures explained { IfOk result (λ r. (command : Text) (rest : List Text) → spec.is_explain command ≡ false
+        → map string_bytes words.now ≡ codes "--explain" ∷ command ∷ rest → map string_bytes r.items ≡ joined (command ∷ codes "--explain" ∷ rest)) }
 {
     let mut joined = Vec::new(alloc);
     let mut place = Next::Command;
     for word in words {
         place = join_word(alloc, &mut joined, place, word.as_str())?;
     }
-    if let Next::ValueOf(option) = place {
-        push_word(alloc, &mut joined, option)?;
+    match place {
+        Next::ValueOf(option) => push_word(alloc, &mut joined, option)?,
+        Next::Explained => push_word(alloc, &mut joined, "--explain")?,
+        _ => {}
     }
     Ok(joined)
+}
+
+/// Whether this is a command that does something.
+fn is_command(word: &str) -> bool
+    ensures { result ≡ spec.is_command word.now }
+{
+    has_text_option(word) || word == GEO || word == STAT
+}
+
+/// Whether `--explain` is among the words.
+fn has_explain(words: &[String]) -> bool
+    ensures { result ≡ list_any spec.is_explain (map string_bytes words.now) }
+{
+    words.iter().any(|word| is_explain(word.as_str()))
+}
+
+/// Whether a command stands first, and `--explain` isn't among the words after it.
+fn lacks_explain(words: &[String]) -> bool
+    ensures { result ≡ spec.lacks_explain (map string_bytes words.now) }
+{
+    match words {
+        [command, words @ ..] => is_command(command.as_str()) && !has_explain(words),
+        [] => false,
+    }
+}
+
+/// The words with `--explain` before them, where a command stands first and it isn't among those after it.
+pub fn with_explain(alloc: Global, mut words: Vec<String>) -> Result<Vec<String>, AllocError>
+    ensures { IfOk result (λ r. map string_bytes r.items ≡ spec.with_explain (map string_bytes words.items)) }
+{
+    if lacks_explain(words.as_slice()) {
+        words.insert(0, String::from_str(alloc, "--explain")?)?;
+    }
+    Ok(words)
 }

@@ -13,7 +13,7 @@ mod request;
 mod usage;
 mod words_fault;
 
-pub use joining::joined_words;
+pub use joining::{joined_words, with_explain};
 pub use layer_words::name_and_path;
 pub use request::{Order, Request, read_words};
 pub use words_fault::WordsFault;

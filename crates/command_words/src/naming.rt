@@ -74,10 +74,16 @@ fn line(alloc: Global, lead: &str, word: &str) -> Result<String, AllocError> {
     format!(in alloc; "  {lead}: {word}\n")
 }
 
-/// How the layer of this path is named, as a line, where the path suggests a name.
+/// How the layer of this path is named, as a line, where the path suggests a name. A number is taken for that of a grid.
 fn naming(alloc: Global, path: &str) -> Result<String, AllocError> {
+    if is_number(path) {
+        return String::from_str(
+            alloc,
+            "  a grid of N cells is '--grid N', with N in digits alone\n",
+        );
+    }
     let name = suggested_name(path);
-    if name.is_empty() || is_number(path) {
+    if name.is_empty() {
         return Ok(String::new(alloc));
     }
     let word = format!(in alloc; "{name}={path}")?;

@@ -194,7 +194,8 @@ const EXPLAIN_LONG_HELP: &str =
 far as that can be found out. Where all is done, say below the report, if there is one,
 how much was kept, which area was chosen for a share, which features lost all of their
 geometry, and what was left out of the layers (ten lines of a kind, and how many more);
-of 'mapchain stat', what is in the topology";
+of 'mapchain stat', what is in the topology. This option may stand before the command's
+name, too, and MAPCHAIN_EXPLAIN=1 in the environment asks for it in each run";
 
 const QUIET_HELP: &str = "Leave out the report, where all is done";
 

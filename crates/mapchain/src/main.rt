@@ -11,9 +11,11 @@ mod system_errors;
 
 use byte_ends::{Sink, ToWrite};
 use file_limit::FileLimit;
-use mapchain_cli::{WriteFailure, command};
+use mapchain_cli::{WriteFailure, command, with_explain};
 use part_file::{Destination, PartFile};
+use std::alloc::AllocError;
 use std::cell::Cell;
+use std::env::VarError;
 use std::io::{BufWriter, ErrorKind};
 use std::process::ExitCode;
 use std::{env, io};
@@ -25,10 +27,14 @@ const OUT_BUFFER: usize = 65_536;
 /// The bytes that standard error holds back: a report lists each line that is dropped.
 const ERROR_BUFFER: usize = 8_192;
 
-/// The words after the program's name.
+/// The words after the program's name, with `--explain` where the environment asks for it by the value 1.
 fn words(rt: &HostRuntime) -> io::Result<Vec<String>> {
     let words = env::args(rt)?.skip(1).collect(rt.alloc())?;
-    Ok(words)
+    match env::var(rt, "MAPCHAIN_EXPLAIN") {
+        Ok(value) if value.as_str() == "1" => Ok(with_explain(rt.alloc(), words)?),
+        Err(VarError::OutOfMemory) => Err(io::Error::from(AllocError)),
+        _ => Ok(words),
+    }
 }
 
 /// The status where the words can't be had: 2 where one is not UTF-8, and 3 for want of memory.

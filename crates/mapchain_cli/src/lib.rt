@@ -17,7 +17,7 @@ mod options;
 mod printing;
 mod running;
 
-pub use command_words::name_and_path;
+pub use command_words::{name_and_path, with_explain};
 pub use counts::Counts;
 pub use ending::Ending;
 pub use explanations::Observed;

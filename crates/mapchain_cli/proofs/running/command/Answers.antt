@@ -15,7 +15,7 @@ returns-in-Ok g c =
     let old : Streams = record { out = c.args.out.now; err = c.args.err.now } in
     let new : Streams = record { out = c.run.new.out; err = c.run.new.err } in
     let words = joined (map string_bytes c.args.words.items) in
-    let asked = ap (map string_bytes) c.as_slice-in-Ok.ensures.value ∙ c.in-Ok.ensures ∙ ap (λ ws. joined (map string_bytes ws)) c.as_slice.ensures.value in
+    let asked = ap (map string_bytes) c.as_slice-in-Ok.ensures.value ∙ c.in-Ok.ensures.joined ∙ ap (λ ws. joined (map string_bytes ws)) c.as_slice.ensures.value in
     let ran : RunsOn files words old new c.run.result = subst (λ (ws : List (List ℕ)). RunsOn files ws old new c.run.result) asked c.run.ensures in
     let said = says files words old new c.run.result ran in
     let filed = files_say files words old new c.run.result ran in

@@ -27,6 +27,10 @@ has_text_option word = bytes_eq word (codes "build") || bytes_eq word (codes "si
 abbrev pub takes_text : Text → Bool
 takes_text word = bytes_eq word (codes "--min-area") || (bytes_eq word (codes "--keep") || bytes_eq word (codes "--min-ring-area"))
 
+-- the word is a command that does something
+abbrev pub is_command : Text → Bool
+is_command word = has_text_option word || (bytes_eq word (codes "geo") || bytes_eq word (codes "stat"))
+
 -- the option that asks for an explanation
 abbrev pub is_explain : Text → Bool
 is_explain word = bytes_eq word (codes "--explain")
@@ -38,7 +42,7 @@ after_command word = if has_text_option word then alone else following
 -- what a word becomes, and what the next one is
 abbrev pub word_joined : Place → Text → List Text × Place
 word_joined first word = if is_explain word then ([], explained) else (word ∷ [], after_command word)
-word_joined explained word = (word ∷ codes "--explain" ∷ [], after_command word)
+word_joined explained word = (if is_command word then word ∷ codes "--explain" ∷ [] else word ∷ [], after_command word)
 word_joined alone word = if takes_text word then ([], value_of word)
     else (word ∷ [], if bytes_eq word (codes "--") then following else alone)
 word_joined (value_of option) word = ((option ++ (codes "=" ++ word)) ∷ [], alone)
@@ -65,10 +69,6 @@ place_of (ValueOf option) = value_of option.now
 place_of Following = following
 
 -- ---- where each run is to be explained
-
--- the word is a command that does something
-abbrev pub is_command : Text → Bool
-is_command word = has_text_option word || (bytes_eq word (codes "geo") || bytes_eq word (codes "stat"))
 
 -- a command stands first, and `--explain` isn't among the words after it
 abbrev pub lacks_explain : List Text → Bool

@@ -1,5 +1,5 @@
 // An option and its value as one word, and `--explain` after the command.
-ghost use Rattle.std.specs.Prelude.{◌≡◌, ◌++◌, ◌∷◌, [], IfOk, List, OnOk, codes, false, map};
+ghost use Rattle.std.specs.Prelude.{◌≡◌, ◌++◌, ◌∷◌, [], IfOk, List, OnOk, codes, map, true};
 ghost use Rattle.std.specs.List.{list_any};
 ghost use Rattle.std.specs.String.{string_bytes};
 ghost use Rattle.clap.specs.Walk.{Text};
@@ -39,6 +39,13 @@ fn takes_text(word: &str) -> bool
     word == "--min-area" || word == "--keep" || word == "--min-ring-area"
 }
 
+/// Whether this is a command that does something.
+fn is_command(word: &str) -> bool
+    ensures { result ≡ spec.is_command word.now }
+{
+    has_text_option(word) || word == GEO || word == STAT
+}
+
 /// Whether this is the option that asks for an explanation.
 fn is_explain(word: &str) -> bool
     ensures { result ≡ spec.is_explain word.now }
@@ -74,6 +81,17 @@ fn push_word(alloc: Global, joined: &mut Vec<String>, word: &str) -> Result<(), 
     Ok(())
 }
 
+/// Adds the word after `--explain`, and that behind it if it is a command that does something.
+fn push_explained(alloc: Global, joined: &mut Vec<String>, word: &str) -> Result<(), AllocError>
+    ensures { OnOk result (map string_bytes joined.new.items ≡ map string_bytes joined.old.items ++ (word_joined spec.explained word.now).0) }
+{
+    push_word(alloc, joined, word)?;
+    if is_command(word) {
+        return push_word(alloc, joined, "--explain");
+    }
+    Ok(())
+}
+
 /// Takes one word more, and says what the next one is.
 fn join_word<'a>(
     alloc: Global,
@@ -93,8 +111,7 @@ fn join_word<'a>(
             Ok(after_command(word))
         }
         Next::Explained => {
-            push_word(alloc, joined, word)?;
-            push_word(alloc, joined, "--explain")?;
+            push_explained(alloc, joined, word)?;
             Ok(after_command(word))
         }
         Next::Alone => {
@@ -119,11 +136,12 @@ fn join_word<'a>(
 }
 
 /// The words, where an option whose value may be any text and the word after it are one, so that the value may begin with a hyphen.
-/// Such options are `--min-area`, `--keep` and `--min-ring-area` of `build` and `simplify`. `--explain` may stand before the command, too.
+/// Such options are `--min-area`, `--keep` and `--min-ring-area` of `build` and `simplify`. `--explain` may
+/// stand before a command that does something, too; before another word it is left out.
 pub fn joined_words(alloc: Global, words: &[String]) -> Result<Vec<String>, AllocError>
     ensures joined { IfOk result (λ r. map string_bytes r.items ≡ joined (map string_bytes words.now)) }
     // Before a command `--explain` asks for the same as after it.
-    ensures explained { IfOk result (λ r. (command : Text) (rest : List Text) → spec.is_explain command ≡ false
+    ensures explained { IfOk result (λ r. (command : Text) (rest : List Text) → spec.is_command command ≡ true
         → map string_bytes words.now ≡ codes "--explain" ∷ command ∷ rest → map string_bytes r.items ≡ joined (command ∷ codes "--explain" ∷ rest)) }
 {
     let mut joined = Vec::new(alloc);
@@ -137,13 +155,6 @@ pub fn joined_words(alloc: Global, words: &[String]) -> Result<Vec<String>, Allo
         _ => {}
     }
     Ok(joined)
-}
-
-/// Whether this is a command that does something.
-fn is_command(word: &str) -> bool
-    ensures { result ≡ spec.is_command word.now }
-{
-    has_text_option(word) || word == GEO || word == STAT
 }
 
 /// Whether `--explain` is among the words.

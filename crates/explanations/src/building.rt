@@ -2,7 +2,9 @@
 ghost use Rattle.std.specs.Prelude.{◌≡◌, ◌+◌, ◌<◌};
 ghost use Rattle.explanations.specs.Numbers.{thousandths as thousandths_of};
 
+use crate::observed::Observed;
 use geojson_types::PLACES;
+use grid_snap::Bounds;
 use json_writer::{ShortText, add_units};
 use reports::Report;
 use std::alloc::{AllocError, Global};
@@ -76,9 +78,58 @@ fn share_line(alloc: Global, dropped: usize) -> Result<String, AllocError> {
     )
 }
 
-/// How many positions of how many were kept, and, where some were removed, how many between the ends of arcs, which always stay; and which
-/// area was chosen, if one was, and of which arcs.
-pub fn built(alloc: Global, report: &Report) -> Result<String, AllocError> {
+/// How many positions between the ends of arcs were kept.
+fn kept_between(report: &Report) -> u64 {
+    report.kept.saturating_sub(report.arcs.saturating_mul(2))
+}
+
+/// How many attos these bounds enclose.
+fn enclosed(bounds: Bounds) -> u128 {
+    let width = bounds.left.abs_diff(bounds.right);
+    let height = bounds.bottom.abs_diff(bounds.top);
+    u128::from(width).saturating_mul(u128::from(height))
+}
+
+/// The lines for an area that was asked for and by which positions were removed, where `threshold` is twice its number of attos: that none is
+/// left between the ends of arcs, and that the area is over what the bounds of the layers enclose, if these are known.
+fn area_lines(
+    alloc: Global,
+    report: &Report,
+    threshold: u128,
+    bounds: Option<Bounds>,
+) -> Result<String, AllocError> {
+    let mut lines = String::new(alloc);
+    if report.removed == 0 || report.chosen.is_some() {
+        return Ok(lines);
+    }
+    if kept_between(report) == 0 {
+        lines.push_str(
+            "  all points between the ends of arcs are gone: a smaller area may leave some\n",
+        )?;
+    }
+    match bounds.map(enclosed) {
+        Some(most) if threshold / 2 > most => {
+            let area = decimal_of_attos(alloc, threshold / 2)?;
+            let most = decimal_of_attos(alloc, most)?;
+            write!(
+                lines,
+                "  the area {area} is over all that the bounds of the layers enclose, {most} square units of the coordinates\n"
+            )?;
+        }
+        _ => {}
+    }
+    Ok(lines)
+}
+
+/// How many positions of how many were kept, and, where some were removed, how many between the ends of arcs, which always stay; which area
+/// was chosen, if one was, and of which arcs; and what else is said of the area that was asked for, where `threshold` is twice its number of
+/// attos.
+pub fn built(
+    alloc: Global,
+    report: &Report,
+    threshold: u128,
+    observed: &Observed,
+) -> Result<String, AllocError> {
     let removed = report.removed;
     let mut lines = kept_line(
         alloc,
@@ -87,10 +138,10 @@ pub fn built(alloc: Global, report: &Report) -> Result<String, AllocError> {
         removed,
     )?;
     if removed > 0 {
-        let between = report.kept.saturating_sub(report.arcs.saturating_mul(2));
-        let line = kept_line(alloc, "between their ends", between, removed)?;
+        let line = kept_line(alloc, "between their ends", kept_between(report), removed)?;
         lines.push_str(line.as_str())?;
     }
+    lines.push_str(area_lines(alloc, report, threshold, observed.bounds())?.as_str())?;
     if let Some(threshold) = report.chosen {
         lines.push_str(chosen(alloc, threshold)?.as_str())?;
         lines.push_str(share_line(alloc, report.dropped.len())?.as_str())?;

@@ -6,6 +6,7 @@ use crate::losses::{DropsLeft, add_losses};
 use crate::samples::{front_of, samples_in};
 use extraction::ExtractedLayer;
 use geojson_meaning::{Dropped, Position};
+use grid_snap::Bounds;
 use inputs::Watch;
 use json_value::Items;
 use segment_crossings::Crossing;
@@ -24,6 +25,8 @@ struct Seen {
     inputs: InputLines,
     /// How many layers were read.
     layers: usize,
+    /// The bounds of their positions, if they have any.
+    bounds: Option<Bounds>,
     /// All lines, once the topology is written or counted.
     lines: String,
     /// The bytes that were refused, or none.
@@ -48,6 +51,7 @@ impl Seen {
     ) -> Result<(), AllocError> {
         self.inputs.add_layer(alloc, self.layers, bytes, layer)?;
         self.layers = self.layers.saturating_add(1);
+        self.bounds = layer.widen(self.bounds);
         Ok(())
     }
 
@@ -143,6 +147,7 @@ impl Observed {
                 samples: Vec::new(alloc),
                 inputs: InputLines::none(alloc),
                 layers: 0,
+                bounds: None,
                 lines: String::new(alloc),
                 refused: &[],
                 is_short: false,
@@ -156,6 +161,14 @@ impl Observed {
         match &mut self.seen {
             Some(seen) => seen.take_lines(alloc),
             None => Err(AllocError),
+        }
+    }
+
+    /// The bounds of the layers that were read, where they have positions.
+    pub(crate) fn bounds(&self) -> Option<Bounds> {
+        match &self.seen {
+            Some(seen) => seen.bounds,
+            None => None,
         }
     }
 

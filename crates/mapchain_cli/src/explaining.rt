@@ -3,6 +3,7 @@ use crate::ending::Ending;
 use crate::files::Files;
 use byte_ends::ReadFault;
 use command_words::{Order, Request};
+use effective_area::read_threshold;
 use explanations::{Observed, built};
 use fault_explanations::{
     FileKind, bad_area, bad_share, layer_fault, topology_fault, unopened, unwritten_output,
@@ -109,15 +110,30 @@ fn explain_file<F: Files>(
     topology_fault(alloc, path, refused, fault)
 }
 
+/// The threshold of the area that a request asks for, or zero where it asks for none.
+fn threshold_in(alloc: Global, request: &Request<'_>) -> Result<u128, AllocError> {
+    match request {
+        Request::Build { area, .. } | Request::Simplify { area, .. } => {
+            match read_threshold(alloc, area) {
+                Ok(threshold) => Ok(threshold.unwrap_or(0)),
+                Err(_) => Err(AllocError),
+            }
+        }
+        Request::Geo { .. } | Request::Stat { .. } => Ok(0),
+    }
+}
+
 /// What is said of a request that is done.
 fn explain_done(
     alloc: Global,
+    request: &Request<'_>,
     report: &Option<Report>,
     observed: &mut Observed,
 ) -> Result<String, AllocError> {
     let mut text = observed.take_lines(alloc)?;
     if let Some(report) = report {
-        text.insert_str(0, built(alloc, report)?.as_str())?;
+        let threshold = threshold_in(alloc, request)?;
+        text.insert_str(0, built(alloc, report, threshold, observed)?.as_str())?;
     }
     Ok(text)
 }
@@ -204,7 +220,7 @@ pub(crate) fn explanation_of<F: Files>(
     files: &F,
 ) -> String {
     let said = match outcome {
-        Ok(report) => explain_done(alloc, report, observed),
+        Ok(report) => explain_done(alloc, &order.request, report, observed),
         Err(ending) => explain_refused(alloc, order, ending, observed.refused_bytes(), files),
     };
     said.unwrap_or(String::new(alloc))

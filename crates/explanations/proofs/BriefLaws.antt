@@ -1,5 +1,5 @@
 -- An explanation in brief, one run of lines after another.
-use Rattle.std.proofs.Common.{◌≡◌, ◌∙◌, ◌<◌, ◌^◌, ◌+◌, ◌-◌, ℕ, zero, suc, Bool, true, false, cond, List, [], ◌∷◌, ◌++◌, Option, None, Some, arith, ap, refl, sym, length, take, nat_lt, append_assoc, append-nil}
+use Rattle.std.proofs.Common.{◌≡◌, ◌∙◌, ◌<◌, ◌^◌, ◌+◌, ◌-◌, ℕ, zero, suc, Bool, true, false, cond, List, [], ◌∷◌, ◌++◌, None, Some, arith, ap, refl, sym, length, take, nat_lt, append_assoc, append-nil}
 use Rattle.std.proofs.lemmas.Bool.Decides.{nat_tests}
 use Rattle.std.proofs.Math.Nat.{min-eq_left}
 use Rattle.std.specs.List.{AllByRecursion}
@@ -7,12 +7,13 @@ use Rattle.geojson_types.specs.Counting.{one_more}
 use Rattle.explanations.specs.Brief.{are_same, brief_after, is_same, kind_of, line_text, more_text, most, start}
 use Rattle.explanations.specs.BriefLaws.{whole, EndsRun, OthersStand, KindInBrief}
 use Rattle.explanations.specs.declared.brief.LineKind.{LineKind}
-use Rattle.explanations.specs.declared.brief.LineKind.TheVariants.{Loss, Unread, System, Swapped, Object}
+use Rattle.explanations.specs.declared.brief.LineKind.TheVariants.{Loss, Bare, Unread, System, Swapped, Object}
 use Rattle.explanations.specs.declared.brief.Run.{Run}
 
 -- a kind is the same as itself
 same : (k : LineKind) → is_same k k ≡ true
 same Loss = refl
+same Bare = refl
 same Unread = refl
 same System = refl
 same Swapped = refl

@@ -5,7 +5,7 @@ use Rattle.geojson_types.specs.Counting.{one_more}
 use Rattle.json_value.specs.Reading.{after_word}
 use Rattle.reports.specs.Lines.{lines_of}
 use Rattle.explanations.specs.declared.brief.LineKind.{LineKind}
-use Rattle.explanations.specs.declared.brief.LineKind.TheVariants.{Loss, Unread, System, Swapped, Object}
+use Rattle.explanations.specs.declared.brief.LineKind.TheVariants.{Loss, Bare, Unread, System, Swapped, Object}
 use Rattle.explanations.specs.declared.brief.Run.{Run}
 
 -- ---- kinds of lines
@@ -13,6 +13,10 @@ use Rattle.explanations.specs.declared.brief.Run.{Run}
 -- how a line ends that tells of a feature that is lost
 abbrev pub loss_ending : List ℕ
 loss_ending = codes ": nothing of its geometry is left"
+
+-- of a layer with features that have no geometry
+abbrev pub bare_ending : List ℕ
+bare_ending = codes " no geometry"
 
 -- of members of a layer that aren't read
 abbrev pub unread_ending : List ℕ
@@ -37,12 +41,14 @@ other_kind line = if is_some (after_word object_beginning line) then Some Object
 abbrev pub kind_of : List ℕ → Option LineKind
 kind_of line =
     if ends_with nat_eq line loss_ending then Some Loss
+    else (if ends_with nat_eq line bare_ending then Some Bare
     else (if ends_with nat_eq line unread_ending then Some Unread
     else (if ends_with nat_eq line system_ending then Some System
-    else (if ends_with nat_eq line swapped_ending then Some Swapped else other_kind line)))
+    else (if ends_with nat_eq line swapped_ending then Some Swapped else other_kind line))))
 
 abbrev pub is_same : LineKind → LineKind → Bool
 is_same Loss Loss = true
+is_same Bare Bare = true
 is_same Unread Unread = true
 is_same System System = true
 is_same Swapped Swapped = true

@@ -13,6 +13,9 @@ use json_writer::{Buffered, Out};
 /// How a line ends that tells of a feature that is lost.
 pub(crate) const LOSS_ENDING: &str = ": nothing of its geometry is left";
 
+/// How a line ends that tells of a layer with features that have no geometry.
+pub(crate) const BARE_ENDING: &str = " no geometry";
+
 /// How a line ends that tells of members of an input that aren't read.
 pub(crate) const UNREAD_ENDING: &str = " left out";
 
@@ -33,6 +36,8 @@ const MOST: u64 = 10;
 pub enum LineKind {
     /// A feature that is lost.
     Loss,
+    /// A layer with features that have no geometry.
+    Bare,
     /// Members of an input that aren't read.
     Unread,
     /// A layer whose coordinates may not be degrees.
@@ -66,6 +71,8 @@ fn kind_of(line: &[u8]) -> Option<LineKind>
 {
     if line.ends_with(LOSS_ENDING.as_bytes()) {
         Some(LineKind::Loss)
+    } else if line.ends_with(BARE_ENDING.as_bytes()) {
+        Some(LineKind::Bare)
     } else if line.ends_with(UNREAD_ENDING.as_bytes()) {
         Some(LineKind::Unread)
     } else if line.ends_with(SYSTEM_ENDING.as_bytes()) {
@@ -86,6 +93,7 @@ fn are_same(one: Option<LineKind>, other: Option<LineKind>) -> bool
     };
     match (one, other) {
         (LineKind::Loss, LineKind::Loss) => true,
+        (LineKind::Bare, LineKind::Bare) => true,
         (LineKind::Unread, LineKind::Unread) => true,
         (LineKind::System, LineKind::System) => true,
         (LineKind::Swapped, LineKind::Swapped) => true,

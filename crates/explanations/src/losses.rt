@@ -1,5 +1,6 @@
-// The features of which nothing is left.
-use crate::brief::LOSS_ENDING;
+// The features of which nothing is left, and those that had nothing.
+use crate::brief::{BARE_ENDING, LOSS_ENDING};
+use crate::samples::front_of;
 use geojson_meaning::{Address, Dropped};
 use itoa::Buffer;
 use reports::{features_in, has_nothing};
@@ -42,7 +43,7 @@ fn is_after(address: &Address, object: usize, feature: usize) -> bool {
 }
 
 /// Adds a line for each feature of the object with this number of which a line or a ring was dropped and nothing is left. `place` is what
-/// stands before the number of a feature.
+/// stands before the number of a feature. The answer is how many others have no geometry.
 pub(crate) fn add_losses(
     alloc: Global,
     lines: &mut String,
@@ -50,10 +51,15 @@ pub(crate) fn add_losses(
     number: usize,
     object: &TopoObject,
     drops: &mut DropsLeft<'_>,
-) -> Result<(), AllocError> {
+) -> Result<u64, AllocError> {
+    let mut bare: u64 = 0;
     for (feature, left) in features_in(object).iter().enumerate() {
         let is_dropped = drops.take(number, feature);
-        if is_dropped && has_nothing(left) {
+        let is_empty = has_nothing(left);
+        if is_empty && !is_dropped {
+            bare = bare.saturating_add(1);
+        }
+        if is_empty && is_dropped {
             let mut number = Buffer::new();
             lines.push_str(place)?;
             lines.push_str(number.format(feature))?;
@@ -62,5 +68,23 @@ pub(crate) fn add_losses(
             lines.push_str("\n")?;
         }
     }
-    Ok(())
+    Ok(bare)
+}
+
+/// The line for a layer of this number and name of whose features so many have no geometry, or which has no features.
+pub(crate) fn bare_line(
+    alloc: Global,
+    number: usize,
+    name: &str,
+    bare: u64,
+    features: usize,
+) -> Result<String, AllocError> {
+    if bare == 0 && features > 0 {
+        return Ok(String::new(alloc));
+    }
+    let name = front_of(alloc, name)?;
+    if features == 0 {
+        return format!(in alloc; "  layer {number} {name}: no features, and so{BARE_ENDING}\n");
+    }
+    format!(in alloc; "  layer {number} {name}: {bare} of {features} features have{BARE_ENDING}\n")
 }

@@ -2,13 +2,14 @@
 use crate::contents::{step_line, topology_lines};
 use crate::crossed::{MOST_ASKED, crossing_lines};
 use crate::inputs_read::InputLines;
-use crate::losses::{DropsLeft, add_losses};
+use crate::losses::{DropsLeft, add_losses, bare_line};
 use crate::samples::{front_of, samples_in};
 use extraction::ExtractedLayer;
 use geojson_meaning::{Dropped, Position};
 use grid_snap::Bounds;
 use inputs::Watch;
 use json_value::Items;
+use reports::features_in;
 use segment_crossings::Crossing;
 use std::alloc::{AllocError, Global};
 use std::mem;
@@ -55,7 +56,7 @@ impl Seen {
         Ok(())
     }
 
-    /// Adds the features of each layer that are lost, what is said of the layers, and then the step of the grid.
+    /// Adds the features of each layer that are lost, how many have no geometry, what is said of the layers, and then the step of the grid.
     fn add_built(
         &mut self,
         alloc: Global,
@@ -63,11 +64,16 @@ impl Seen {
         dropped: &[Dropped],
     ) -> Result<(), AllocError> {
         let mut drops = DropsLeft::of(dropped);
+        let mut bare_lines = String::new(alloc);
         for (number, object) in topology.objects().iter().enumerate() {
             let place = format!(in alloc; "  layer {number}, feature ")?;
             let lines = &mut self.lines;
-            add_losses(alloc, lines, place.as_str(), number, &object.1, &mut drops)?;
+            let bare = add_losses(alloc, lines, place.as_str(), number, &object.1, &mut drops)?;
+            let features = features_in(&object.1).len();
+            let line = bare_line(alloc, number, object.0.as_str(), bare, features)?;
+            bare_lines.push_str(line.as_str())?;
         }
+        self.lines.push_str(bare_lines.as_str())?;
         self.inputs.add_to(&mut self.lines)?;
         if let Some(transform) = topology.transform() {
             self.lines.push_str(step_line(alloc, transform)?.as_str())?;

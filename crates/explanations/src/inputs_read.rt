@@ -26,6 +26,7 @@ fn unread_line(alloc: Global, place: &str, unread: &Unread<'_>) -> Result<String
     add_count(alloc, &mut counts, "\"bbox\"", unread.bbox)?;
     add_count(alloc, &mut counts, "\"crs\"", unread.crs)?;
     add_count(alloc, &mut counts, "other members", unread.others)?;
+    counts.push_str(unread.names.text(alloc)?.as_str())?;
     if counts.is_empty() {
         return Ok(counts);
     }

@@ -11,6 +11,7 @@ mod building;
 mod contents;
 mod crossed;
 mod inputs_read;
+mod left_out;
 mod losses;
 mod member_names;
 mod observed;

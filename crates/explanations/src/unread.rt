@@ -1,4 +1,5 @@
 // Members of layers and topologies that aren't read, counted in the bytes of an input that was taken.
+use crate::left_out::{LeftOut, spelled_name};
 use crate::member_names::{MemberName, named_member};
 use geojson_meaning::{CoordinatesType, GeoJsonType, GeometryType, geojson_type};
 use json_cursor::{after_byte, string_at};
@@ -125,6 +126,15 @@ fn object_member(name: MemberName) -> Member {
     }
 }
 
+/// How a member is named that may come before the type of its geometry.
+fn early_name(name: MemberName) -> &'static [u8] {
+    match name {
+        MemberName::Arcs => b"\"arcs\"",
+        MemberName::Coordinates => b"\"coordinates\"",
+        _ => b"\"geometries\"",
+    }
+}
+
 /// What the members of an input that aren't read are.
 #[derive(Clone, Copy)]
 pub(crate) struct Unread<'a> {
@@ -132,6 +142,8 @@ pub(crate) struct Unread<'a> {
     pub(crate) bbox: u64,
     pub(crate) crs: u64,
     pub(crate) others: u64,
+    /// The first names of the others.
+    pub(crate) names: LeftOut<'a>,
     /// What stands from the value of the layer's own member `crs` on, if it has one.
     pub(crate) layer_crs: Option<&'a [u8]>,
 }
@@ -175,6 +187,7 @@ impl<'a> Unread<'a> {
             bbox: 0,
             crs: 0,
             others: 0,
+            names: LeftOut::none(),
             layer_crs: None,
         }
     }
@@ -203,8 +216,15 @@ impl<'a> Unread<'a> {
         }
     }
 
-    /// With the member of this name of a part, with what stands from its value on.
-    fn count(&mut self, part: Part, name: MemberName, value: &'a [u8]) {
+    /// With the member at the front, of this name and of such a part, with what stands from its value on; nothing for want of memory.
+    fn count(
+        &mut self,
+        alloc: Global,
+        part: Part,
+        name: MemberName,
+        member: &'a [u8],
+        value: &'a [u8],
+    ) -> Option<()> {
         match name {
             MemberName::Bbox => self.bbox = self.bbox.saturating_add(1),
             MemberName::Crs => {
@@ -213,8 +233,12 @@ impl<'a> Unread<'a> {
                     self.layer_crs = Some(value);
                 }
             }
-            _ => self.others = self.others.saturating_add(1),
+            _ => {
+                self.others = self.others.saturating_add(1);
+                self.names.add(spelled_name(alloc, member)?);
+            }
         }
+        Some(())
     }
 
     /// With what was counted in a value.
@@ -222,12 +246,14 @@ impl<'a> Unread<'a> {
         self.bbox = self.bbox.saturating_add(counted.bbox);
         self.crs = self.crs.saturating_add(counted.crs);
         self.others = self.others.saturating_add(counted.others);
+        self.names.add_all(&counted.names);
     }
 
     /// With so many members of this name of a geometry of this type, if they aren't read.
     fn add_unread(&mut self, of_type: Option<GeoJsonType>, name: MemberName, count: u64) {
-        if matches!(self.geometry_member(of_type, name), Member::Unread) {
+        if count > 0 && matches!(self.geometry_member(of_type, name), Member::Unread) {
             self.others = self.others.saturating_add(count);
+            self.names.add(early_name(name));
         }
     }
 
@@ -343,7 +369,7 @@ impl<'a> Unread<'a> {
                 early.count(name);
                 early.within.pass_early(alloc, depth_left, name, value)?
             } else {
-                self.pass_member(alloc, part, of_type, depth_left, name, value)?
+                self.pass_member(alloc, part, of_type, depth_left, name, rest, value)?
             };
             match next_member(after) {
                 Some(more) => rest = more,
@@ -356,7 +382,7 @@ impl<'a> Unread<'a> {
         None
     }
 
-    /// What follows the member of this name of such a part, whose own type is this, if it has one.
+    /// What follows the member at the front, of this name and of such a part, whose own type is this, if it has one.
     #[cycle(passing)]
     #[inline(always)]
     fn pass_member(
@@ -366,11 +392,12 @@ impl<'a> Unread<'a> {
         of_type: Option<GeoJsonType>,
         depth_left: u32,
         name: MemberName,
+        member: &'a [u8],
         value: &'a [u8],
     ) -> Option<&'a [u8]> {
         match self.member(part, of_type, name) {
             Member::Holds(held) => return self.pass(alloc, held, depth_left, value),
-            Member::Unread => self.count(part, name, value),
+            Member::Unread => self.count(alloc, part, name, member, value)?,
             Member::Read => {}
         }
         rest_after(alloc, value)

@@ -1,7 +1,7 @@
 // What is in a topology.
 use crate::brief::OBJECT_BEGINNING;
 use crate::building::decimal_of_units;
-use crate::owners::{count_owners, owners_of};
+use crate::owners::{OwnerCounts, count_owners, owners_of};
 use geojson_types::{Geometry, Position};
 use reports::{decoded_positions, features_in};
 use std::alloc::{AllocError, Global};
@@ -43,6 +43,37 @@ fn type_counts(features: &[TopoFeature]) -> [u64; 8] {
         }
     }
     counts
+}
+
+/// How many features are Polygons or MultiPolygons.
+fn count_polygons(topology: &Topology) -> u64 {
+    let mut polygons: u64 = 0;
+    for object in topology.objects() {
+        let counts = type_counts(features_in(&object.1));
+        polygons = polygons.saturating_add(counts[4]).saturating_add(counts[5]);
+    }
+    polygons
+}
+
+/// The line for polygons, two or more, where no arc is one of two features.
+fn unshared_text(
+    alloc: Global,
+    topology: &Topology,
+    counts: OwnerCounts,
+) -> Result<String, AllocError> {
+    let polygons = count_polygons(topology);
+    if polygons < 2 || counts.several > 0 {
+        return Ok(String::new(alloc));
+    }
+    format!(in alloc;
+        "  none of {polygons} polygons shares an arc with another: if they have borders in common, decode the objects by mapchain geo and build them again\n"
+    )
+}
+
+/// The line for polygons that share no arc, as they may in the file of another program.
+pub(crate) fn unshared_line(alloc: Global, topology: &Topology) -> Result<String, AllocError> {
+    let owners = owners_of(alloc, topology)?;
+    unshared_text(alloc, topology, count_owners(owners.as_slice()))
 }
 
 /// Of how many features of which type an object is made, as in `: Polygon 3, null 1`.
@@ -101,8 +132,8 @@ pub(crate) fn step_line(alloc: Global, transform: &Transform) -> Result<String, 
     format!(in alloc; "  a step of the grid is {across} by {up}\n")
 }
 
-/// The line for the arcs, by how many features use them.
-fn arcs_line(alloc: Global, topology: &Topology) -> Result<String, AllocError> {
+/// The lines for the arcs, by how many features use them.
+fn arcs_lines(alloc: Global, topology: &Topology) -> Result<String, AllocError> {
     if topology.arcs().is_empty() {
         return Ok(String::new(alloc));
     }
@@ -111,7 +142,10 @@ fn arcs_line(alloc: Global, topology: &Topology) -> Result<String, AllocError> {
     let several = counts.several;
     let one = counts.one;
     let none = counts.none;
-    format!(in alloc; "  arcs of two features or more {several}, of one {one}, of none {none}\n")
+    let unshared = unshared_text(alloc, topology, counts)?;
+    format!(in alloc;
+        "  arcs of two features or more {several}, of one {one}, of none {none}\n{unshared}"
+    )
 }
 
 /// What is in a topology: the types of each object's features, their positions, and the properties of its first feature that has any, of which
@@ -133,6 +167,6 @@ pub(crate) fn topology_lines(
     if let Some(transform) = topology.transform() {
         lines.push_str(step_line(alloc, transform)?.as_str())?;
     }
-    lines.push_str(arcs_line(alloc, topology)?.as_str())?;
+    lines.push_str(arcs_lines(alloc, topology)?.as_str())?;
     Ok(lines)
 }

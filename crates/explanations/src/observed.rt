@@ -1,5 +1,5 @@
 // What was seen of a run.
-use crate::contents::{step_line, topology_lines};
+use crate::contents::{step_line, topology_lines, unshared_line};
 use crate::crossed::{MOST_ASKED, crossing_lines};
 use crate::inputs_read::InputLines;
 use crate::losses::{DropsLeft, add_losses, bare_line};
@@ -81,7 +81,7 @@ impl Seen {
         Ok(())
     }
 
-    /// Adds the features of each object that are lost, and then what is said of the file.
+    /// Adds the features of each object that are lost, then what is said of the file, and whether polygons share no arc.
     fn add_simplified(
         &mut self,
         alloc: Global,
@@ -95,7 +95,9 @@ impl Seen {
             let lines = &mut self.lines;
             add_losses(alloc, lines, place.as_str(), number, &object.1, &mut drops)?;
         }
-        self.inputs.add_to(&mut self.lines)
+        self.inputs.add_to(&mut self.lines)?;
+        self.lines
+            .push_str(unshared_line(alloc, topology)?.as_str())
     }
 
     /// Adds what is said of the file of a topology, or what is needed of it where that is counted.

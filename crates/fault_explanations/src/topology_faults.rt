@@ -119,6 +119,16 @@ fn inner_words(fault: TopoFault) -> &'static str {
     }
 }
 
+/// The line for what is to be done about arcs that don't meet, in the file of another program.
+fn way_out(fault: TopoFault) -> &'static str {
+    match fault {
+        TopoFault::Unjoined | TopoFault::OpenRing => {
+            "  if another program made the file, build it again of its layers, or of what topojson-client decodes, with rings closed\n"
+        }
+        _ => "",
+    }
+}
+
 /// The fault of a layer that is of the same name, of those that a value's kind alone shows.
 fn kind_of(fault: TopoFault) -> Option<GeoFaultKind> {
     match fault {
@@ -199,7 +209,8 @@ fn found_line(alloc: Global, topology: &Json, found: &Found) -> Result<String, A
         Site::Repeated(_) => "an object before it has the same name",
         _ => inner_words(found.fault),
     };
-    format!(in alloc; "  {site}: {words}\n")
+    let way_out = way_out(found.fault);
+    format!(in alloc; "  {site}: {words}\n{way_out}")
 }
 
 /// The line for a value that is no object.

@@ -8,6 +8,12 @@ fn is_digits(text: &str) -> bool {
     !text.is_empty() && text.bytes().all(|byte| byte.is_ascii_digit())
 }
 
+/// Whether a comma between these stands for a point, and for no thousands.
+fn is_decimal(whole: &str, part: &str) -> bool {
+    let is_front = whole == "0" || (part.len() != 3 && !whole.starts_with("0"));
+    is_front && is_digits(whole) && is_digits(part)
+}
+
 /// How an area is written, where the text can be mended.
 fn area_as_number(alloc: Global, text: &str) -> Result<String, AllocError> {
     if let Some(rest) = text.strip_prefix(".") {
@@ -20,7 +26,12 @@ fn area_as_number(alloc: Global, text: &str) -> Result<String, AllocError> {
             return format!(in alloc; "  for {text} write {prefix}\n");
         }
     }
-    Ok(String::new(alloc))
+    match text.split_once(",") {
+        Some((whole, part)) if is_decimal(whole, part) => {
+            format!(in alloc; "  for {text} write {whole}.{part}\n")
+        }
+        _ => Ok(String::new(alloc)),
+    }
 }
 
 /// Why the text of an area is none. `option` is the word of the command line that it belongs to.
@@ -56,7 +67,10 @@ fn power_of_ten(exponent: usize) -> u64 {
 
 /// The two numbers of the share that a decimal or so many hundredths stand for, with so many decimal places to add.
 fn share_of(alloc: Global, decimal: &str, places: usize) -> Result<Option<(u64, u64)>, AllocError> {
-    let (whole, part) = decimal.split_once(".").unwrap_or((decimal, ""));
+    let (whole, part) = match decimal.split_once(".") {
+        Some(parts) => parts,
+        None => decimal.split_once(",").unwrap_or((decimal, "")),
+    };
     let digits = format!(in alloc; "{whole}{part}")?;
     let places = part.len().saturating_add(places);
     if places == 0 || places > 9 || !is_digits(digits.as_str()) {
@@ -69,14 +83,17 @@ fn share_of(alloc: Global, decimal: &str, places: usize) -> Result<Option<(u64, 
     }
 }
 
-/// How a share is written as a fraction that stands as a decimal or as hundredths.
+/// How a share is written as a fraction that stands as a decimal or as hundredths, which a whole number may be, too.
 fn share_as_fraction(alloc: Global, text: &str) -> Result<String, AllocError> {
     let share = match text.strip_suffix("%") {
         Some(hundredths) => share_of(alloc, hundredths, 2)?,
         None => share_of(alloc, text, 0)?,
     };
-    match share {
-        Some((some, all)) => format!(in alloc; "  for {text} write {some}/{all}\n"),
+    if let Some((some, all)) = share {
+        return format!(in alloc; "  for {text} write {some}/{all}\n");
+    }
+    match share_of(alloc, text, 2)? {
+        Some((some, all)) => format!(in alloc; "  for {text} % write {some}/{all}\n"),
         None => Ok(String::new(alloc)),
     }
 }

@@ -90,8 +90,8 @@ fn enclosed(bounds: Bounds) -> u128 {
     u128::from(width).saturating_mul(u128::from(height))
 }
 
-/// The lines for an area that was asked for and by which positions were removed, where `threshold` is twice its number of attos: that none is
-/// left between the ends of arcs, and that the area is over what the bounds of the layers enclose, if these are known.
+/// The lines for an area that was asked for, where positions were removed, or lines and rings dropped, and `threshold` is twice its number of
+/// attos: that no position is left between the ends of arcs, and that the area is over what the bounds of the layers enclose, if these are known.
 fn area_lines(
     alloc: Global,
     report: &Report,
@@ -99,10 +99,11 @@ fn area_lines(
     bounds: Option<Bounds>,
 ) -> Result<String, AllocError> {
     let mut lines = String::new(alloc);
-    if report.removed == 0 || report.chosen.is_some() {
+    let is_whole = report.removed == 0 && report.dropped.is_empty();
+    if is_whole || report.chosen.is_some() {
         return Ok(lines);
     }
-    if kept_between(report) == 0 {
+    if report.removed > 0 && kept_between(report) == 0 {
         lines.push_str(
             "  all points between the ends of arcs are gone: a smaller area may leave some\n",
         )?;

@@ -29,7 +29,7 @@ COUNTS = ROOT / "scripts" / "commands.txt"
 
 
 # What lines of a kind have in common, of which there may be many: how they end, or begin, without their indent.
-ENDINGS = (": nothing of its geometry is left", " left out", ", which may not be degrees", ", as GeoJSON has the longitude first")
+ENDINGS = (": nothing of its geometry is left", " no geometry", " left out", ", which may not be degrees", ", as GeoJSON has the longitude first")
 BEGINNING = "object "
 # So many lines of a kind stand beside each other at most.
 MOST_LINES = 10

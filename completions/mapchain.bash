@@ -38,6 +38,18 @@ _mapchain_layer_files() {
     if [ ${#COMPREPLY[@]} = 1 ] && [[ ${COMPREPLY[0]} == */ ]]; then compopt -o nospace; fi
 }
 
+# The objects of the topologies among all words, as `stat` names them, but for names that JSON escapes.
+_mapchain_objects() {
+    local file name
+    for file in "${COMP_WORDS[@]:2}"; do
+        if [ ! -f "$file" ]; then continue; fi
+        while IFS= read -r name; do
+            printf -v name %q "$name"
+            if [[ $name == "$1"* ]]; then COMPREPLY+=("$name"); fi
+        done < <("${COMP_WORDS[0]}" stat -- "$file" 2>/dev/null | sed -n 's/^"\([^\\]*\)" [0-9]*$/\1/p')
+    done
+}
+
 _mapchain_words() {
     mapfile -t COMPREPLY < <(compgen -W "$2" -- "$1")
 }
@@ -63,7 +75,8 @@ _mapchain() {
     fi
     case $before in
         --output | --report | -o) _mapchain_files "$word"; return ;;
-        --grid | --keep | --max-positions | --min-area | --min-ring-area | --object) return ;;
+        --object) _mapchain_objects "$word"; return ;;
+        --grid | --keep | --max-positions | --min-area | --min-ring-area) return ;;
     esac
     case $command in
         '') _mapchain_words "$word" 'build simplify geo stat help --help --version --explain' ;;

@@ -7,6 +7,16 @@ function __mapchain_layers
     end
 end
 
+# The objects of the topologies among all words, as `stat` names them, but for names that JSON escapes.
+function __mapchain_objects
+    set -l words (commandline -op)
+    for file in $words[2..]
+        if test -f $file
+            $words[1] stat -- $file 2>/dev/null | string replace -rf '^"([^\\\\]*)" \d+$' '$1'
+        end
+    end
+end
+
 complete -c mapchain -n __fish_use_subcommand -f
 complete -c mapchain -s h -l help -d 'Print help'
 complete -c mapchain -n __fish_use_subcommand -s V -l version -d 'Print the version'
@@ -15,6 +25,8 @@ complete -c mapchain -n __fish_use_subcommand -a build -d 'Build a topology from
 complete -c mapchain -n __fish_use_subcommand -a simplify -d 'Remove points from the lines of a topology'
 complete -c mapchain -n __fish_use_subcommand -a geo -d 'Decode an object of a topology to GeoJSON'
 complete -c mapchain -n __fish_use_subcommand -a stat -d 'Count what is in a topology'
+complete -c mapchain -n __fish_use_subcommand -a help -d 'Print the help of a command'
+complete -c mapchain -n '__fish_seen_subcommand_from help' -f -a 'build simplify geo stat'
 complete -c mapchain -n '__fish_seen_subcommand_from build' -l grid -x -d 'Snap positions to a grid with N cells along each axis'
 complete -c mapchain -n '__fish_seen_subcommand_from build' -l min-area -x -d 'Remove points whose triangle has less than the area A'
 complete -c mapchain -n '__fish_seen_subcommand_from build' -l keep -x -d 'Remove points, but keep at least the share P/Q of them'
@@ -36,7 +48,7 @@ complete -c mapchain -n '__fish_seen_subcommand_from simplify' -s o -l output -r
 complete -c mapchain -n '__fish_seen_subcommand_from simplify' -l report -r -F -d 'Write a report of the run to a file, as a JSON object'
 complete -c mapchain -n '__fish_seen_subcommand_from simplify' -l explain -d 'Explain in words what is wrong, or what was left out'
 complete -c mapchain -n '__fish_seen_subcommand_from simplify' -s q -l quiet -d 'Leave out the report, where all is done'
-complete -c mapchain -n '__fish_seen_subcommand_from geo' -l object -x -d 'The name of the object'
+complete -c mapchain -n '__fish_seen_subcommand_from geo' -l object -x -a '(__mapchain_objects)' -d 'The name of the object'
 complete -c mapchain -n '__fish_seen_subcommand_from geo' -l max-positions -x -d 'Refuse an object whose features have more than N positions'
 complete -c mapchain -n '__fish_seen_subcommand_from geo' -s o -l output -r -F -d 'Write the output to a file in place of standard output'
 complete -c mapchain -n '__fish_seen_subcommand_from geo' -l report -r -F -d 'Write a report of the run to a file, as a JSON object'

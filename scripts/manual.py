@@ -224,6 +224,18 @@ _mapchain_layer_files() {
     if [ ${#COMPREPLY[@]} = 1 ] && [[ ${COMPREPLY[0]} == */ ]]; then compopt -o nospace; fi
 }
 
+# The objects of the topologies among all words, as `stat` names them, but for names that JSON escapes.
+_mapchain_objects() {
+    local file name
+    for file in "${COMP_WORDS[@]:2}"; do
+        if [ ! -f "$file" ]; then continue; fi
+        while IFS= read -r name; do
+            printf -v name %q "$name"
+            if [[ $name == "$1"* ]]; then COMPREPLY+=("$name"); fi
+        done < <("${COMP_WORDS[0]}" stat -- "$file" 2>/dev/null | sed -n 's/^"\([^\\]*\)" [0-9]*$/\1/p')
+    done
+}
+
 _mapchain_words() {
     mapfile -t COMPREPLY < <(compgen -W "$2" -- "$1")
 }
@@ -249,6 +261,7 @@ _mapchain() {
     fi
     case $before in
         @FILES@) _mapchain_files "$word"; return ;;
+        --object) _mapchain_objects "$word"; return ;;
         @VALUED@) return ;;
     esac
     case $command in
@@ -282,7 +295,7 @@ BASH_LAYERS = """                *)
 
 def bash(program):
     options = [option for each in program.commands for option in program.options(each)]
-    valued = sorted({f"--{name}" for _, name, value, _ in options if value and value != "FILE"})
+    valued = sorted({f"--{name}" for _, name, value, _ in options if value and value != "FILE" and name != "object"})
     files = sorted({word for option in options if option[2] == "FILE" for word in spellings(option)})
     cases = []
     for command in program.commands:
@@ -317,10 +330,22 @@ _mapchain_layer() {
     compadd -a layers || _message 'NAME=PATH'
 }
 
+# The objects of the topologies among all words, as `stat` names them, but for names that JSON escapes.
+_mapchain_objects() {
+    local file
+    local -a objects
+    for file in ${(Q)words}; do
+        if [[ ! -f $file ]]; then continue; fi
+        objects+=(${(f)"$($program stat -- $file 2>/dev/null | sed -n 's/^"\([^\\]*\)" [0-9]*$/\1/p')"})
+    done
+    compadd -a objects || _message NAME
+}
+
 _mapchain() {
-    local state line
+    local state line program=${(Q)words[1]}
     local -a commands=(
 @COMMANDS@
+        'help:Print the help of a command'
     )
     _arguments -C '(- *)'{-h,--help}'[print help]' '(- *)'{-V,--version}'[print the version]' '--explain[@EXPLAIN@]' '1: :->command' '*:: :->words'
     case $state in
@@ -328,6 +353,7 @@ _mapchain() {
         words)
             case $line[1] in
 @CASES@
+                help) _describe command commands ;;
             esac ;;
     esac
 }
@@ -346,7 +372,7 @@ def zsh(program):
     for command in program.commands:
         words = ["'(- *)'{-h,--help}'[print help]'"]
         for letter, name, value, about in program.options(command):
-            text, files = zsh_text(about), "_files" if value == "FILE" else " "
+            text, files = zsh_text(about), "_files" if value == "FILE" else "_mapchain_objects" if name == "object" else " "
             if letter and value:
                 words.append(f"'(-{letter} --{name})'{{-{letter}+,--{name}=}}'[{text}]:{value}:{files}'")
             elif letter:
@@ -369,6 +395,16 @@ function __mapchain_layers
     end
 end
 
+# The objects of the topologies among all words, as `stat` names them, but for names that JSON escapes.
+function __mapchain_objects
+    set -l words (commandline -op)
+    for file in $words[2..]
+        if test -f $file
+            $words[1] stat -- $file 2>/dev/null | string replace -rf '^"([^\\\\]*)" \d+$' '$1'
+        end
+    end
+end
+
 complete -c mapchain -n __fish_use_subcommand -f
 complete -c mapchain -s h -l help -d 'Print help'
 complete -c mapchain -n __fish_use_subcommand -s V -l version -d 'Print the version'
@@ -384,10 +420,13 @@ def fish(program):
     lines = [FISH.rstrip("\n").replace("@EXPLAIN@", fish_text(program.explain()))]
     for name in program.commands:
         lines.append(f"complete -c mapchain -n __fish_use_subcommand -a {name} -d '{fish_text(program.about[name])}'")
+    lines.append("complete -c mapchain -n __fish_use_subcommand -a help -d 'Print the help of a command'")
+    lines.append(f"complete -c mapchain -n '__fish_seen_subcommand_from help' -f -a '{' '.join(program.commands)}'")
     for command in program.commands:
         seen = f"'__fish_seen_subcommand_from {command}'"
         for letter, name, value, about in program.options(command):
             takes = " -r -F" if value == "FILE" else " -x" if value else ""
+            takes += " -a '(__mapchain_objects)'" if name == "object" else ""
             short = f" -s {letter}" if letter else ""
             lines.append(f"complete -c mapchain -n {seen}{short} -l {name}{takes} -d '{fish_text(about)}'")
         if any("=" in name for name in program.arguments(command)):

@@ -10,6 +10,7 @@ each part. The gate runs it, and it takes some seconds.
 """
 import contextlib
 import os
+import shlex
 import shutil
 import stat
 import subprocess
@@ -255,19 +256,29 @@ TYPED = (
     ("simplify sp", SPACED),
     ('simplify "c', CONTROL),
     ("geo --object a sp", SPACED),
+    ("geo one.json --object ob", "objects of one"),
+    ("geo one.json --object \\$", "$(touch ran)"),
+    ("geo one.json --object tw", "tw"),
     ("stat q", 'quoted "$(touch ran)".json'),
     ("simplify --no-c", "--no-crossings"),
     ("sta", "stat"),
 )
 # Where = parts words, an option's file is completed behind it.
-TYPED_PARTED = (("build --output=sp", f"--output={SPACED}"), ("stat --report=o", "--report=one.json"))
+TYPED_PARTED = (
+    ("build --output=sp", f"--output={SPACED}"),
+    ("stat --report=o", "--report=one.json"),
+    ("geo one.json --object=ob", "--object=objects of one"),
+)
+# What the stand-in's `stat` says of each file: an object's name may be a command, or have a mark that JSON escapes.
+COUNTED = ("objects 3", '"objects of one" 3', '"$(touch ran)" 1', '"two\\u0007" 1', "arcs 2")
 
 
 def completed(folder, setting, typed):
     """The last word that a stand-in for the program gets of each line, when what is typed of it is completed by an interactive bash."""
     lines = [
         f"source '{ROOT}/completions/mapchain.bash'",
-        "mapchain() { printf '%s\\0' \"${@: -1}\" >>words; }",
+        f"counted=({' '.join(shlex.quote(line) for line in COUNTED)})",
+        "mapchain() { if [ \"$2\" = -- ]; then printf '%s\\n' \"${counted[@]}\"; else printf '%s\\0' \"${@: -1}\" >>words; fi; }",
         setting,
         *(f"mapchain {line}\t" for line in typed),
     ]
@@ -299,7 +310,7 @@ PARTS = (
     (try_programs, 7),
     (try_installer, 24),
     (try_refused_prefixes, 12),
-    (try_completion, 82),
+    (try_completion, 89),
 )
 
 
